@@ -1,0 +1,6 @@
+pub mod Tables
+pub mod Each
+pub mod Store
+pub mod Ring
+pub mod Slots
+pub mod Grow
