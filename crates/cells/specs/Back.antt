@@ -1,15 +1,13 @@
 -- What was read is put back: bytes below 256 are the bytes of the numbers that they stand for.
-use Prim.Native.Nat.{ℕ, zero, suc, _+_, _*_, _/_, _%_, _-_, _≤_, _<_}
+use Prim.Native.Nat.{ℕ, zero, suc, _+_, _-_, _≤_, _<_}
 use mathlib.Core.Bool.{Bool, true, false}
 use mathlib.Core.List.{List, [], _∷_, _++_}
 use mathlib.Core.Path.{_≡_, refl, ap, ap₂, sym, _∙_}
 use native.Mathlib.Omega.{arith}
-use native.Mathlib.Nat.{add-assoc}
-use native.Mathlib.Numerals.{add-one}
-use lib.Dec.{T, eqb, leb}
-use lib.ListN.{length, take, drop, getD, length-drop}
+use lib.Dec.{T}
+use lib.ListN.{length, take, drop, getD}
 use lib.Seq.{drop-cons, drop-drop, take-add, getD-drop}
-use Rattle.cells.specs.Numbers.{le, leOf, bytesLe, le-suc, le-1}
+use Rattle.cells.specs.Numbers.{le, bytesLe, le-suc, le-1}
 use Rattle.cells.specs.Records.{sum, encFields, decFields, Wide, ofBool, toBool}
 
 abbrev pub Bytes : List ℕ → Type 0

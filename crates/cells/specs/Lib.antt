@@ -1,5 +1,6 @@
 pub mod Pick
 pub mod Numbers
+pub mod BigEndian
 pub mod Records
 pub mod Back
 pub mod Writes

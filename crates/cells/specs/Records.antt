@@ -1,14 +1,14 @@
 -- Records of numbers, laid out one after the other, over the list of the fields' widths.
-use Prim.Native.Nat.{ℕ, zero, suc, _+_, _*_, _-_, _≤_, _<_}
+use Prim.Native.Nat.{ℕ, zero, suc, _+_, _-_, _≤_, _<_}
 use mathlib.Core.Bool.{Bool, true, false, not}
 use mathlib.Core.List.{List, [], _∷_, _++_, append-assoc}
 use mathlib.Core.Path.{_≡_, refl, ap, ap₂, sym, _∙_}
 use native.Mathlib.Omega.{arith}
-use native.Mathlib.Nat.{add-zero, zero-add, add-assoc}
+use native.Mathlib.Nat.{add-zero, add-assoc}
 use lib.Dec.{T, eqb}
 use lib.ListN.{length, take, drop, length-append, getD, set}
-use lib.Seq.{sets, sets-eq, length-take-le, drop-at, take-append-seam, take-at}
-use Rattle.cells.specs.Numbers.{le, leOf, put, bytesLe, length-bytesLe, leOf-bytesLe, sets-append, le-drop, le-take, le-put-same, le-put-before, le-put-after}
+use lib.Seq.{sets, drop-at, take-at}
+use Rattle.cells.specs.Numbers.{le, put, bytesLe, length-bytesLe, leOf-bytesLe, sets-append, le-drop, le-take, le-put-same, le-put-before, le-put-after}
 
 unfoldable pub sum : List ℕ → ℕ
 sum [] = 0

@@ -4,6 +4,7 @@ ghost use Prim.Native.Nat.{ℕ, _+_, _≤_, _<_, _*_};
 ghost use lib.ListN.{length, drop};
 ghost use lib.Seq.{paste, sets};
 ghost use Rattle.cells.specs.Numbers.{le, put};
+ghost use Rattle.cells.specs.BigEndian.{be, putBe};
 ghost use Rattle.cells.specs.Records.{toBool, ofBool};
 
 fn u16_of(b0: u8, b1: u8) -> u16
@@ -105,6 +106,70 @@ pub fn put_u64(s: &mut [u8], at: usize, v: u64)
     s[at + 5] = (v / 256 / 256 / 256 / 256 / 256 % 256) as u8;
     s[at + 6] = (v / 256 / 256 / 256 / 256 / 256 / 256 % 256) as u8;
     s[at + 7] = (v / 256 / 256 / 256 / 256 / 256 / 256 / 256) as u8;
+}
+
+// ---- the same, most significant byte first
+
+pub fn be16_at(s: &[u8], at: usize) -> u16
+    requires { ⌜ at + 2 ≤ length (now s) ⌝ }
+    ensures { λ r. ⌜ r ≡ be 2 (now (s .entry)) at ⌝ }
+{
+    u16_of(s[at + 1], s[at])
+}
+
+pub fn be32_at(s: &[u8], at: usize) -> u32
+    requires { ⌜ at + 4 ≤ length (now s) ⌝ }
+    ensures { λ r. ⌜ r ≡ be 4 (now (s .entry)) at ⌝ }
+{
+    u32_of(s[at + 3], s[at + 2], s[at + 1], s[at])
+}
+
+pub fn be64_at(s: &[u8], at: usize) -> u64
+    requires { ⌜ at + 8 ≤ length (now s) ⌝ }
+    ensures { λ r. ⌜ r ≡ be 8 (now (s .entry)) at ⌝ }
+{
+    u64_of(
+        s[at + 7],
+        s[at + 6],
+        s[at + 5],
+        s[at + 4],
+        s[at + 3],
+        s[at + 2],
+        s[at + 1],
+        s[at],
+    )
+}
+
+pub fn put_be16(s: &mut [u8], at: usize, v: u16)
+    requires { ⌜ at + 2 ≤ length (now s) ⌝ }
+    ensures { λ _. ⌜ now (s .exit) ≡ putBe 2 (now (s .entry)) at v ⌝ }
+{
+    s[at] = (v / 256) as u8;
+    s[at + 1] = (v % 256) as u8;
+}
+
+pub fn put_be32(s: &mut [u8], at: usize, v: u32)
+    requires { ⌜ at + 4 ≤ length (now s) ⌝ }
+    ensures { λ _. ⌜ now (s .exit) ≡ putBe 4 (now (s .entry)) at v ⌝ }
+{
+    s[at] = (v / 256 / 256 / 256) as u8;
+    s[at + 1] = (v / 256 / 256 % 256) as u8;
+    s[at + 2] = (v / 256 % 256) as u8;
+    s[at + 3] = (v % 256) as u8;
+}
+
+pub fn put_be64(s: &mut [u8], at: usize, v: u64)
+    requires { ⌜ at + 8 ≤ length (now s) ⌝ }
+    ensures { λ _. ⌜ now (s .exit) ≡ putBe 8 (now (s .entry)) at v ⌝ }
+{
+    s[at] = (v / 256 / 256 / 256 / 256 / 256 / 256 / 256) as u8;
+    s[at + 1] = (v / 256 / 256 / 256 / 256 / 256 / 256 % 256) as u8;
+    s[at + 2] = (v / 256 / 256 / 256 / 256 / 256 % 256) as u8;
+    s[at + 3] = (v / 256 / 256 / 256 / 256 % 256) as u8;
+    s[at + 4] = (v / 256 / 256 / 256 % 256) as u8;
+    s[at + 5] = (v / 256 / 256 % 256) as u8;
+    s[at + 6] = (v / 256 % 256) as u8;
+    s[at + 7] = (v % 256) as u8;
 }
 
 pub fn bool_at(s: &[u8], at: usize) -> bool

@@ -1,12 +1,11 @@
 -- One row more, and one row less: what code does to the bytes is the store of the longer or the shorter list.
 use Prim.Native.Nat.{ℕ, zero, suc, _+_, _*_, _-_, _≤_, _<_}
-use mathlib.Core.Bool.{Bool, true, false}
 use mathlib.Core.List.{List, [], _∷_, _++_, append-assoc}
-use mathlib.Core.Path.{_≡_, refl, ap, ap₂, sym, _∙_}
+use mathlib.Core.Path.{_≡_, ap, ap₂, sym, _∙_}
 use native.Mathlib.Omega.{arith}
-use native.Mathlib.Nat.{add-zero, zero-mul, suc-mul, add-comm}
-use lib.ListN.{length, take, drop, set, getD, length-append, length-drop, replicate, length-replicate}
-use lib.Seq.{sets, sets-eq, drop-at, take-at, drop-drop, take-append-add, drop-append-add}
+use native.Mathlib.Nat.{zero-mul, suc-mul}
+use lib.ListN.{length, take, drop, length-drop, replicate, length-replicate}
+use lib.Seq.{sets, sets-eq, take-append-add, drop-append-add}
 use Rattle.cells.specs.Numbers.{sets-left}
 use Rattle.tables.specs.Tables.{without}
 use Rattle.tables.specs.Store.{storeRows, less, sets-right}

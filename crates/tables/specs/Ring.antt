@@ -1,15 +1,15 @@
 -- A ring of 1,024 records: the oldest at slot first, and each next one at the next slot, the slot after the last being the first.
-use Prim.Native.Nat.{ℕ, zero, suc, _+_, _*_, _/_, _%_, _-_, _≤_, _<_}
+use Prim.Native.Nat.{ℕ, zero, suc, _+_, _*_, _%_, _-_, _≤_, _<_}
 use mathlib.Core.Bool.{Bool, true, false}
 use mathlib.Core.List.{List, [], _∷_, _++_, append-assoc}
 use mathlib.Core.Path.{_≡_, refl, ap, ap₂, sym, _∙_}
 use native.Mathlib.Omega.{arith}
 use native.Mathlib.Nat.{mul-le-mul-right, suc-mul}
-use lib.ListN.{length, take, drop, set, getD, length-append, length-drop, length-set, take-append-drop}
-use lib.Seq.{sets, sets-eq, length-sets, set-comm, set-set, length-take-le, drop-drop, take-take}
+use lib.ListN.{length, take, drop, set, length-drop, take-append-drop}
+use lib.Seq.{sets, sets-eq, length-sets, set-comm, set-set, length-take-le, drop-drop}
 use lib.Dec.{ltb, eqb}
 use borrow.Author.Tests.{ltb-true, ltb-false, eqb-true, eqb-false}
-use Rattle.cells.specs.Numbers.{take-sets, drop-sets, drop-sets-add, slice-sets, drop-take}
+use Rattle.cells.specs.Numbers.{take-sets, drop-sets, slice-sets, drop-take}
 
 pub by-cases {ℓ} : {P : Type ℓ} (b : Bool) → (b ≡ true → P) → (b ≡ false → P) → P
 by-cases true t f = t refl

@@ -1,12 +1,10 @@
 -- Slots of 512 bytes, each with a list of bytes at its start. What stands behind it stays.
 use Prim.Native.Nat.{ℕ, zero, suc, _+_, _*_, _-_, _≤_, _<_}
-use mathlib.Core.Bool.{Bool, true, false}
 use mathlib.Core.List.{List, [], _∷_, _++_, append-assoc, append-nil}
 use mathlib.Core.Path.{_≡_, refl, ap, ap₂, sym, _∙_}
 use native.Mathlib.Omega.{arith}
-use native.Mathlib.Nat.{suc-mul, zero-mul, add-comm, min-eq-left}
-use lib.ListN.{length, take, drop, set, getD, length-append, length-drop, length-take, length-set, take-append-drop, drop-of-length-le}
-use lib.Seq.{sets, sets-eq, length-take-le, drop-at, take-at, drop-drop, take-take, length-sets, take-all, take-append-le}
+use lib.ListN.{length, take, drop, set, getD, length-append, length-drop, drop-of-length-le}
+use lib.Seq.{sets, sets-eq, length-take-le, drop-at, take-at, drop-drop}
 use lib.Dec.{T}
 use Rattle.cells.specs.Numbers.{sets-left, bytesLe, length-bytesLe}
 use Rattle.cells.specs.Records.{encFields, offset, Laid}

@@ -1,15 +1,13 @@
 -- A list of records written over the rows of a region. Bytes behind the rows stay, and rows that fell free are zero.
 use Prim.Native.Nat.{ℕ, zero, suc, _+_, _*_, _-_, _≤_, _<_}
-use mathlib.Core.Bool.{Bool, true, false, _&&_}
-use mathlib.Core.List.{List, [], _∷_, _++_, append-assoc}
+use mathlib.Core.List.{List, [], _∷_, _++_}
 use mathlib.Core.Path.{_≡_, refl, ap, ap₂, sym, _∙_}
 use native.Mathlib.Omega.{arith}
-use native.Mathlib.Nat.{add-zero, zero-add, add-assoc, suc-mul, zero-mul, add-comm, mul-le-mul-right, add-mul, suc-add, add-suc}
-use lib.ListN.{length, take, drop, set, getD, length-append, length-drop, length-take, replicate, length-replicate, take-append-drop, length-set}
-use lib.Seq.{sets, sets-eq, length-take-le, drop-at, take-at, drop-drop, take-take, length-sets}
+use native.Mathlib.Nat.{suc-mul, zero-mul, add-comm}
+use lib.ListN.{length, take, drop, set, getD, length-append, length-drop, replicate, length-replicate, take-append-drop}
+use lib.Seq.{sets, drop-at, take-at, drop-drop}
 use Rattle.cells.specs.Numbers.{sets-left, take-sets, drop-sets-add}
-use Rattle.tables.specs.Tables.{rows, row-at}
-use native.Mathlib.Numerals.{add-one}
+use Rattle.tables.specs.Tables.{rows}
 
 -- a run of stores in the second of two lists
 pub sets-right : (xs ys : List ℕ) (n : ℕ) → length xs ≡ n → (j : ℕ) (bs : List ℕ) → sets (xs ++ ys) (n + j) bs ≡ xs ++ sets ys j bs

@@ -3,9 +3,9 @@ use Prim.Native.Nat.{ℕ, zero, suc, _+_, _*_, _-_, _≤_, _<_}
 use mathlib.Core.List.{List, [], _∷_, _++_, append-assoc}
 use mathlib.Core.Path.{_≡_, refl, ap, ap₂, sym, _∙_}
 use native.Mathlib.Omega.{arith}
-use native.Mathlib.Nat.{add-zero, zero-add, add-assoc, suc-mul, zero-mul, add-comm, mul-le-mul-right, add-mul}
-use lib.ListN.{length, take, drop, set, getD, length-append, length-drop}
-use lib.Seq.{sets, sets-eq, length-take-le, drop-at, take-at, drop-drop, take-take, take-append-le, drop-append-le, length-sets, paste, length-paste, take-paste, drop-paste, take-append-add}
+use native.Mathlib.Nat.{zero-add, add-assoc, suc-mul, zero-mul, add-comm, mul-le-mul-right, add-mul}
+use lib.ListN.{length, take, drop, set, getD, length-drop}
+use lib.Seq.{sets, length-take-le, take-at, drop-drop, take-take, take-append-le, drop-append-le, length-sets, paste, length-paste, take-paste, drop-paste, take-append-add}
 use Rattle.cells.specs.Numbers.{le, put, take-sets, drop-sets, drop-sets-add, drop-take, slice-sets, le-same, le-put-same, drop-put, part-put, length-put, le-sets-before, le-put-after}
 use native.Mathlib.Numerals.{add-one}
 

@@ -1,9 +1,9 @@
 use lib.Seq.{take-all}
 use Rattle.cells.specs.Writes.{copied-more}
 use lib.Seq.{sets}
-use lib.ListN.{drop, take, length, getD, set, length-set}
-use Prim.Native.Nat.{ℕ, _≤_, _<_, _-_, _+_, _*_}
-use mathlib.Core.Path.{_≡_, refl, ap, sym, _∙_}
+use lib.ListN.{take, length, getD, length-set}
+use Prim.Native.Nat.{_≤_, _-_, _+_}
+use mathlib.Core.Path.{_≡_, refl, ap, _∙_}
 use native.Mathlib.Omega.{arith}
 use Rattle.cells.proofs.copy_in.Statement.{statement}
 use Rattle.cells.proofs.copy_in.Tie as tie

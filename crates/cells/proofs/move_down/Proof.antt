@@ -4,11 +4,8 @@ use native.Mathlib.Omega.{arith}
 use lib.ListN.{length, drop, length-set}
 use lib.Seq.{paste, paste-zero}
 use Rattle.cells.specs.Numbers.{moved-more}
-use borrow.Author.Needs.{needs}
 use Rattle.cells.proofs.move_down.Statement.{statement}
 use Rattle.cells.proofs.move_down.Tie as tie
-use Rattle.cells.proofs.move_down.Reads as reads
-use Rattle.cells.proofs.move_down.Lts as lts
 
 abbrev Inv-loop : tie.InvT-loop
 Inv-loop s₀ to from n k₀ s k = (k ≤ n) × (length s ≡ length s₀) × (s ≡ paste s₀ to (drop from s₀) k)
@@ -16,46 +13,36 @@ Inv-loop s₀ to from n k₀ s k = (k ≤ n) × (length s ≡ length s₀) × (s
 abbrev μ-loop : tie.MeasureT-loop
 μ-loop s₀ to from n k₀ s k = n - k
 
--- src/lib.rt:130:5
 loop-holds : tie.Need-loop-holds Inv-loop μ-loop
 loop-holds c = (omega arith, refl, paste-zero (c .args .s .now) (c .args .to) (drop (c .args .from) (c .args .s .now)))
 
--- src/lib.rt:131:23
 add-s : tie.Need-add-s Inv-loop μ-loop
 add-s c = omega arith
 
--- src/lib.rt:131:21
 slice-read-s : tie.Need-slice-read-s Inv-loop μ-loop
 slice-read-s c = omega arith
 
--- src/lib.rt:131:11
 add-s-2 : tie.Need-add-s-2 Inv-loop μ-loop
 add-s-2 c = omega arith
 
--- src/lib.rt:131:9
 slice-write-s : tie.Need-slice-write-s Inv-loop μ-loop
 slice-write-s c = omega arith
 
--- src/lib.rt:132:9
 add-k : tie.Need-add-k Inv-loop μ-loop
 add-k c = omega arith
 
--- src/lib.rt:130:5
 loop-less : tie.Need-loop-less Inv-loop μ-loop
 loop-less c = omega arith
 
--- src/lib.rt:130:5
 loop-again : tie.Need-loop-again Inv-loop μ-loop
 loop-again c =
     let a = c .before .before .before .args in
     let w = c .before .before .loop in
     (omega arith, simp length-set (w .inv .1), moved-more (a .s .now) (w .s) (a .to) (a .from) (w .k) (w .inv .2) (omega arith) (omega arith))
 
--- src/lib.rt:125:1
 same-length : tie.Need-same-length Inv-loop μ-loop
 same-length c = c .before .loop .inv .1
 
--- src/lib.rt:125:1
 returns : tie.Need-returns Inv-loop μ-loop
 returns c =
     let a = c .before .before .args in

@@ -1,0 +1,30 @@
+use native.Mathlib.Omega.{arith}
+use Rattle.cells.specs.BigEndian.{be-2}
+use borrow.Author.Needs.{needs}
+use Rattle.cells.proofs.be16_at.Statement.{statement}
+use Rattle.cells.proofs.be16_at.Tie as tie
+
+add-u16-of : tie.Need-add-u16-of
+add-u16-of c = search needs
+
+shared-slice-read-u16-of : tie.Need-shared-slice-read-u16-of
+shared-slice-read-u16-of c = search needs
+
+shared-slice-read-u16-of-2 : tie.Need-shared-slice-read-u16-of-2
+shared-slice-read-u16-of-2 c = search needs
+
+u16-of-requires : tie.Need-u16-of-requires
+u16-of-requires c κs = search needs
+
+returns : tie.Need-returns
+returns c = rw be-2 (omega arith)
+
+pub be16-at-spec : {M : Type 1} → statement M
+be16-at-spec =
+    tie.close
+    (tie.spec
+    add-u16-of
+    shared-slice-read-u16-of
+    shared-slice-read-u16-of-2
+    u16-of-requires
+    returns)

@@ -1,0 +1,46 @@
+use native.Mathlib.Omega.{arith}
+use Rattle.cells.specs.BigEndian.{be-4}
+use borrow.Author.Needs.{needs}
+use Rattle.cells.proofs.be32_at.Statement.{statement}
+use Rattle.cells.proofs.be32_at.Tie as tie
+
+add-u32-of : tie.Need-add-u32-of
+add-u32-of c = search needs
+
+shared-slice-read-u32-of : tie.Need-shared-slice-read-u32-of
+shared-slice-read-u32-of c = search needs
+
+add-u32-of-2 : tie.Need-add-u32-of-2
+add-u32-of-2 c = search needs
+
+shared-slice-read-u32-of-2 : tie.Need-shared-slice-read-u32-of-2
+shared-slice-read-u32-of-2 c = search needs
+
+add-u32-of-3 : tie.Need-add-u32-of-3
+add-u32-of-3 c = search needs
+
+shared-slice-read-u32-of-3 : tie.Need-shared-slice-read-u32-of-3
+shared-slice-read-u32-of-3 c = search needs
+
+shared-slice-read-u32-of-4 : tie.Need-shared-slice-read-u32-of-4
+shared-slice-read-u32-of-4 c = search needs
+
+u32-of-requires : tie.Need-u32-of-requires
+u32-of-requires c κs = search needs
+
+returns : tie.Need-returns
+returns c = rw be-4 (omega arith)
+
+pub be32-at-spec : {M : Type 1} → statement M
+be32-at-spec =
+    tie.close
+    (tie.spec
+    add-u32-of
+    shared-slice-read-u32-of
+    add-u32-of-2
+    shared-slice-read-u32-of-2
+    add-u32-of-3
+    shared-slice-read-u32-of-3
+    shared-slice-read-u32-of-4
+    u32-of-requires
+    returns)
