@@ -1,3 +1,4 @@
+pub mod Regions
 pub mod Tables
 pub mod Each
 pub mod Store
