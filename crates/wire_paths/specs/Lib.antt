@@ -1,0 +1,5 @@
+pub mod Segments
+pub mod ConnectionPath
+pub mod Logical
+pub mod Adding
+pub mod PathLaws
