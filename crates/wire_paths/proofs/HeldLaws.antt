@@ -23,10 +23,10 @@ held-none s p e = record { done = []; passed = passed-none s; holds = e }
 module _ (s : List ℕ) (at : ℕ) (p : ConnectionPath) (h : Held s at p) where
   pub held-more : (q : ConnectionPath) (x : Seg) (next : ℕ) → Segment x next ≡ stepAt s at → q ≡ added p x → Held s next q
   held-more q x next f e =
-      record
-      { done = h .done ++ (x ∷ [])
-      ; passed = passed-more s at (h .done) (h .passed) x next f
-      ; holds = e ∙ ap (λ (z : ConnectionPath). added z x) (h .holds) ∙ sym (added-more (h .done) x)
+      record {
+        done = h .done ++ (x ∷ []);
+        passed = passed-more s at (h .done) (h .passed) x next f;
+        holds = e ∙ ap (λ (z : ConnectionPath). added z x) (h .holds) ∙ sym (added-more (h .done) x);
       }
 
   pub held-all : End ≡ stepAt s at → Parsed p ≡ pathOf s

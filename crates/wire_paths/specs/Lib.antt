@@ -4,3 +4,4 @@ pub mod Logical
 pub mod Adding
 pub mod PathLaws
 pub mod WalkLaws
+pub mod Examples

@@ -9,7 +9,8 @@ ghost use Rattle.wire_paths.specs.Logical.{named};
 ghost use mathlib.Core.List.{[]};
 ghost use Rattle.wire_paths.specs.ConnectionPath.{connectionPath, pathOf};
 ghost use Rattle.wire_paths.specs.Adding.{withNumber, added};
-use cells::{u16_at, u32_at};
+use cells::u16_at;
+use cells::u32_at;
 
 // An electronic key (format 4). The major revision carries the compatibility bit 0x80.
 pub struct Key {
