@@ -1,5 +1,5 @@
 -- One segment more: what the walk holds is what the definition reads of the segments passed.
-use Prim.Native.Nat.{ℕ, suc, _+_, _≤_, min}
+use Prim.Native.Nat.{ℕ, suc, _+_, _≤_, _<_, min}
 use mathlib.Core.Path.{_≡_, refl, sym, ap, _∙_}
 use mathlib.Core.Bool.{Bool, true, false}
 use mathlib.Core.List.{List, [], _∷_, _++_, append-nil, append-assoc}
@@ -106,3 +106,11 @@ module _ (l : List Seg) where
   added-more (Attribute v) = add-attribute l v
   added-more (Keyed k) = add-key l k
   added-more (Data start len) = add-data l start len
+
+-- from the third on, the count is 4
+pub count-stops : (n : ℕ) → 3 ≤ n → pick (ltb n 4) (n + 1) 4 ≡ 4
+count-stops n h = go (ltb n 4) (ltb→lt n 4)
+  where
+    go : (t : Bool) → (T t → n < 4) → pick t (n + 1) 4 ≡ 4
+    go true f = let g : n < 4 = f tt in omega arith
+    go false f = refl

@@ -3,3 +3,5 @@ pub mod ConnectionPath
 pub mod Logical
 pub mod Adding
 pub mod PathLaws
+pub mod WalkLaws
+pub mod Examples
