@@ -259,3 +259,43 @@ pub fn append_io(
     }
     encode_io(&mut out[at..], id, sequence, cip, bytes)
 }
+
+// A frame and a cursor in it: gives one item at a time.
+pub struct ItemReader<'a> {
+    pub frame: &'a [u8],
+    pub at: usize,
+    pub left: usize,
+}
+
+pub fn reader<'a>(frame: &'a [u8], c: Cursor) -> ItemReader<'a>
+    ensures { λ r. ⌜ (r .frame ≡ frame .entry) × (r .at ≡ c .at) × (r .left ≡ c .left) ⌝ }
+{
+    ItemReader {
+        frame,
+        at: c.at,
+        left: c.left,
+    }
+}
+
+pub fn next<'a>(r: ItemReader<'a>) -> Step
+    ensures { λ s. ⌜ s ≡ stepAt (now (r .entry .frame)) (r .entry .at) (r .entry .left) ⌝ }
+{
+    step_at(r.frame, r.at, r.left)
+}
+
+pub fn moved<'a>(r: ItemReader<'a>, c: Cursor) -> ItemReader<'a>
+    ensures { λ q. ⌜ (q .frame ≡ r .entry .frame) × (q .at ≡ c .at) × (q .left ≡ c .left) ⌝ }
+{
+    ItemReader {
+        frame: r.frame,
+        at: c.at,
+        left: c.left,
+    }
+}
+
+// What a reader over the frame gives at a cursor.
+fn read_at(frame: &[u8], c: Cursor) -> Step
+    ensures { λ r. ⌜ r ≡ stepAt (now (frame .entry)) (c .at) (c .left) ⌝ }
+{
+    next(reader(frame, c))
+}
