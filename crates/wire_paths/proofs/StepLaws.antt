@@ -163,23 +163,23 @@ module _ (s : List ℕ) (at : ℕ) (r : SegStep) where
   pub seg-point : 0x2C ≤ getD s at 0 → getD s at 0 ≤ 0x2E → r ≡ logicalAt s at Point → r ≡ segAt s at
   unfolding segAt
   seg-point l h e =
-      simp
-      ( outside 0x00 0x1F (getD s at 0) (omega arith)
-      , outside 0x20 0x22 (getD s at 0) (omega arith)
-      , outside 0x24 0x26 (getD s at 0) (omega arith)
-      , inside 0x2C 0x2E (getD s at 0) l h
+      simp (
+        outside 0x00 0x1F (getD s at 0) (omega arith),
+        outside 0x20 0x22 (getD s at 0) (omega arith),
+        outside 0x24 0x26 (getD s at 0) (omega arith),
+        inside 0x2C 0x2E (getD s at 0) l h,
       )
       e
 
   pub seg-attribute : 0x30 ≤ getD s at 0 → getD s at 0 ≤ 0x32 → r ≡ logicalAt s at Attribute → r ≡ segAt s at
   unfolding segAt
   seg-attribute l h e =
-      simp
-      ( outside 0x00 0x1F (getD s at 0) (omega arith)
-      , outside 0x20 0x22 (getD s at 0) (omega arith)
-      , outside 0x24 0x26 (getD s at 0) (omega arith)
-      , outside 0x2C 0x2E (getD s at 0) (omega arith)
-      , inside 0x30 0x32 (getD s at 0) l h
+      simp (
+        outside 0x00 0x1F (getD s at 0) (omega arith),
+        outside 0x20 0x22 (getD s at 0) (omega arith),
+        outside 0x24 0x26 (getD s at 0) (omega arith),
+        outside 0x2C 0x2E (getD s at 0) (omega arith),
+        inside 0x30 0x32 (getD s at 0) l h,
       )
       e
 
@@ -198,14 +198,14 @@ module _ (s : List ℕ) (at : ℕ) where
       → (getD s at 0 ≡ 0x34 → ⊥) → (getD s at 0 ≡ 0x80 → ⊥) → Broken at ≡ segAt s at
   unfolding segAt
   seg-gap l a b c d e f =
-      simp
-      ( outside 0x00 0x1F (getD s at 0) (omega arith)
-      , outside 0x20 0x22 (getD s at 0) a
-      , outside 0x24 0x26 (getD s at 0) b
-      , outside 0x2C 0x2E (getD s at 0) c
-      , outside 0x30 0x32 (getD s at 0) d
-      , ne-eqb _ _ e
-      , ne-eqb _ _ f
+      simp (
+        outside 0x00 0x1F (getD s at 0) (omega arith),
+        outside 0x20 0x22 (getD s at 0) a,
+        outside 0x24 0x26 (getD s at 0) b,
+        outside 0x2C 0x2E (getD s at 0) c,
+        outside 0x30 0x32 (getD s at 0) d,
+        ne-eqb _ _ e,
+        ne-eqb _ _ f,
       )
 
   -- ---- the reader

@@ -6,7 +6,8 @@ ghost use Prim.Native.Nat.{ℕ, _+_, _*_, _/_, _%_, _≤_, _<_};
 ghost use lib.ListN.{length, getD};
 ghost use Rattle.wire_paths.specs.Segments.{portOffset, linkOffset, linkSize, portOf, portAt, logicalAt, keyOf, keyAt, dataAt, segAt, stepAt};
 ghost use Rattle.wire_paths.specs.Logical.{named};
-use cells::{u16_at, u32_at};
+use cells::u16_at;
+use cells::u32_at;
 
 // An electronic key (format 4). The major revision carries the compatibility bit 0x80.
 pub struct Key {
