@@ -31,13 +31,16 @@ triadReplyWidths = triadWidths ++ (1 ∷ 1 ∷ [])
 abbrev pub triadReplyFields : Triad → List ℕ
 triadReplyFields triad = triadFields triad ++ (0 ∷ 0 ∷ [])
 
--- what a refused open is answered with: the triad, no path left over, a reserved byte
-unfoldable pub openRefusal : Triad → List ℕ
-openRefusal triad = encFields triadReplyWidths (triadReplyFields triad)
+unfoldable pub triadReply : Triad → List ℕ
+triadReply triad = encFields triadReplyWidths (triadReplyFields triad)
 
--- what a close is answered with: the triad, no application data, a reserved byte
-unfoldable pub closeReply : Triad → List ℕ
-closeReply triad = encFields triadReplyWidths (triadReplyFields triad)
+-- a refused open is answered with the triad, no words of path left, and a reserved byte
+abbrev pub openRefusal : Triad → List ℕ
+openRefusal triad = triadReply triad
+
+-- a close is answered with the triad, no words of application data, and a reserved byte
+abbrev pub closeReply : Triad → List ℕ
+closeReply triad = triadReply triad
 
 -- a byte with bit 7 set
 abbrev pub withBit7 : ℕ → ℕ

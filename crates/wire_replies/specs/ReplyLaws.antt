@@ -11,7 +11,7 @@ use Rattle.cells.specs.Records.{sum, encFields, decFields, Laid, length-encFiel
 use Rattle.ids.specs.declared.OtId.{OtId}
 use Rattle.ids.specs.declared.ToId.{ToId}
 use Rattle.ids.specs.declared.Triad.{Triad}
-use Rattle.wire_replies.specs.Replies.{openReply, openReplyWidths, openReplyFields, openRefusal, closeReply, triadReplyWidths, triadReplyFields, extended, replyHeadWidths, replyHeadFields, replyHead, shortString}
+use Rattle.wire_replies.specs.Replies.{openReply, openReplyWidths, openReplyFields, openRefusal, closeReply, triadReplyWidths, triadReplyFields, triadReply, extended, replyHeadWidths, replyHeadFields, replyHead, shortString}
 
 pub read-back : (ws vs : List ℕ) → T (Laid ws vs) → (out : List ℕ) → sum ws ≤ length out → decFields ws (sets out 0 (encFields ws vs)) 0 ≡ vs
 read-back ws vs t out h =
@@ -30,12 +30,11 @@ module _ (out : List ℕ) where
   open-reply-back otid toid triad otrpi torpi h = read-back openReplyWidths _ tt out h
 
   pub open-refusal-back : (triad : Triad) → 10 ≤ length out → decFields triadReplyWidths (sets out 0 (openRefusal triad)) 0 ≡ triadReplyFields triad
-  unfolding openRefusal sum
+  unfolding triadReply sum
   open-refusal-back triad h = read-back triadReplyWidths _ tt out h
 
   pub close-reply-back : (triad : Triad) → 10 ≤ length out → decFields triadReplyWidths (sets out 0 (closeReply triad)) 0 ≡ triadReplyFields triad
-  unfolding closeReply sum
-  close-reply-back triad h = read-back triadReplyWidths _ tt out h
+  close-reply-back triad h = open-refusal-back triad h
 
   pub reply-head-back : (service general words first second : ℕ) → sum (replyHeadWidths words first second) ≤ length out
       → decFields (replyHeadWidths words first second) (sets out 0 (replyHead service general words first second)) 0
@@ -51,12 +50,11 @@ unfolding openReply sum
 open-reply-long otid toid triad otrpi torpi = length-encFields openReplyWidths (openReplyFields otid toid triad otrpi torpi) tt
 
 pub open-refusal-long : (triad : Triad) → length (openRefusal triad) ≡ 10
-unfolding openRefusal sum
+unfolding triadReply sum
 open-refusal-long triad = length-encFields triadReplyWidths (triadReplyFields triad) tt
 
 pub close-reply-long : (triad : Triad) → length (closeReply triad) ≡ 10
-unfolding closeReply sum
-close-reply-long triad = length-encFields triadReplyWidths (triadReplyFields triad) tt
+close-reply-long triad = open-refusal-long triad
 
 words-sum : (ws : List ℕ) → sum (map (λ w. 2) ws) ≡ 2 * length ws
 unfolding sum

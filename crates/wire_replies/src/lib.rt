@@ -6,7 +6,7 @@ ghost use mathlib.Core.List.{[], _∷_};
 ghost use lib.ListN.{length};
 ghost use Rattle.cells.specs.Records.{putFields};
 ghost use Rattle.cells.specs.Writes.{written};
-ghost use Rattle.wire_replies.specs.Replies.{triadWidths, triadFields, withBit7, headWidths, headFields, openReply, openRefusal, closeReply, replyHead, shortString};
+ghost use Rattle.wire_replies.specs.Replies.{triadWidths, triadFields, withBit7, headWidths, headFields, openReply, triadReply, openRefusal, closeReply, replyHead, shortString};
 use cells::Written;
 use ids::OtId;
 use ids::ToId;
@@ -52,9 +52,8 @@ pub fn open_reply(
     Written::Bytes(26)
 }
 
-// The reply data of a refused open.
-pub fn open_refusal(out: &mut [u8], triad: Triad) -> Written
-    ensures { λ r. ⌜ (r, now (out .exit)) ≡ written (now (out .entry)) (openRefusal triad) ⌝ }
+fn triad_reply(out: &mut [u8], triad: Triad) -> Written
+    ensures { λ r. ⌜ (r, now (out .exit)) ≡ written (now (out .entry)) (triadReply triad) ⌝ }
 {
     if out.len() < 10 {
         return Written::NoRoom;
@@ -64,16 +63,18 @@ pub fn open_refusal(out: &mut [u8], triad: Triad) -> Written
     Written::Bytes(10)
 }
 
+// The reply data of a refused open.
+pub fn open_refusal(out: &mut [u8], triad: Triad) -> Written
+    ensures { λ r. ⌜ (r, now (out .exit)) ≡ written (now (out .entry)) (openRefusal triad) ⌝ }
+{
+    triad_reply(out, triad)
+}
+
 // The reply data of a close.
 pub fn close_reply(out: &mut [u8], triad: Triad) -> Written
     ensures { λ r. ⌜ (r, now (out .exit)) ≡ written (now (out .entry)) (closeReply triad) ⌝ }
 {
-    if out.len() < 10 {
-        return Written::NoRoom;
-    }
-    put_triad(out, 0, triad);
-    put_zeros(out, 8);
-    Written::Bytes(10)
+    triad_reply(out, triad)
 }
 
 fn reply_service(service: u8) -> u8

@@ -2,13 +2,13 @@ use mathlib.Core.Path.{refl}
 use native.Mathlib.Omega.{arith}
 use borrow.Author.Needs.{needs}
 use Rattle.wire_replies.proofs.WriteLaws.{none-put, all-put}
-use Rattle.wire_replies.specs.Replies.{openRefusal, triadReplyWidths, triadReplyFields}
+use Rattle.wire_replies.specs.Replies.{triadReply, triadReplyWidths, triadReplyFields}
 use Rattle.cells.specs.Records.{sum}
-use Rattle.wire_replies.proofs.open_refusal.Statement.{statement}
-use Rattle.wire_replies.proofs.open_refusal.Tie as tie
+use Rattle.wire_replies.proofs.triad_reply.Statement.{statement}
+use Rattle.wire_replies.proofs.triad_reply.Tie as tie
 
 returns : tie.Need-returns
-unfolding openRefusal sum
+unfolding triadReply sum
 returns c = none-put triadReplyWidths (triadReplyFields _) _ tt 10 refl (omega arith)
 
 put-triad-requires : tie.Need-put-triad-requires
@@ -21,9 +21,9 @@ same-length : tie.Need-same-length
 same-length c = search needs
 
 returns-2 : tie.Need-returns-2
-unfolding openRefusal sum
+unfolding triadReply sum
 returns-2 c = all-put triadReplyWidths (triadReplyFields _) _ tt 10 refl _ (omega arith) (cc)
 
-pub open-refusal-spec : {M : Type 1} → statement M
-open-refusal-spec =
+pub triad-reply-spec : {M : Type 1} → statement M
+triad-reply-spec =
     tie.close (tie.spec returns put-triad-requires put-zeros-requires same-length returns-2)
