@@ -1,6 +1,6 @@
 -- Frames and what they are: whole, cut short, with a spare byte, without a count, with too few items.
 use mathlib.Core.Path.{_≡_, refl}
-use mathlib.Core.List.{List, [], _∷_, map}
+use mathlib.Core.List.{[], _∷_, map}
 use Rattle.cells.specs.Numbers.{le, leOf}
 use Rattle.wire_items.specs.Items.{startOf, stepAt, itemsFrom, itemsOf}
 use Rattle.wire_items.specs.Frames.{otId, ioOf}

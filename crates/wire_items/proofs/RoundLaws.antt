@@ -1,5 +1,5 @@
 -- A frame that was written is read again.
-use Prim.Native.Nat.{ℕ, zero, suc, _+_, _-_, _<_, _≤_}
+use Prim.Native.Nat.{ℕ, _+_, _-_, _<_, _≤_}
 use mathlib.Core.Path.{_≡_, refl, sym, ap, ap₂, _∙_}
 use mathlib.Core.List.{List, [], _∷_, _++_, append-assoc}
 use lib.ListN.{length, take, drop, getD, length-append, length-drop, take-append-drop}
@@ -7,10 +7,10 @@ use lib.Seq.{sets, take-all, drop-at}
 use native.Mathlib.Omega.{arith}
 use native.Mathlib.Nat.{add-zero}
 use native.Mathlib.Decide.{decLe}
-use borrow.Author.Tests.{le-leb, lt-leb}
+use borrow.Author.Tests.{le-leb}
 use Rattle.cells.specs.Numbers.{le, bytesLe, length-bytesLe, slice-sets, take-sets, drop-sets-add}
 use Rattle.cells.specs.Records.{sum, encFields, decFields, dec-enc, length-encFields}
-use Rattle.cells.specs.Writes.{written, written-all, written-none}
+use Rattle.cells.specs.Writes.{written-all}
 use Rattle.cells.specs.declared.Written.{Written}
 use Rattle.cells.specs.declared.Written.the-variants.{Bytes, NoRoom}
 use Rattle.wire_items.specs.Frames.{otId, ioOf, ioFrame, frameWritten, behind, frameAppended}

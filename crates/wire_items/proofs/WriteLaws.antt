@@ -1,18 +1,18 @@
 -- What the frame writer leaves, case by case.
-use Prim.Native.Nat.{ℕ, zero, suc, _+_, _-_, _<_, _≤_}
-use mathlib.Core.Path.{_≡_, refl, sym, ap, ap₂, _∙_}
-use mathlib.Core.List.{List, [], _∷_, _++_, append-assoc, append-nil}
+use Prim.Native.Nat.{ℕ, _+_, _-_, _<_, _≤_}
+use mathlib.Core.Path.{_≡_, sym, ap, ap₂, _∙_}
+use mathlib.Core.List.{List, _++_, append-assoc, append-nil}
 use lib.ListN.{length, take, drop, length-append, length-drop, drop-of-length-le}
 use lib.Seq.{sets, take-all}
 use native.Mathlib.Omega.{arith}
 use borrow.Author.Tests.{le-leb, lt-leb}
 use borrow.Rule.Slice.PartMut.{midOf, putMid}
-use Rattle.cells.specs.Numbers.{bytesLe, length-bytesLe, sets-append}
+use Rattle.cells.specs.Numbers.{length-bytesLe, sets-append}
 use Rattle.cells.specs.Records.{encFields, putFields, putFields-eq, length-encFields, sum}
-use Rattle.cells.specs.Writes.{written, written-all, written-none}
+use Rattle.cells.specs.Writes.{written-all, written-none}
 use Rattle.cells.specs.declared.Written.{Written}
 use Rattle.cells.specs.declared.Written.the-variants.{Bytes, NoRoom}
-use Rattle.wire_items.specs.Frames.{item, ioFrame, frameWritten, behind, frameAppended}
+use Rattle.wire_items.specs.Frames.{ioFrame, frameWritten, behind, frameAppended}
 use Rattle.wire_items.specs.Head.{frontWidths, frontValues}
 
 module _ (id sequence cip : ℕ) (bs : List ℕ) where

@@ -8,7 +8,7 @@ ghost use Prim.Native.Nat.{ℕ, _+_, _≤_, _<_};
 ghost use lib.ListN.{length};
 ghost use Rattle.cells.specs.Numbers.{le};
 ghost use Rattle.cells.specs.Records.{putFields};
-ghost use Rattle.wire_items.specs.Items.{startOf, stepAt, itemsFrom, itemsOf, wholeOf};
+ghost use Rattle.wire_items.specs.Items.{startOf, stepAt, stepAfter, itemOf, itemsFrom, itemsOf, wholeOf};
 ghost use Rattle.wire_items.specs.Frames.{ioOf, frameWritten, frameAppended};
 ghost use Rattle.wire_items.specs.Head.{ioHead, Head, otherOf, frontWidths, frontValues};
 
@@ -298,4 +298,43 @@ fn read_at(frame: &[u8], c: Cursor) -> Step
     ensures { λ r. ⌜ r ≡ stepAt (now (frame .entry)) (c .at) (c .left) ⌝ }
 {
     next(reader(frame, c))
+}
+
+fn item_from(frame: &[u8], from: usize, count: usize, n: usize) -> Step
+    ensures { λ r. ⌜ r ≡ stepAfter n (now (frame .entry)) from count ⌝ }
+{
+    let mut at = from;
+    let mut left = count;
+    let mut k = n;
+    while 0 < k {
+        match read_at(frame, Cursor { at, left }) {
+            Step::Item {
+                kind: _,
+                start: _,
+                len: _,
+                next,
+            } => {
+                at = next.at;
+                left = next.left;
+                k -= 1;
+            }
+            Step::End => {
+                return Step::End;
+            }
+            Step::Broken(o) => {
+                return Step::Broken(o);
+            }
+        }
+    }
+    read_at(frame, Cursor { at, left })
+}
+
+// Item n of a frame, counted from 0, as a reader comes to it; or that the list ends or breaks before.
+pub fn item(frame: &[u8], n: usize) -> Step
+    ensures { λ r. ⌜ r ≡ itemOf n (now (frame .entry)) ⌝ }
+{
+    match begin(frame) {
+        Start::At(c) => item_from(frame, c.at, c.left, n),
+        Start::NoCount(o) => Step::Broken(o),
+    }
 }

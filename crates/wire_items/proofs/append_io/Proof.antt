@@ -3,35 +3,25 @@ use Rattle.wire_items.proofs.WriteLaws.{past-end, lent-rest}
 use borrow.Author.Needs.{needs}
 use Rattle.wire_items.proofs.append_io.Statement.{statement}
 use Rattle.wire_items.proofs.append_io.Tie as tie
-use Rattle.wire_items.proofs.append_io.Reads as reads
-use Rattle.wire_items.proofs.append_io.Lts as lts
-use Rattle.wire_items.proofs.encode_io.Reads as encode-io-reads
 
--- src/lib.rt:251:9
 returns : tie.Need-returns
 returns c = past-end _ _ _ _ _ _ (omega arith)
 
--- src/lib.rt:253:15
 sub-encode-io : tie.Need-sub-encode-io
 sub-encode-io c = search needs
 
--- src/lib.rt:253:15
 part-encode-io-start : tie.Need-part-encode-io-start
 part-encode-io-start c = search needs
 
--- src/lib.rt:253:15
 part-encode-io-end : tie.Need-part-encode-io-end
 part-encode-io-end c = search needs
 
--- src/lib.rt:253:5
 encode-io-requires : tie.Need-encode-io-requires
 encode-io-requires c κs = search needs
 
--- src/lib.rt:247:1
 same-length : tie.Need-same-length
 same-length c = search needs
 
--- src/lib.rt:247:1
 returns-2 : tie.Need-returns-2
 returns-2 c = let a = c .before .before .before .before .before .before .before .args in
     lent-rest (a .id .0) (a .sequence) (a .cip) (a .at) (a .bytes .now) (a .out .now) (c .before .before .encode-io .result) (c .before .before .encode-io .last .0) (omega arith) (c .before .before .encode-io .ensures)

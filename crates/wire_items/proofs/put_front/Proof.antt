@@ -1,48 +1,34 @@
 use borrow.Author.Needs.{needs}
 use Rattle.wire_items.proofs.put_front.Statement.{statement}
 use Rattle.wire_items.proofs.put_front.Tie as tie
-use Rattle.wire_items.proofs.put_front.Reads as reads
-use Rattle.wire_items.proofs.put_front.Lts as lts
-use Rattle.cells.proofs.put_u16.Reads as put-u16-reads
-use Rattle.cells.proofs.put_u32.Reads as put-u32-reads
 
--- src/lib.rt:220:5
 put-u16-requires : tie.Need-put-u16-requires
 put-u16-requires c κs = search needs
 
--- src/lib.rt:221:5
 put-u16-requires-2 : tie.Need-put-u16-requires-2
 put-u16-requires-2 c κs = search needs
 
--- src/lib.rt:222:5
 put-u16-requires-3 : tie.Need-put-u16-requires-3
 put-u16-requires-3 c κs = search needs
 
--- src/lib.rt:223:5
 put-u32-requires : tie.Need-put-u32-requires
 put-u32-requires c κs = search needs
 
--- src/lib.rt:224:5
 put-u32-requires-2 : tie.Need-put-u32-requires-2
 put-u32-requires-2 c κs = search needs
 
--- src/lib.rt:225:5
 put-u16-requires-4 : tie.Need-put-u16-requires-4
 put-u16-requires-4 c κs = search needs
 
--- src/lib.rt:226:5
 put-u16-requires-5 : tie.Need-put-u16-requires-5
 put-u16-requires-5 c κs = search needs
 
--- src/lib.rt:227:5
 put-u16-requires-6 : tie.Need-put-u16-requires-6
 put-u16-requires-6 c κs = search needs
 
--- src/lib.rt:216:1
 same-length : tie.Need-same-length
 same-length c = search needs
 
--- src/lib.rt:216:1
 returns : tie.Need-returns
 returns c = cc
 
