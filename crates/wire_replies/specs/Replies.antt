@@ -1,5 +1,5 @@
 -- The bytes of the replies: for each the widths of its fields, and the fields.
-use Prim.Native.Nat.{ℕ, _+_, _*_, _%_}
+use Prim.Native.Nat.{ℕ, _+_, _%_}
 use mathlib.Core.List.{List, [], _∷_, _++_, map}
 use lib.ListN.{length, take}
 use Rattle.cells.specs.Records.{encFields}

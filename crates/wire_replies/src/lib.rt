@@ -1,7 +1,7 @@
 // What the adapter answers an open, a close and any message with. Each writer puts its bytes at the start of the lent
 // output and says how many they are; where they do not fit it writes nothing. Numbers are little-endian.
 ghost use mathlib.Core.Path.{_≡_};
-ghost use Prim.Native.Nat.{ℕ, _+_, _≤_, min};
+ghost use Prim.Native.Nat.{_+_, _≤_, min};
 ghost use mathlib.Core.List.{[], _∷_};
 ghost use lib.ListN.{length};
 ghost use Rattle.cells.specs.Records.{putFields};
