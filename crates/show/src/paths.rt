@@ -3,6 +3,9 @@ use crate::text;
 use wire_paths::Key;
 use wire_paths::Seg;
 use wire_paths::SegStep;
+use wire_requests::FirstAttribute;
+use wire_requests::Object;
+use wire_requests::RequestAnswer;
 
 fn say_key(k: Key) {
     text::hex(b"key: vendor ", k.vendor as u32, 4);
@@ -68,6 +71,38 @@ pub fn say_path(path: &[u8]) {
     }
 }
 
+fn say_object(o: Object) {
+    match o {
+        Object::Named { class, instance } => {
+            text::hex(b"  class ", class, 2);
+            text::number32(b", instance ", instance);
+        }
+        Object::NoObject => text::words(b"  its path names no object"),
+    }
+}
+
+fn say_attribute(a: FirstAttribute) {
+    match a {
+        FirstAttribute::Number(n) => text::number32(b", attribute ", n),
+        FirstAttribute::NoAttribute => text::words(b", no attribute"),
+    }
+}
+
 pub fn say_request(message: &[u8]) {
-    text::words(b"not yet\n");
+    match wire_requests::parse_request(message) {
+        RequestAnswer::Parsed(r) => {
+            text::hex(b"  service ", r.service as u32, 2);
+            text::words(b"\n");
+            let object = r.object;
+            let attribute = r.attribute;
+            say_object(object);
+            say_attribute(attribute);
+            text::number(b", data from byte ", r.datastart);
+            text::words(b"\n");
+        }
+        RequestAnswer::Unparsed(service) => {
+            text::hex(b"  does not parse (No. 4), service ", service as u32, 2);
+            text::words(b"\n");
+        }
+    }
 }
