@@ -7,7 +7,6 @@ use native.Mathlib.Omega.{arith}
 use Rattle.wire_paths.specs.Segments.{stepAt, Segs, segs, broken, cons, segsFrom, segsOf}
 use Rattle.wire_paths.specs.PathLaws.{segment-found}
 use Rattle.wire_paths.specs.declared.Seg.{Seg}
-use Rattle.wire_paths.specs.declared.SegStep.{SegStep}
 use Rattle.wire_paths.specs.declared.SegStep.the-variants.{Segment, End, Broken}
 
 -- the segments l, and then the rest

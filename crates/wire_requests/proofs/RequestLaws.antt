@@ -16,12 +16,12 @@ use types.Run.{OneOf, miss}
 use Rattle.wire_paths.specs.declared.SegStep.the-variants.{Segment, End, Broken}
 use Rattle.wire_paths.specs.declared.ConnectionPath.{ConnectionPath}
 use Rattle.wire_paths.specs.declared.PathAnswer as paths
-use Rattle.wire_requests.specs.Requests.{classAlone, inClass, objectIn, objectAnswer, objectOf, attributeOf, firstOf, attributeIn, attributeAnswer, firstAttribute, messageMax, requestWith, requestOf}
+use Rattle.wire_requests.specs.Requests.{inClass, objectIn, objectAnswer, objectOf, attributeOf, firstOf, attributeIn, attributeAnswer, firstAttribute, messageMax, requestWith, requestOf}
 use Rattle.wire_requests.specs.Reading.{NamesClass, NamesInClass, NamesObject, keptAttribute}
 use Rattle.wire_requests.specs.declared.Object.{Object}
 use Rattle.wire_requests.specs.declared.Object.the-variants.{Named, NoObject}
 use Rattle.wire_requests.specs.declared.FirstAttribute.{FirstAttribute}
-use Rattle.wire_requests.specs.declared.FirstAttribute.the-variants.{Number, NoAttribute}
+use Rattle.wire_requests.specs.declared.FirstAttribute.the-variants.{NoAttribute}
 use Rattle.wire_requests.specs.declared.ObjectAnswer as objects
 use Rattle.wire_requests.specs.declared.AttributeAnswer as attributes
 use Rattle.wire_requests.specs.declared.RequestAnswer.{RequestAnswer}
@@ -146,10 +146,10 @@ module _ (s : List ℕ) (at : ℕ) (h : FirstAttribute) (p : Held s at h) where
   pub held-more : (g : FirstAttribute) (x : Seg) (next : ℕ) → Segment x next ≡ stepAt s at → g ≡ keptAttribute h x → Held s next g
   unfolding attributeIn
   held-more g x next f e =
-      record
-      { done = p .done ++ (x ∷ [])
-      ; passed = passed-more s at (p .done) (p .passed) x next f
-      ; holds = e ∙ ap (λ (z : FirstAttribute). keptAttribute z x) (p .holds) ∙ sym (kept-more (p .done) x)
+      record {
+        done = p .done ++ (x ∷ []);
+        passed = passed-more s at (p .done) (p .passed) x next f;
+        holds = e ∙ ap (λ (z : FirstAttribute). keptAttribute z x) (p .holds) ∙ sym (kept-more (p .done) x);
       }
 
   pub held-all : End ≡ stepAt s at → attributes.the-variants.Parsed h ≡ firstAttribute s

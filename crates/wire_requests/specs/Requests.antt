@@ -16,7 +16,6 @@ use Rattle.wire_requests.specs.declared.ObjectAnswer as objects
 use Rattle.wire_requests.specs.declared.ObjectAnswer.{ObjectAnswer}
 use Rattle.wire_requests.specs.declared.AttributeAnswer as attributes
 use Rattle.wire_requests.specs.declared.AttributeAnswer.{AttributeAnswer}
-use Rattle.wire_requests.specs.declared.Request.{Request}
 use Rattle.wire_requests.specs.declared.RequestAnswer.{RequestAnswer}
 use Rattle.wire_requests.specs.declared.RequestAnswer.the-variants.{Parsed, Unparsed}
 

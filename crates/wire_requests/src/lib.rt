@@ -6,7 +6,11 @@ ghost use lib.ListN.{length, getD};
 ghost use Rattle.wire_paths.specs.Segments.{segsOf};
 ghost use Rattle.wire_requests.specs.Requests.{objectOf, attributeOf, firstOf, firstAttribute, requestWith, requestOf};
 ghost use Rattle.wire_requests.specs.Reading.{NamesObject, NamesInClass, NamesClass, keptAttribute};
-use wire_paths::{PathAnswer, Seg, SegStep, next_segment, parse_path};
+use wire_paths::PathAnswer;
+use wire_paths::Seg;
+use wire_paths::SegStep;
+use wire_paths::next_segment;
+use wire_paths::parse_path;
 
 // The object that a path names. Instance 0 is the class itself.
 pub enum Object {

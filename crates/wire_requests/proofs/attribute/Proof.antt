@@ -7,10 +7,6 @@ use Rattle.wire_requests.proofs.RequestLaws.{Held, held-none, held-more
 use borrow.Author.Needs.{needs}
 use Rattle.wire_requests.proofs.attribute.Statement.{statement}
 use Rattle.wire_requests.proofs.attribute.Tie as tie
-use Rattle.wire_requests.proofs.attribute.Reads as reads
-use Rattle.wire_requests.proofs.attribute.Lts as lts
-use Rattle.wire_paths.proofs.next_segment.Reads as next-segment-reads
-use Rattle.wire_requests.proofs.keep_attribute.Reads as keep-attribute-reads
 
 abbrev Inv-loop : tie.InvT-loop
 Inv-loop path held₀ at₀ held at = Held path at held
@@ -18,43 +14,33 @@ Inv-loop path held₀ at₀ held at = Held path at held
 abbrev μ-loop : tie.MeasureT-loop
 μ-loop path held₀ at₀ held at = length path - at
 
--- src/lib.rt:126:5
 loop-holds : tie.Need-loop-holds Inv-loop μ-loop
 loop-holds c = held-none _
 
--- src/lib.rt:127:15
 next-segment-requires : tie.Need-next-segment-requires Inv-loop μ-loop
 next-segment-requires c κs = search needs
 
--- src/lib.rt:128:32
 enum-known-seg : tie.Need-enum-known-seg Inv-loop μ-loop
 enum-known-seg c = search needs
 
--- src/lib.rt:129:17
 keep-attribute-requires : tie.Need-keep-attribute-requires Inv-loop μ-loop
 keep-attribute-requires c κs = search needs
 
--- src/lib.rt:126:5
 loop-less : tie.Need-loop-less Inv-loop μ-loop
 loop-less c = omega (arith, segment-found _ _ _ _ (sym (c .before .before .seg .given .1) ∙ c .before .before .before .before .next-segment .ensures))
 
--- src/lib.rt:126:5
 loop-again : tie.Need-loop-again Inv-loop μ-loop
 loop-again c = held-more _ _ _ (c .before .before .before .before .before .loop .inv) _ _ _ (sym (c .before .before .seg .given .1) ∙ c .before .before .before .before .next-segment .ensures) (c .keep-attribute .ensures)
 
--- src/lib.rt:133:17
 enum-told : tie.Need-enum-told Inv-loop μ-loop
 enum-told c = search needs
 
--- src/lib.rt:133:17
 returns : tie.Need-returns Inv-loop μ-loop
 returns c = held-all _ _ _ (c .before .before .before .loop .inv) (sym (c .enum-told .given .1) ∙ c .before .before .next-segment .ensures)
 
--- src/lib.rt:135:29
 enum-known-offset : tie.Need-enum-known-offset Inv-loop μ-loop
 enum-known-offset c = search needs
 
--- src/lib.rt:136:17
 returns-2 : tie.Need-returns-2 Inv-loop μ-loop
 returns-2 c = held-broken _ _ _ (c .before .before .before .before .loop .inv) _ (sym (c .before .offset .given .1) ∙ c .before .before .before .next-segment .ensures)
 

@@ -3,35 +3,25 @@ use Rattle.wire_requests.proofs.RequestLaws.{alone-end, alone-more, alo
 use borrow.Author.Needs.{needs}
 use Rattle.wire_requests.proofs.class_alone.Statement.{statement}
 use Rattle.wire_requests.proofs.class_alone.Tie as tie
-use Rattle.wire_requests.proofs.class_alone.Reads as reads
-use Rattle.wire_requests.proofs.class_alone.Lts as lts
-use Rattle.wire_paths.proofs.next_segment.Reads as next-segment-reads
 
--- src/lib.rt:56:11
 next-segment-requires : tie.Need-next-segment-requires
 next-segment-requires c κs = search needs
 
--- src/lib.rt:57:49
 enum-told : tie.Need-enum-told
 enum-told c = search needs
 
--- src/lib.rt:58:25
 enum-told-2 : tie.Need-enum-told-2
 enum-told-2 c = search needs
 
--- src/lib.rt:59:31
 enum-told-3 : tie.Need-enum-told-3
 enum-told-3 c = search needs
 
--- src/lib.rt:53:1
 returns : tie.Need-returns
 returns c = alone-more _ _ _ _ _ (sym (c .enum-told .given .1) ∙ c .before .before .next-segment .ensures)
 
--- src/lib.rt:53:1
 returns-2 : tie.Need-returns-2
 returns-2 c = alone-end _ _ _ (sym (c .enum-told2 .given .1) ∙ c .before .before .next-segment .ensures)
 
--- src/lib.rt:53:1
 returns-3 : tie.Need-returns-3
 returns-3 c = alone-broken _ _ _ _ (sym (c .enum-told3 .given .1) ∙ c .before .before .next-segment .ensures)
 

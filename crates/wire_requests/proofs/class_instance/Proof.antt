@@ -3,32 +3,22 @@ use Rattle.wire_requests.proofs.RequestLaws.{object-parsed, object-unpa
 use borrow.Author.Needs.{needs}
 use Rattle.wire_requests.proofs.class_instance.Statement.{statement}
 use Rattle.wire_requests.proofs.class_instance.Tie as tie
-use Rattle.wire_requests.proofs.class_instance.Reads as reads
-use Rattle.wire_requests.proofs.class_instance.Lts as lts
-use Rattle.wire_paths.proofs.parse_path.Reads as parse-path-reads
-use Rattle.wire_requests.proofs.object_of.Reads as object-of-reads
 
--- src/lib.rt:96:11
 parse-path-requires : tie.Need-parse-path-requires
 parse-path-requires c κs = search needs
 
--- src/lib.rt:97:55
 enum-told : tie.Need-enum-told
 enum-told c = search needs
 
--- src/lib.rt:97:55
 object-of-requires : tie.Need-object-of-requires
 object-of-requires c κs = search needs
 
--- src/lib.rt:98:30
 enum-known-offset : tie.Need-enum-known-offset
 enum-known-offset c = search needs
 
--- src/lib.rt:93:1
 returns : tie.Need-returns
 returns c = object-parsed _ _ _ (sym (c .before .enum-told .given .1) ∙ c .before .before .before .parse-path .ensures) (c .object-of .ensures)
 
--- src/lib.rt:93:1
 returns-2 : tie.Need-returns-2
 returns-2 c = object-unparsed _ _ (sym (c .before .offset .given .1) ∙ c .before .before .before .parse-path .ensures)
 

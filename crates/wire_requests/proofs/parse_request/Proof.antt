@@ -3,64 +3,46 @@ use Rattle.wire_requests.proofs.RequestLaws.{message-empty, message-ove
 use borrow.Author.Needs.{needs}
 use Rattle.wire_requests.proofs.parse_request.Statement.{statement}
 use Rattle.wire_requests.proofs.parse_request.Tie as tie
-use Rattle.wire_requests.proofs.parse_request.Reads as reads
-use Rattle.wire_requests.proofs.parse_request.Lts as lts
-use Rattle.wire_requests.proofs.request_with.Reads as request-with-reads
-use Rattle.wire_requests.proofs.wide.Reads as wide-reads
 
--- src/lib.rt:164:9
 returns : tie.Need-returns
 returns c = message-empty _ (omega arith)
 
--- src/lib.rt:166:19
 shared-slice-read-service : tie.Need-shared-slice-read-service
 shared-slice-read-service c = search needs
 
--- src/lib.rt:168:9
 returns-2 : tie.Need-returns-2
 returns-2 c = message-over _ (omega arith)
 
--- src/lib.rt:171:9
 returns-3 : tie.Need-returns-3
 returns-3 c = message-short _ (omega arith) (omega arith)
 
--- src/lib.rt:173:22
 shared-slice-read-wide : tie.Need-shared-slice-read-wide
 shared-slice-read-wide c = search needs
 
--- src/lib.rt:173:17
 wide-requires : tie.Need-wide-requires
 wide-requires c κs = search needs
 
--- src/lib.rt:173:17
 mul-start : tie.Need-mul-start
 mul-start c = search needs
 
--- src/lib.rt:173:17
 add-start : tie.Need-add-start
 add-start c = search needs
 
--- src/lib.rt:175:9
 returns-4 : tie.Need-returns-4
 returns-4 c = message-short _ (omega arith) (omega arith)
 
--- src/lib.rt:177:27
 sub-request-with : tie.Need-sub-request-with
 sub-request-with c = search needs
 
--- src/lib.rt:177:27
 part-request-with-start : tie.Need-part-request-with-start
 part-request-with-start c = search needs
 
--- src/lib.rt:177:27
 part-request-with-end : tie.Need-part-request-with-end
 part-request-with-end c = search needs
 
--- src/lib.rt:177:5
 request-with-requires : tie.Need-request-with-requires
 request-with-requires c κs = search needs
 
--- src/lib.rt:160:1
 returns-5 : tie.Need-returns-5
 returns-5 c = message-read _ _ _ (omega arith) (omega arith) (omega arith) (c .request-with .ensures)
 

@@ -3,32 +3,22 @@ use Rattle.wire_requests.proofs.RequestLaws.{request-parsed, request-un
 use borrow.Author.Needs.{needs}
 use Rattle.wire_requests.proofs.request_with.Statement.{statement}
 use Rattle.wire_requests.proofs.request_with.Tie as tie
-use Rattle.wire_requests.proofs.request_with.Reads as reads
-use Rattle.wire_requests.proofs.request_with.Lts as lts
-use Rattle.wire_requests.proofs.attribute.Reads as attribute-reads
-use Rattle.wire_requests.proofs.object_of.Reads as object-of-reads
 
--- src/lib.rt:145:11
 attribute-requires : tie.Need-attribute-requires
 attribute-requires c κs = search needs
 
--- src/lib.rt:146:33
 enum-known-attribute : tie.Need-enum-known-attribute
 enum-known-attribute c = search needs
 
--- src/lib.rt:147:17
 object-of-requires : tie.Need-object-of-requires
 object-of-requires c κs = search needs
 
--- src/lib.rt:155:41
 enum-told : tie.Need-enum-told
 enum-told c = search needs
 
--- src/lib.rt:142:1
 returns : tie.Need-returns
 returns c = request-parsed _ _ _ _ _ (sym (c .before .before .attribute2 .given .1) ∙ c .before .before .before .before .attribute .ensures) (c .object-of .ensures)
 
--- src/lib.rt:142:1
 returns-2 : tie.Need-returns-2
 returns-2 c = request-unparsed _ _ _ _ (sym (c .enum-told .given .1) ∙ c .before .before .attribute .ensures)
 
