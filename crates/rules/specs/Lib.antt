@@ -1,2 +1,4 @@
 pub mod Lists
 pub mod State
+pub mod Attributes
+pub mod Upload
