@@ -2,3 +2,4 @@ pub mod Lists
 pub mod State
 pub mod Attributes
 pub mod Upload
+pub mod Objects
