@@ -3,3 +3,14 @@ pub mod State
 pub mod Attributes
 pub mod Upload
 pub mod Objects
+pub mod Answers
+pub mod Setup
+pub mod Events
+pub mod Replies
+pub mod Checks
+pub mod Opening
+pub mod Removal
+pub mod Receiving
+pub mod Producing
+pub mod Host
+pub mod Calls
