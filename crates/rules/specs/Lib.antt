@@ -3,6 +3,7 @@ pub mod State
 pub mod Attributes
 pub mod Upload
 pub mod Objects
+pub mod UploadLaws
 pub mod Answers
 pub mod Setup
 pub mod Events

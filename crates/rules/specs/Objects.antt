@@ -60,19 +60,19 @@ unfoldable pub assemblyClass : Setup → Attributes
 assemblyClass u = (1, bytesLe 2 2) ∷ (2, bytesLe 2 (largestInstance (u .assemblies))) ∷ []
 
 -- an assembly of any kind: its data, and the size of it
-unfoldable pub assemblyAttributes : Content → Attributes
-assemblyAttributes held = (3, held .bytes) ∷ (4, bytesLe 2 (length (held .bytes))) ∷ []
+unfoldable pub assemblyObjecttributes : Content → Attributes
+assemblyObjecttributes held = (3, held .bytes) ∷ (4, bytesLe 2 (length (held .bytes))) ∷ []
 
 unfoldable pub assemblyPlace : Setup → ℕ → Option ℕ
 assemblyPlace u instance = place (λ a. eqb (a .instance) instance) (u .assemblies)
 
-abbrev pub assemblyAt : State → ℕ → Option ℕ → Option ℕ → Outcome
-assemblyAt st service a none = Fails NoObject
-assemblyAt st service a (some i) = single service a (assemblyAttributes (contentAt st i))
+abbrev pub assemblyObject : State → ℕ → Option ℕ → Option ℕ → Outcome
+assemblyObject st service a none = Fails NoObject
+assemblyObject st service a (some i) = single service a (assemblyObjecttributes (contentAt st i))
 
 unfoldable pub assembly : State → ℕ → ℕ → Option ℕ → Outcome
 assembly st service instance a =
-    cond (eqb instance 0) (single service a (assemblyClass (st .setup))) (assemblyAt st service a (assemblyPlace (st .setup) instance))
+    cond (eqb instance 0) (single service a (assemblyClass (st .setup))) (assemblyObject st service a (assemblyPlace (st .setup) instance))
 
 -- ---- TCP/IP
 
