@@ -1,23 +1,24 @@
 -- What an object gives: an attribute by its number, or a general status. Get_Attribute_Single is the one service that the objects share.
 use mathlib.Core.List.{List, [], _∷_, _++_}
-use mathlib.Core.Option.{Option, none, some}
 use mathlib.Core.Bool.{cond}
 use Prim.Native.Nat.{ℕ}
 use lib.Dec.{eqb}
 use lib.ListN.{length}
 use Rattle.cells.specs.Numbers.{bytesLe}
+pub use Rattle.wire_requests.specs.declared.FirstAttribute.{FirstAttribute}
+pub use Rattle.wire_requests.specs.declared.FirstAttribute.the-variants.{Number, NoAttribute}
 pub use Rattle.rules.specs.declared.objects.Fault.{Fault}
-pub use Rattle.rules.specs.declared.objects.Fault.the-variants.{PathSegment, PathUnknown, NoService, StateConflict, NotEnoughData, NoAttribute, NoObject}
+pub use Rattle.rules.specs.declared.objects.Fault.the-variants.{PathSegment, PathUnknown, ServiceUnknown, StateConflict, NotEnoughData, AttributeUnknown, ObjectUnknown}
 
 -- general status
 abbrev pub statusNumber : Fault → ℕ
 statusNumber PathSegment = 0x04
 statusNumber PathUnknown = 0x05
-statusNumber NoService = 0x08
+statusNumber ServiceUnknown = 0x08
 statusNumber StateConflict = 0x0C
 statusNumber NotEnoughData = 0x13
-statusNumber NoAttribute = 0x14
-statusNumber NoObject = 0x16
+statusNumber AttributeUnknown = 0x14
+statusNumber ObjectUnknown = 0x16
 
 -- a reply's data, or why there is none
 pub data Outcome : Type 0 where
@@ -29,24 +30,24 @@ abbrev pub Attributes : Type 0
 Attributes = List (ℕ × List ℕ)
 
 abbrev pub valueOf : ℕ → Attributes → Outcome
-valueOf a [] = Fails NoAttribute
+valueOf a [] = Fails AttributeUnknown
 valueOf a (entry ∷ rest) = cond (eqb a (entry .0)) (Gives (entry .1)) (valueOf a rest)
 
 -- a missing attribute comes before an unknown one
-abbrev pub attributeOf : Option ℕ → Attributes → Outcome
-attributeOf none table = Fails NotEnoughData
-attributeOf (some a) table = valueOf a table
+abbrev pub attributeNamed : FirstAttribute → Attributes → Outcome
+attributeNamed NoAttribute table = Fails NotEnoughData
+attributeNamed (Number a) table = valueOf a table
 
 -- any other service comes before a missing attribute
 abbrev pub getSingle : ℕ
 getSingle = 0x0E
 
-abbrev pub single : ℕ → Option ℕ → Attributes → Outcome
-single service a table = cond (eqb service getSingle) (attributeOf a table) (Fails NoService)
+abbrev pub single : ℕ → FirstAttribute → Attributes → Outcome
+single service a table = cond (eqb service getSingle) (attributeNamed a table) (Fails ServiceUnknown)
 
 -- an unknown instance comes before the service: an object has its class, instance 0, and one instance
 abbrev pub among : ℕ → ℕ → Outcome → Outcome → Outcome
-among one instance class here = cond (eqb instance 0) class (cond (eqb instance one) here (Fails NoObject))
+among one instance class here = cond (eqb instance 0) class (cond (eqb instance one) here (Fails ObjectUnknown))
 
 -- what every class but Assembly says of itself: revision 1, largest instance 1, one instance
 abbrev pub classAttributes : Attributes

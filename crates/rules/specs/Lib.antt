@@ -1,9 +1,5 @@
 pub mod Lists
 pub mod State
-pub mod Attributes
-pub mod Upload
-pub mod Objects
-pub mod UploadLaws
 pub mod Answers
 pub mod Setup
 pub mod Events
@@ -15,3 +11,11 @@ pub mod Receiving
 pub mod Producing
 pub mod Host
 pub mod Calls
+pub mod Attributes
+pub mod Upload
+pub mod Objects
+pub mod Message
+pub mod UploadLaws
+pub mod UploadMessages
+pub mod ReplyLaws
+pub mod ObjectExamples

@@ -10,7 +10,7 @@ use Rattle.cells.specs.Numbers.{bytesLe}
 use Rattle.cells.specs.Records.{encFields, ofBool}
 use Rattle.rules.specs.Lists.{any, place, maybe}
 use Rattle.rules.specs.State.{isOwner, Conn, Identity, Shape, Setup, Content, State, contentAt}
-use Rattle.rules.specs.Attributes.{Outcome, Gives, Fails, NoObject, Attributes, single, among, classAttributes, shortString, fileName, taggedText}
+use Rattle.rules.specs.Attributes.{FirstAttribute, Outcome, Gives, Fails, ObjectUnknown, Attributes, single, among, classAttributes, shortString, fileName, taggedText}
 use Rattle.rules.specs.Upload.{Upload, checksum, initiate, transfer}
 
 -- ---- Identity
@@ -46,7 +46,7 @@ identityAttributes st =
     []
 
 -- service 0x01, all attributes at once, is no service here: 0x08
-unfoldable pub identity : State → ℕ → ℕ → Option ℕ → Outcome
+unfoldable pub identity : State → ℕ → ℕ → FirstAttribute → Outcome
 identity st service instance a = among 1 instance (single service a classAttributes) (single service a (identityAttributes st))
 
 -- ---- Assembly
@@ -60,17 +60,17 @@ unfoldable pub assemblyClass : Setup → Attributes
 assemblyClass u = (1, bytesLe 2 2) ∷ (2, bytesLe 2 (largestInstance (u .assemblies))) ∷ []
 
 -- an assembly of any kind: its data, and the size of it
-unfoldable pub assemblyObjecttributes : Content → Attributes
-assemblyObjecttributes held = (3, held .bytes) ∷ (4, bytesLe 2 (length (held .bytes))) ∷ []
+unfoldable pub assemblyAttributes : Content → Attributes
+assemblyAttributes held = (3, held .bytes) ∷ (4, bytesLe 2 (length (held .bytes))) ∷ []
 
 unfoldable pub assemblyPlace : Setup → ℕ → Option ℕ
 assemblyPlace u instance = place (λ a. eqb (a .instance) instance) (u .assemblies)
 
-abbrev pub assemblyObject : State → ℕ → Option ℕ → Option ℕ → Outcome
-assemblyObject st service a none = Fails NoObject
-assemblyObject st service a (some i) = single service a (assemblyObjecttributes (contentAt st i))
+abbrev pub assemblyObject : State → ℕ → FirstAttribute → Option ℕ → Outcome
+assemblyObject st service a none = Fails ObjectUnknown
+assemblyObject st service a (some i) = single service a (assemblyAttributes (contentAt st i))
 
-unfoldable pub assembly : State → ℕ → ℕ → Option ℕ → Outcome
+unfoldable pub assembly : State → ℕ → ℕ → FirstAttribute → Outcome
 assembly st service instance a =
     cond (eqb instance 0) (single service a (assemblyClass (st .setup))) (assemblyObject st service a (assemblyPlace (st .setup) instance))
 
@@ -95,7 +95,7 @@ tcpIpAttributes local mask =
     (6, bytesLe 2 0) ∷
     []
 
-unfoldable pub tcpIp : ℕ → ℕ → ℕ → ℕ → Option ℕ → Outcome
+unfoldable pub tcpIp : ℕ → ℕ → ℕ → ℕ → FirstAttribute → Outcome
 tcpIp local mask service instance a = among 1 instance (single service a classAttributes) (single service a (tcpIpAttributes local mask))
 
 -- ---- Ethernet Link
@@ -104,7 +104,7 @@ tcpIp local mask service instance a = among 1 instance (single service a classAt
 unfoldable pub ethernetAttributes : Setup → Attributes
 ethernetAttributes u = (1, bytesLe 4 100) ∷ (2, bytesLe 4 0x0F) ∷ (3, u .mac) ∷ []
 
-unfoldable pub ethernetLink : Setup → ℕ → ℕ → Option ℕ → Outcome
+unfoldable pub ethernetLink : Setup → ℕ → ℕ → FirstAttribute → Outcome
 ethernetLink u service instance a = among 1 instance (single service a classAttributes) (single service a (ethernetAttributes u))
 
 -- ---- File
@@ -137,14 +137,14 @@ abbrev pub uploadTransfer : ℕ
 uploadTransfer = 0x4F
 
 -- the services of the EDS: initiate, transfer, and a single attribute, which leaves the position as it is
-unfoldable pub edsFile : Setup → List ℕ → ℕ → Option ℕ → List ℕ → Upload → Outcome × Upload
+unfoldable pub edsFile : Setup → List ℕ → ℕ → FirstAttribute → List ℕ → Upload → Outcome × Upload
 edsFile u eds service a bytes up =
     cond (eqb service initiateUpload) (initiate (u .transferLimit) eds up bytes)
     (cond (eqb service uploadTransfer) (transfer eds up bytes)
     (single service a (fileAttributes u eds), up))
 
-unfoldable pub file : Setup → List ℕ → ℕ → ℕ → Option ℕ → List ℕ → Upload → Outcome × Upload
+unfoldable pub file : Setup → List ℕ → ℕ → ℕ → FirstAttribute → List ℕ → Upload → Outcome × Upload
 file u eds service instance a bytes up =
     cond (eqb instance 0) (single service a classAttributes, up)
     (cond (eqb instance edsInstance) (edsFile u eds service a bytes up)
-    (Fails NoObject, up))
+    (Fails ObjectUnknown, up))

@@ -7,15 +7,15 @@ pub enum Fault {
     // 0x05: the path names no object that is here
     PathUnknown,
     // 0x08: no such service
-    NoService,
+    ServiceUnknown,
     // 0x0C: a transfer that is not awaited
     StateConflict,
     // 0x13: no attribute, or no service data
     NotEnoughData,
     // 0x14: no such attribute
-    NoAttribute,
+    AttributeUnknown,
     // 0x16: no such instance
-    NoObject,
+    ObjectUnknown,
 }
 
 // The transfer before: its number, and the offset in the EDS at which it began; or there was none yet.
