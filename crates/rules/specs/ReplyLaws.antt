@@ -7,7 +7,7 @@ use Prim.Native.Nat.{ℕ, _+_, _%_, _≤_, _<_, min, max}
 use native.Mathlib.Omega.{arith}
 use lib.Dec.{eqb, leb}
 use lib.ListN.{length, getD, take, drop, length-append, length-take}
-use borrow.Author.Tests.{le-leb, leb-true, lt-ltb}
+use borrow.Author.Tests.{le-leb, lt-leb, leb-true, lt-ltb}
 use Rattle.cells.specs.Numbers.{bytesLe, length-bytesLe}
 use Rattle.cells.specs.Records.{encFields}
 use Rattle.cells.specs.Back.{all, all-at}
@@ -18,10 +18,11 @@ use Rattle.wire_requests.specs.declared.RequestAnswer.{RequestAnswer}
 use Rattle.wire_requests.specs.declared.RequestAnswer.the-variants.{Parsed, Unparsed}
 use Rattle.wire_requests.specs.Requests.{messageMax, requestOf}
 use Rattle.rules.specs.State.{Setup, State, contentAt}
+use Rattle.rules.specs.Answers.{Wrote, Refused, NoRoom}
 use Rattle.rules.specs.Attributes.{FirstAttribute, Number, NoAttribute, Outcome, Gives, Fails, PathSegment, Attributes, valueOf, attributeNamed, getSingle, single, among, classAttributes, shortString, taggedText}
 use Rattle.rules.specs.Upload.{checksum, clamped, started, initiate, Last, NoLast, Was, Position, Upload, NoUpload, Under, Turn, Repeat, InTurn, OutOfTurn, turnOf, advanced, reachesEnd, transferBytes, transferReply, transferFor, transfer, lastOk, positionTests, positionOk, uploadOk}
 use Rattle.rules.specs.Objects.{identityAttributes, identity, assemblyClass, assemblyAttributes, assemblyPlace, assemblyObject, assembly, interface, tcpIpAttributes, tcpIp, ethernetAttributes, ethernetLink, fileAttributes, initiateUpload, uploadTransfer, edsFile, edsInstance, file}
-use Rattle.rules.specs.Message.{replyHead, replyTo, fileIn, ofClass, ofObject, ofRequest, serviceOf, messageOutcome, messageReply, replyRoom}
+use Rattle.rules.specs.Message.{replyHead, replyTo, fileIn, ofClass, ofObject, ofRequest, serviceOf, messageOutcome, messageReply, replyRoom, messageAnswer, messageCall}
 
 -- a state of document 01's sizes
 pub record Sized (st : State) : Type 0 where
@@ -297,6 +298,56 @@ module _ (st : State) (local mask : ℕ) (sized : Sized st) where
     pub position-kept : (message : List ℕ) → uploadOk (st .setup) (messageOutcome st local mask message up .1) ≡ true
     unfolding messageOutcome
     position-kept message = request-ok message (requestOf message)
+
+-- ---- No. 8, or a reply
+
+module _ (st : State) (local mask : ℕ) (message : List ℕ) (room : ℕ) (up : Upload) where
+  -- an object reply buffer under 516 bytes gives No. 8, and nothing changes
+  pub no-room : room < replyRoom → messageCall local mask message room st up ≡ (Refused NoRoom, up)
+  unfolding messageCall messageAnswer
+  no-room h = rw (lt-leb replyRoom room h)
+
+  -- otherwise every message gets its reply
+  pub always-replied : replyRoom ≤ room
+      → messageCall local mask message room st up ≡ (Wrote (messageReply st local mask message up), messageOutcome st local mask message up .1)
+  unfolding messageCall messageAnswer
+  always-replied h = rw (le-leb replyRoom room h)
+
+-- a message that is no upload service leaves the position as it was
+module _ (up : Upload) where
+  either-stays : (b : Bool) (x y : Outcome × Upload) → x .1 ≡ up → y .1 ≡ up → (cond b x y) .1 ≡ up
+  either-stays true x y h g = h
+  either-stays false x y h g = g
+
+  module _ (st : State) (local mask service : ℕ) (a : FirstAttribute) (bytes : List ℕ) (notInitiate : eqb service initiateUpload ≡ false)
+      (notTransfer : eqb service uploadTransfer ≡ false) where
+    file-stays : (eds : Option (List ℕ)) (instance : ℕ) → fileIn (st .setup) service instance a bytes up eds .1 ≡ up
+    unfolding file edsFile
+    file-stays none instance = refl
+    file-stays (some eds) instance =
+        either-stays (eqb instance 0) _ _ refl (either-stays (eqb instance edsInstance) _ _ (rw (notInitiate, notTransfer)) refl)
+
+    object-stays : (o : Object) → ofObject st local mask service a bytes up o .1 ≡ up
+    unfolding ofClass
+    object-stays NoObject = refl
+    object-stays (Named class instance) =
+        either-stays (eqb class 0x01) _ _ refl
+        (either-stays (eqb class 0x04) _ _ refl
+        (either-stays (eqb class 0xF5) _ _ refl
+        (either-stays (eqb class 0xF6) _ _ refl
+        (either-stays (eqb class 0x37) _ _ (file-stays (st .setup .eds) instance)
+        (either-stays (eqb class 0x02) _ _ refl refl)))))
+
+  pub position-stays : (st : State) (local mask : ℕ) (message : List ℕ)
+      → eqb (serviceOf (requestOf message)) initiateUpload ≡ false → eqb (serviceOf (requestOf message)) uploadTransfer ≡ false
+      → messageOutcome st local mask message up .1 ≡ up
+  unfolding messageOutcome
+  position-stays st local mask message = by (requestOf message)
+    where
+      by : (r : RequestAnswer) → eqb (serviceOf r) initiateUpload ≡ false → eqb (serviceOf r) uploadTransfer ≡ false
+          → ofRequest st local mask message up r .1 ≡ up
+      by (Unparsed service) h g = refl
+      by (Parsed r) h g = object-stays st local mask (r .service) (r .attribute) (drop (r .datastart) message) h g (r .object)
 
 -- a message beyond the sizes is reply 0x04 too
 pub over-size : (st : State) (local mask : ℕ) (message : List ℕ) (up : Upload) → messageMax < length message

@@ -7,10 +7,48 @@ use native.Mathlib.Omega.{arith}
 use lib.Dec.{eqb, leb}
 use lib.ListN.{length, getD, take, drop}
 use lib.Seq.{take-add, take-all}
-use borrow.Author.Tests.{le-leb, leb-true, leb-false, eq-eqb, ne-eqb}
+use borrow.Author.Tests.{leb-true, leb-false, eqb-true, eq-eqb, ne-eqb}
 use Rattle.cells.specs.Numbers.{bytesLe}
-use Rattle.rules.specs.Attributes.{Outcome, Gives, Fails}
-use Rattle.rules.specs.Upload.{checksum, clamped, Last, NoLast, Was, Position, started, Upload, NoUpload, Under, Turn, Repeat, InTurn, turnOf, advanced, reachesEnd, transferType, transferBytes, transferReply, transferFor, transfer}
+use Rattle.rules.specs.Attributes.{Fault, Outcome, Gives, Fails}
+use Rattle.rules.specs.Upload.{checksum, clamped, Last, NoLast, Was, Position, started, Upload, NoUpload, Under, Turn, Repeat, InTurn, OutOfTurn, nextTurn, turnAfter, turnOf, advanced, reachesEnd, transferType, transferBytes, transferReply, transferFor, transfer}
+
+-- ---- one transfer
+
+next-number : (next number : ℕ) → nextTurn next number ≡ InTurn → number ≡ next
+next-number next number e = by (eqb number next) refl e
+  where
+    by : (b : Bool) → eqb number next ≡ b → cond b InTurn OutOfTurn ≡ InTurn → number ≡ next
+    by true q h = eqb-true number next q
+    by false q h = absurd (let z : _≡_ {A = ℕ} 0 1 = cc in omega arith)
+
+turn-number : (last : Last) (next number : ℕ) → turnAfter last next number ≡ InTurn → number ≡ next
+turn-number NoLast next number e = next-number next number e
+turn-number (Was before offset) next number e = by (eqb before number) e
+  where
+    by : (b : Bool) → cond b (Repeat offset) (nextTurn next number) ≡ InTurn → number ≡ next
+    by true h = absurd (let z : _≡_ {A = ℕ} 0 1 = cc in omega arith)
+    by false h = next-number next number h
+
+no-bytes : {A : Type 0} {f : Fault} {bytes : List ℕ} → Fails f ≡ Gives bytes → A
+no-bytes e = absurd (let z : _≡_ {A = ℕ} 0 1 = cc in omega arith)
+
+-- what was answered with bytes is answered with the same bytes when it is asked for again, and the position stays where it is
+module _ (eds : List ℕ) where
+  asked-turn : (p : Position) (number : ℕ) (t : Turn) → turnOf p number ≡ t → (bytes : List ℕ) (up : Upload)
+      → transferFor eds p number t ≡ (Gives bytes, up) → transfer eds up (number ∷ []) ≡ (Gives bytes, up)
+  unfolding transfer turnOf advanced
+  asked-turn p number (Repeat offset) h bytes up e =
+      ap (λ (u : Upload). transfer eds u (number ∷ [])) (sym (ap (λ (r : Outcome × Upload). r .1) e)) ∙ ap (transferFor eds p number) h ∙ e
+  asked-turn p number InTurn h bytes up e =
+      let n : eqb (p .next) number ≡ true = eq-eqb (p .next) number (sym (turn-number (p .last) (p .next) number h)) in
+      ap (λ (u : Upload). transfer eds u (number ∷ [])) (sym (ap (λ (r : Outcome × Upload). r .1) e)) ∙ rw n e
+  asked-turn p number OutOfTurn h bytes up e = no-bytes (ap (λ (r : Outcome × Upload). r .0) e)
+
+  pub asked-again : (before up : Upload) (number : ℕ) (bytes : List ℕ)
+      → transfer eds before (number ∷ []) ≡ (Gives bytes, up) → transfer eds up (number ∷ []) ≡ (Gives bytes, up)
+  unfolding transfer
+  asked-again NoUpload up number bytes e = no-bytes (ap (λ (r : Outcome × Upload). r .0) e)
+  asked-again (Under p) up number bytes e = asked-turn p number (turnOf p number) refl bytes up e
 
 -- ---- the client
 
