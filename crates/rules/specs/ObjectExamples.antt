@@ -31,8 +31,17 @@ shapes =
 abbrev setupWith : Option (List ℕ) → ℕ → Setup
 setupWith eds limit =
     record {
-      identity = us; inputOnly = 238; listenOnly = 237; rpiMin = 1000; rpiMax = 1000000; lateLimit = 0; transferLimit = limit;
-      mac = 0x02 ∷ 0x00 ∷ 0x5E ∷ 0x10 ∷ 0x20 ∷ 0x30 ∷ []; eds = eds; edsName = 0x61 ∷ 0x2E ∷ 0x65 ∷ []; assemblies = shapes;
+      identity = us;
+      inputOnly = 238;
+      listenOnly = 237;
+      rpiMin = 1000;
+      rpiMax = 1000000;
+      lateLimit = 0;
+      transferLimit = limit;
+      mac = 0x02 ∷ 0x00 ∷ 0x5E ∷ 0x10 ∷ 0x20 ∷ 0x30 ∷ [];
+      eds = eds;
+      edsName = 0x61 ∷ 0x2E ∷ 0x65 ∷ [];
+      assemblies = shapes;
     }
 
 abbrev stateWith : Setup → List ℕ → Bool → List Conn → Bool → State
@@ -40,10 +49,10 @@ stateWith u bytes run table fault =
     record {
       setup = u;
       contents =
-        record { bytes = bytes; run = run; notified = false } ∷
-        record { bytes = 7 ∷ 8 ∷ 9 ∷ []; run = false; notified = false } ∷
-        record { bytes = []; run = false; notified = false } ∷
-        [];
+          record { bytes = bytes; run = run; notified = false } ∷
+          record { bytes = 7 ∷ 8 ∷ 9 ∷ []; run = false; notified = false } ∷
+          record { bytes = []; run = false; notified = false } ∷
+          [];
       table = table;
       events = record { gone = 0; waiting = [] };
       fault = fault;
@@ -56,10 +65,21 @@ abbrev conn : Kind → Conn
 conn kind =
     record {
       fixed =
-        record {
-          kind = kind; triad = record { serial = 1; vendor = 2; originator = 3 }; originator = 9; otid = record { 0 = 1 }; toid = record { 0 = 2 };
-          otrpi = 10000; multiplier = 0; torpi = 10000; input = 1; output = 0; dest = record { address = 9; port = 2222 }; multicast = false; local = 4;
-        };
+          record {
+            kind = kind;
+            triad = record { serial = 1; vendor = 2; originator = 3 };
+            originator = 9;
+            otid = record { 0 = 1 };
+            toid = record { 0 = 2 };
+            otrpi = 10000;
+            multiplier = 0;
+            torpi = 10000;
+            input = 1;
+            output = 0;
+            dest = record { address = 9; port = 2222 };
+            multicast = false;
+            local = 4;
+          };
       heard = record { until = 0; any = false; sequence = 0; anycip = false; cip = 0 };
       sent = record { sequence = 0; cip = 0; due = Never };
     }
@@ -203,8 +223,8 @@ fileExamples =
     reads device 0x37 0xC8 1 (2 ∷ []) ∷
     -- 01 "eng" DA 04 00, 18 and "EDS and Icon Files"
     reads device 0x37 0xC8 2
-      (0x01 ∷ 0x65 ∷ 0x6E ∷ 0x67 ∷ 0xDA ∷ 0x04 ∷ 0x00 ∷ 18
-      ∷ 0x45 ∷ 0x44 ∷ 0x53 ∷ 0x20 ∷ 0x61 ∷ 0x6E ∷ 0x64 ∷ 0x20 ∷ 0x49 ∷ 0x63 ∷ 0x6F ∷ 0x6E ∷ 0x20 ∷ 0x46 ∷ 0x69 ∷ 0x6C ∷ 0x65 ∷ 0x73 ∷ []) ∷
+    (0x01 ∷ 0x65 ∷ 0x6E ∷ 0x67 ∷ 0xDA ∷ 0x04 ∷ 0x00 ∷ 18
+    ∷ 0x45 ∷ 0x44 ∷ 0x53 ∷ 0x20 ∷ 0x61 ∷ 0x6E ∷ 0x64 ∷ 0x20 ∷ 0x49 ∷ 0x63 ∷ 0x6F ∷ 0x6E ∷ 0x20 ∷ 0x46 ∷ 0x69 ∷ 0x6C ∷ 0x65 ∷ 0x73 ∷ []) ∷
     reads device 0x37 0xC8 3 (1 ∷ 0 ∷ []) ∷
     reads device 0x37 0xC8 4 (0x01 ∷ 0x65 ∷ 0x6E ∷ 0x67 ∷ 0xDA ∷ 0x04 ∷ 0x00 ∷ 3 ∷ 0x61 ∷ 0x2E ∷ 0x65 ∷ []) ∷
     reads device 0x37 0xC8 5 (2 ∷ 3 ∷ []) ∷

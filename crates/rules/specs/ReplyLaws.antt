@@ -108,9 +108,11 @@ module _ (eds : List ℕ) where
 
 module _ (limit size : ℕ) (p : Position) where
   tested : all (positionTests limit size p) ≡ true → (1 ≤ p .size) × (p .size ≤ limit) × (p .offset ≤ size)
-  tested e =
-      (leb-true _ _ (all-at (positionTests limit size p) e 0), leb-true _ _ (all-at (positionTests limit size p) e 1),
-      leb-true _ _ (all-at (positionTests limit size p) e 2))
+  tested e = (
+    leb-true _ _ (all-at (positionTests limit size p) e 0),
+    leb-true _ _ (all-at (positionTests limit size p) e 1),
+    leb-true _ _ (all-at (positionTests limit size p) e 2),
+  )
 
   passes : 1 ≤ p .size → p .size ≤ limit → p .offset ≤ size → lastOk size (p .last) ≡ true → all (positionTests limit size p) ≡ true
   unfolding all
@@ -200,9 +202,34 @@ module _ (st : State) (local mask : ℕ) (sized : Sized st) where
 
   file-attributes-short : (eds : List ℕ) → Short 512 (fileAttributes (st .setup) eds)
   unfolding fileAttributes taggedText shortString bytesLe
-  file-attributes-short eds =
-      (omega arith, (omega arith, (omega arith, (omega (arith, sized .edsName), (omega arith, (omega arith, (omega arith, (omega arith, (omega arith,
-      (omega arith, (omega arith, tt)))))))))))
+  file-attributes-short eds = (
+    omega arith,
+    (
+      omega arith,
+      (
+        omega arith,
+        (
+          omega (arith, sized .edsName),
+          (
+            omega arith,
+            (
+              omega arith,
+              (
+                omega arith,
+                (
+                  omega arith,
+                  (
+                    omega arith,
+                    (omega arith, (omega arith, tt)),
+                  ),
+                ),
+              ),
+            ),
+          ),
+        ),
+      ),
+    ),
+  )
 
   module _ (up : Upload) (ok : uploadOk (st .setup) up ≡ true) where
     size-held : (p : Position) → up ≡ Under p → p .size ≤ 255

@@ -246,5 +246,6 @@ module _ (eds : List ℕ) (limit wanted : ℕ) (ms : List Move) where
           let l : k * clamped limit wanted + clamped limit wanted < length eds = leb-false _ _ (sym (ended-after eds (clamped limit wanted) k) ∙ e) in
           let m : nexts ms ≡ suc k = omega arith in
           absurd (let w : length eds ≤ suc k * clamped limit wanted = rw m at g in omega arith)
+
       go : Reached eds (clamped limit wanted) uploads (0 + nexts ms) → ended uploads ≡ true
       go r = ap ended (r .is) ∙ by (r .turns) (ended (after eds (clamped limit wanted) (r .turns))) refl (r .all)

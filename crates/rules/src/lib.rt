@@ -2,6 +2,7 @@
 // Here stand the types that code passes by value; specs/State.antt has the whole state, and the other files of specs/
 // the rules, in document 01's order and words.
 pub mod objects;
+
 use ids::OtId;
 use ids::ToId;
 use ids::Triad;
