@@ -11,3 +11,4 @@ pub mod Receiving
 pub mod Producing
 pub mod Host
 pub mod Calls
+pub mod Examples
