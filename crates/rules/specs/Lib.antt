@@ -12,3 +12,4 @@ pub mod Producing
 pub mod Host
 pub mod Calls
 pub mod Examples
+pub mod ListLaws

@@ -1,0 +1,3 @@
+pub mod Names
+pub mod Ends
+pub mod Survive
