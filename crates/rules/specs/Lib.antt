@@ -19,3 +19,5 @@ pub mod UploadLaws
 pub mod UploadMessages
 pub mod ReplyLaws
 pub mod ObjectExamples
+pub mod Examples
+pub mod ListLaws
