@@ -1,4 +1,4 @@
--- The usual head of an I/O frame, at fixed offsets: what the quick way tests. No public contract cites it.
+-- The usual head of an I/O frame at fixed offsets, as the code reads and writes it. No public contract cites it.
 use Prim.Native.Nat.{ℕ, _≤_}
 use mathlib.Core.Bool.{Bool}
 use mathlib.Core.Path.{_≡_}
@@ -29,3 +29,10 @@ pub record Head (s : List ℕ) : Type 0 where
 abbrev pub otherOf : Whole → IoFrame
 otherOf Good = NotIo
 otherOf (BrokenAt o) = Broken o
+
+-- a frame's numbers before the data, with their widths
+abbrev pub frontWidths : List ℕ
+frontWidths = 2 ∷ 2 ∷ 2 ∷ 4 ∷ 4 ∷ 2 ∷ 2 ∷ 2 ∷ []
+
+abbrev pub frontValues : ℕ → ℕ → ℕ → ℕ → List ℕ
+frontValues id sequence cip size = 2 ∷ 0x8002 ∷ 8 ∷ id ∷ sequence ∷ 0xB1 ∷ size ∷ cip ∷ []

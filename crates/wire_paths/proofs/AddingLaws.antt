@@ -3,17 +3,16 @@ use Prim.Native.Nat.{ℕ, suc, _+_, _≤_, _<_, min}
 use mathlib.Core.Path.{_≡_, refl, sym, ap, _∙_}
 use mathlib.Core.Bool.{Bool, true, false}
 use mathlib.Core.List.{List, [], _∷_, _++_, append-nil, append-assoc}
-use lib.ListN.{length, getD, length-append}
+use lib.ListN.{length, getD}
 use lib.Dec.{T, ltb, ltb→lt, eqb}
 use native.Mathlib.Nat.{min-eq-right}
 use native.Mathlib.Omega.{arith}
 use Rattle.cells.specs.Pick.{pick}
-use Rattle.wire_paths.specs.ConnectionPath.{gather, some, last, key, class, number, place, bar, noKey, connectionPath}
+use Rattle.wire_paths.specs.ConnectionPath.{gather, some, last, connectionPath}
 use Rattle.wire_paths.specs.Adding.{withBar, withKey, withClass, withNumber, withData, added}
 use Rattle.wire_paths.specs.declared.Key.{Key}
 use Rattle.wire_paths.specs.declared.Seg.{Seg}
 use Rattle.wire_paths.specs.declared.Seg.the-variants.{Port, Class, Instance, Point, Attribute, Keyed, Data}
-use Rattle.wire_paths.specs.declared.ConnectionPath.{ConnectionPath}
 
 -- ---- lists with one more at the end
 

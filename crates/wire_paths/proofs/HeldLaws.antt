@@ -2,7 +2,7 @@
 use Prim.Native.Nat.{ℕ}
 use mathlib.Core.Path.{_≡_, sym, _∙_, ap}
 use mathlib.Core.List.{List, [], _∷_, _++_}
-use Rattle.wire_paths.specs.Segments.{stepAt, segs, broken, segsOf}
+use Rattle.wire_paths.specs.Segments.{stepAt}
 use Rattle.wire_paths.specs.WalkLaws.{Passed, passed-none, passed-more, passed-all, passed-broken}
 use Rattle.wire_paths.specs.ConnectionPath.{connectionPath, pathAnswer, pathOf}
 use Rattle.wire_paths.specs.Adding.{added}

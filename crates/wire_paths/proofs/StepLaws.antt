@@ -1,6 +1,6 @@
 -- What each kind of segment is, case by case.
 use Prim.Native.Nat.{ℕ, _+_, _*_, _/_, _%_, _<_, _≤_}
-use mathlib.Core.Path.{_≡_, refl, sym, ap, _∙_}
+use mathlib.Core.Path.{_≡_, refl}
 use mathlib.Core.Bool.{Bool, true, false}
 use mathlib.Core.List.{List}
 use lib.ListN.{length, getD}
@@ -9,7 +9,7 @@ use native.Mathlib.Omega.{arith}
 use borrow.Author.Tests.{le-leb, lt-leb, eq-eqb, ne-eqb, lt-ltb, le-ltb}
 use Rattle.cells.specs.Pick.{pick}
 use Rattle.cells.specs.Numbers.{le}
-use Rattle.wire_paths.specs.Segments.{upTo, evenUp, portOffset, linkOffset, linkSize, portOf, portAt, logicalAt, keyOf, keyAt, dataAt, between, segAt, pathMax, stepAt}
+use Rattle.wire_paths.specs.Segments.{evenUp, portOffset, linkOffset, linkSize, portOf, portAt, logicalAt, keyOf, keyAt, dataAt, between, segAt, pathMax, stepAt}
 use Rattle.wire_paths.specs.declared.Key.{Key}
 use Rattle.wire_paths.specs.declared.Seg.{Seg}
 use Rattle.wire_paths.specs.declared.Seg.the-variants.{Port, Class, Instance, Point, Attribute, Keyed, Data}

@@ -2,13 +2,13 @@
 use Prim.Native.Nat.{ℕ}
 use mathlib.Core.Path.{_≡_, refl}
 use mathlib.Core.Bool.{Bool, true, false}
-use mathlib.Core.List.{List, [], _∷_, _++_}
+use mathlib.Core.List.{List, [], _∷_}
 use Rattle.cells.specs.Numbers.{le, leOf}
 use Rattle.wire_paths.specs.Segments.{segs, broken, portOffset, linkOffset, linkSize, portOf, portAt, logicalAt, keyOf, keyAt, dataAt, between, segAt, stepAt, segsFrom, segsOf}
 use Rattle.wire_paths.specs.ConnectionPath.{gather, some, last, noKey, connectionPath, pathOf}
 use Rattle.wire_paths.specs.declared.Key.{Key}
 use Rattle.wire_paths.specs.declared.Seg.{Seg}
-use Rattle.wire_paths.specs.declared.Seg.the-variants.{Port, Class, Instance, Point, Attribute, Keyed, Data}
+use Rattle.wire_paths.specs.declared.Seg.the-variants.{Port, Class, Instance, Point, Attribute}
 use Rattle.wire_paths.specs.declared.PathAnswer.{PathAnswer}
 use Rattle.wire_paths.specs.declared.PathAnswer.the-variants.{Parsed, Unparsed}
 

@@ -1,6 +1,6 @@
 -- What holds of every path: its segments cover it, every link and data segment lies inside its own segment, and a broken
 -- offset lies inside the path.
-use Prim.Native.Nat.{ℕ, zero, suc, _+_, _*_, _/_, _%_, _<_, _≤_}
+use Prim.Native.Nat.{ℕ, zero, suc, _+_, _/_, _%_, _<_, _≤_}
 use mathlib.Core.Path.{_≡_, refl, sym, _∙_, ap, subst}
 use mathlib.Core.Bool.{Bool, true, false}
 use mathlib.Core.List.{List, [], _∷_, map}
@@ -10,6 +10,9 @@ use native.Mathlib.Omega.{arith}
 use borrow.Author.Tests.{ltb-true, ltb-false, eqb-true, eqb-false, le-ltb, eq-eqb}
 use Rattle.cells.specs.Pick.{pick}
 use Rattle.wire_paths.specs.Segments.{upTo, evenUp, portOffset, linkOffset, linkSize, portAt, logicalAt, keyAt, dataAt, between, segAt, pathMax, stepAt, Segs, segs, broken, cons, follow, segsFrom, segsOf}
+use Rattle.wire_paths.specs.ConnectionPath.{gather, last, place, connectionPath, pathAnswer, pathOf}
+use Rattle.wire_paths.specs.declared.ConnectionPath.{ConnectionPath}
+use Rattle.wire_paths.specs.declared.PathAnswer.the-variants.{Parsed}
 use Rattle.wire_paths.specs.declared.Key.{Key}
 use Rattle.wire_paths.specs.declared.Seg.{Seg}
 use Rattle.wire_paths.specs.declared.Seg.the-variants.{Port, Class, Instance, Point, Attribute, Keyed, Data}
@@ -210,3 +213,33 @@ module _ (s : List ℕ) where
   -- every link and every data segment lies inside the path
   pub places-inside : (l : List Seg) → segsOf s ≡ segs l → All (Lies 0 (length s)) l
   places-inside l e = let c = path-covered s l e in rw (← c .these) (chain-inside (c .chain))
+
+-- ---- the data that an open reads
+
+module _ (n : ℕ) where
+  last-inside : (d : ℕ × ℕ) → d .0 + d .1 ≤ n → (l : List Seg) → All (Lies 0 n) l → last d (gather place l) .0 + last d (gather place l) .1 ≤ n
+  unfolding gather last
+  last-inside d h [] a = h
+  last-inside d h (Port p start len ∷ l) a = last-inside d h l (a .1)
+  last-inside d h (Class v ∷ l) a = last-inside d h l (a .1)
+  last-inside d h (Instance v ∷ l) a = last-inside d h l (a .1)
+  last-inside d h (Point v ∷ l) a = last-inside d h l (a .1)
+  last-inside d h (Attribute v ∷ l) a = last-inside d h l (a .1)
+  last-inside d h (Keyed k ∷ l) a = last-inside d h l (a .1)
+  last-inside d h (Data start len ∷ l) a = last-inside (start, len) (ends (a .0)) l (a .1)
+    where
+      ends : Lies 0 n (Data start len) → start + len ≤ n
+      ends (bytes f g) = g
+
+-- the configuration data that an open reads lies inside the path
+pub data-inside : (s : List ℕ) (p : ConnectionPath) → Parsed p ≡ pathOf s → p .datastart + p .datalen ≤ length s
+unfolding pathOf connectionPath
+data-inside s p e = go (segsOf s) refl e
+  where
+    go : (r : Segs) → segsOf s ≡ r → Parsed p ≡ pathAnswer r → p .datastart + p .datalen ≤ length s
+    go (segs l) q f =
+        let d : p .datastart ≡ last (0, 0) (gather place l) .0 = cc in
+        let n : p .datalen ≡ last (0, 0) (gather place l) .1 = cc in
+        let h : last (0, 0) (gather place l) .0 + last (0, 0) (gather place l) .1 ≤ length s = last-inside (length s) (0, 0) (omega arith) l (places-inside s l q) in
+        omega arith
+    go (broken o) q f = absurd (let z : _≡_ {A = ℕ} 0 1 = cc in omega arith)

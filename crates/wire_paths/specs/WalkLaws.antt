@@ -7,7 +7,6 @@ use native.Mathlib.Omega.{arith}
 use Rattle.wire_paths.specs.Segments.{stepAt, Segs, segs, broken, cons, segsFrom, segsOf}
 use Rattle.wire_paths.specs.PathLaws.{segment-found}
 use Rattle.wire_paths.specs.declared.Seg.{Seg}
-use Rattle.wire_paths.specs.declared.SegStep.{SegStep}
 use Rattle.wire_paths.specs.declared.SegStep.the-variants.{Segment, End, Broken}
 
 -- the segments l, and then the rest
@@ -62,3 +61,52 @@ module _ (s : List ℕ) (at : ℕ) (l : List Seg) where
 
     pub passed-broken : (o : ℕ) → Broken o ≡ stepAt s at → segsOf s ≡ broken o
     passed-broken = stopped (p .left) (p .enough) (p .inside) (p .same)
+
+-- ---- a path that parses, read segment by segment
+
+-- the segments l stand from `at` to the end
+pub record Ahead (s : List ℕ) (at : ℕ) (l : List Seg) : Type 0 where
+  pub left : ℕ
+  pub same : segs l ≡ segsFrom left s at
+
+pub ahead-all : (s : List ℕ) (l : List Seg) → segsOf s ≡ segs l → Ahead s 0 l
+unfolding segsOf
+ahead-all s l e = record { left = length s + 1; same = sym e }
+
+-- the segment x, and then those from `next` on
+pub record Then (s : List ℕ) (x : Seg) (next : ℕ) (l : List Seg) : Type 0 where
+  pub rest : List Seg
+  pub is : l ≡ x ∷ rest
+  pub ahead : Ahead s next rest
+
+module _ (s : List ℕ) (at : ℕ) where
+  one-ahead : (n : ℕ) (l : List Seg) (x : Seg) (next : ℕ) (r : Segs) → r ≡ segsFrom n s next → segs l ≡ cons x r → Then s x next l
+  one-ahead n l x next (segs m) q e = record { rest = m; is = cc; ahead = record { left = n; same = q } }
+  one-ahead n l x next (broken o) q e = absurd (let z : _≡_ {A = ℕ} 0 1 = cc in omega arith)
+
+  then : (n : ℕ) (l : List Seg) → segs l ≡ segsFrom n s at → (x : Seg) (next : ℕ) → Segment x next ≡ stepAt s at → Then s x next l
+  unfolding segsFrom
+  then zero l e x next q = absurd (let z : _≡_ {A = ℕ} 0 1 = cc in omega arith)
+  then (suc n) l e x next q = one-ahead n l x next (segsFrom n s next) refl (simp (← q) at e)
+
+  none-ahead : (n : ℕ) (l : List Seg) → segs l ≡ segsFrom n s at → End ≡ stepAt s at → l ≡ []
+  unfolding segsFrom
+  none-ahead zero l e q = cc
+  none-ahead (suc n) l e q = let g : segs l ≡ segs [] = simp (← q) at e in cc
+
+  not-ahead : (n : ℕ) (l : List Seg) → segs l ≡ segsFrom n s at → (o : ℕ) → Broken o ≡ stepAt s at → ⊥
+  unfolding segsFrom
+  not-ahead zero l e o q = let z : _≡_ {A = ℕ} 0 1 = cc in omega arith
+  not-ahead (suc n) l e o q =
+      let g : segs l ≡ broken o = simp (← q) at e in
+      let z : _≡_ {A = ℕ} 0 1 = cc in omega arith
+
+  module _ (l : List Seg) (a : Ahead s at l) where
+    pub ahead-then : (x : Seg) (next : ℕ) → Segment x next ≡ stepAt s at → Then s x next l
+    ahead-then = then (a .left) l (a .same)
+
+    pub ahead-end : End ≡ stepAt s at → l ≡ []
+    ahead-end = none-ahead (a .left) l (a .same)
+
+    pub ahead-whole : (o : ℕ) → Broken o ≡ stepAt s at → ⊥
+    ahead-whole = not-ahead (a .left) l (a .same)

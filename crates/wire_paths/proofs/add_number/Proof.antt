@@ -1,25 +1,18 @@
 use native.Mathlib.Omega.{arith}
 use borrow.Author.Tests.{ne-eqb}
 use Rattle.wire_paths.proofs.AddingLaws.{count-stops}
-use borrow.Author.Needs.{needs}
 use Rattle.wire_paths.proofs.add_number.Statement.{statement}
 use Rattle.wire_paths.proofs.add_number.Tie as tie
-use Rattle.wire_paths.proofs.add_number.Reads as reads
-use Rattle.wire_paths.proofs.add_number.Lts as lts
 
--- src/lib.rt:306:9
 returns : tie.Need-returns
 returns c = simp (c .if1 .taken)
 
--- src/lib.rt:311:9
 returns-2 : tie.Need-returns-2
 returns-2 c = simp (c .if2 .taken)
 
--- src/lib.rt:316:9
 returns-3 : tie.Need-returns-3
 returns-3 c = simp (c .if3 .taken)
 
--- src/lib.rt:299:1
 returns-4 : tie.Need-returns-4
 returns-4 c = simp (count-stops (c .before .before .before .args .held .count) (omega arith), ne-eqb _ _ (c .if3 .left), ne-eqb _ _ (c .before .if2 .left), ne-eqb _ _ (c .before .before .if1 .left))
 

@@ -2,51 +2,37 @@ use Rattle.wire_paths.specs.Segments.{keyOf}
 use borrow.Author.Needs.{needs}
 use Rattle.wire_paths.proofs.key_of.Statement.{statement}
 use Rattle.wire_paths.proofs.key_of.Tie as tie
-use Rattle.wire_paths.proofs.key_of.Reads as reads
-use Rattle.wire_paths.proofs.key_of.Lts as lts
-use Rattle.cells.proofs.u16_at.Reads as u16-at-reads
 
--- src/lib.rt:196:30
 add-u16-at : tie.Need-add-u16-at
 add-u16-at c = search needs
 
--- src/lib.rt:196:17
 u16-at-requires : tie.Need-u16-at-requires
 u16-at-requires c κs = search needs
 
--- src/lib.rt:197:30
 add-u16-at-2 : tie.Need-add-u16-at-2
 add-u16-at-2 c = search needs
 
--- src/lib.rt:197:17
 u16-at-requires-2 : tie.Need-u16-at-requires-2
 u16-at-requires-2 c κs = search needs
 
--- src/lib.rt:198:31
 add-u16-at-3 : tie.Need-add-u16-at-3
 add-u16-at-3 c = search needs
 
--- src/lib.rt:198:18
 u16-at-requires-3 : tie.Need-u16-at-requires-3
 u16-at-requires-3 c κs = search needs
 
--- src/lib.rt:199:21
 add-t9 : tie.Need-add-t9
 add-t9 c = search needs
 
--- src/lib.rt:199:16
 shared-slice-read-t11 : tie.Need-shared-slice-read-t11
 shared-slice-read-t11 c = search needs
 
--- src/lib.rt:200:21
 add-t12 : tie.Need-add-t12
 add-t12 c = search needs
 
--- src/lib.rt:200:16
 shared-slice-read-t14 : tie.Need-shared-slice-read-t14
 shared-slice-read-t14 c = search needs
 
--- src/lib.rt:191:1
 returns : tie.Need-returns
 unfolding keyOf
 returns c = cc

@@ -3,98 +3,70 @@ use Rattle.wire_paths.proofs.StepLaws.{short8, short16, short32, logica
 use borrow.Author.Needs.{needs}
 use Rattle.wire_paths.proofs.logical_at.Statement.{statement}
 use Rattle.wire_paths.proofs.logical_at.Tie as tie
-use Rattle.wire_paths.proofs.logical_at.Reads as reads
-use Rattle.wire_paths.proofs.logical_at.Lts as lts
-use Rattle.cells.proofs.u16_at.Reads as u16-at-reads
-use Rattle.cells.proofs.u32_at.Reads as u32-at-reads
-use Rattle.wire_paths.proofs.named.Reads as named-reads
-use Rattle.wire_paths.proofs.wide32.Reads as wide32-reads
 
--- src/lib.rt:162:16
 sub-left : tie.Need-sub-left
 sub-left c = search needs
 
--- src/lib.rt:163:17
 shared-slice-read-width : tie.Need-shared-slice-read-width
 shared-slice-read-width c = search needs
 
--- src/lib.rt:166:13
 returns : tie.Need-returns
 returns c = short8 _ _ _ (omega arith) (omega arith)
 
--- src/lib.rt:169:42
 add-wide32 : tie.Need-add-wide32
 add-wide32 c = search needs
 
--- src/lib.rt:169:37
 shared-slice-read-wide32 : tie.Need-shared-slice-read-wide32
 shared-slice-read-wide32 c = search needs
 
--- src/lib.rt:169:30
 wide32-requires : tie.Need-wide32-requires
 wide32-requires c κs = search needs
 
--- src/lib.rt:169:18
 named-requires : tie.Need-named-requires
 named-requires c κs = search needs
 
--- src/lib.rt:170:19
 add-t16 : tie.Need-add-t16
 add-t16 c = search needs
 
--- src/lib.rt:168:9
 returns-2 : tie.Need-returns-2
 returns-2 c = logical8 _ _ _ _ _ (c .named .ensures) (omega arith) (omega arith) (search needs)
 
--- src/lib.rt:175:13
 returns-3 : tie.Need-returns-3
 returns-3 c = short16 _ _ _ (omega arith) (omega arith)
 
--- src/lib.rt:178:43
 add-u16-at : tie.Need-add-u16-at
 add-u16-at c = search needs
 
--- src/lib.rt:178:30
 u16-at-requires : tie.Need-u16-at-requires
 u16-at-requires c κs = search needs
 
--- src/lib.rt:178:30
 cast-named : tie.Need-cast-named
 cast-named c = search needs
 
--- src/lib.rt:178:18
 named-requires-2 : tie.Need-named-requires-2
 named-requires-2 c κs = search needs
 
--- src/lib.rt:179:19
 add-t22 : tie.Need-add-t22
 add-t22 c = search needs
 
--- src/lib.rt:177:9
 returns-4 : tie.Need-returns-4
 returns-4 c = logical16 _ _ _ _ _ (c .named2 .ensures) (omega arith) (omega arith) (search needs)
 
--- src/lib.rt:183:9
 returns-5 : tie.Need-returns-5
 returns-5 c = short32 _ _ _ (omega arith) (omega arith) (omega arith)
 
--- src/lib.rt:186:39
 add-u32-at : tie.Need-add-u32-at
 add-u32-at c = search needs
 
--- src/lib.rt:186:26
 u32-at-requires : tie.Need-u32-at-requires
 u32-at-requires c κs = search needs
 
--- src/lib.rt:186:14
 named-requires-3 : tie.Need-named-requires-3
 named-requires-3 c κs = search needs
 
--- src/lib.rt:187:15
 add-t25 : tie.Need-add-t25
 add-t25 c = search needs
 
--- src/lib.rt:158:1
 returns-6 : tie.Need-returns-6
 returns-6 c = logical32 _ _ _ _ _ (c .named3 .ensures) (omega arith) (omega arith) (omega arith) (search needs)
 

@@ -1,38 +1,28 @@
 use borrow.Author.Needs.{needs}
 use Rattle.wire_paths.proofs.named.Statement.{statement}
 use Rattle.wire_paths.proofs.named.Tie as tie
-use Rattle.wire_paths.proofs.named.Reads as reads
-use Rattle.wire_paths.proofs.named.Lts as lts
 
--- src/lib.rt:151:27
 enum-told : tie.Need-enum-told
 enum-told c = search needs
 
--- src/lib.rt:152:30
 enum-told-2 : tie.Need-enum-told-2
 enum-told-2 c = search needs
 
--- src/lib.rt:153:27
 enum-told-3 : tie.Need-enum-told-3
 enum-told-3 c = search needs
 
--- src/lib.rt:154:31
 enum-told-4 : tie.Need-enum-told-4
 enum-told-4 c = search needs
 
--- src/lib.rt:147:1
 returns : tie.Need-returns
 returns c = rw (c .enum-told .given .1)
 
--- src/lib.rt:147:1
 returns-2 : tie.Need-returns-2
 returns-2 c = rw (c .enum-told2 .given .1)
 
--- src/lib.rt:147:1
 returns-3 : tie.Need-returns-3
 returns-3 c = rw (c .enum-told3 .given .1)
 
--- src/lib.rt:147:1
 returns-4 : tie.Need-returns-4
 returns-4 c = rw (c .enum-told4 .given .1)
 

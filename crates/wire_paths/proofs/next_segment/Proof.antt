@@ -3,27 +3,19 @@ use Rattle.wire_paths.proofs.StepLaws.{step-over, step-end, step-past, 
 use borrow.Author.Needs.{needs}
 use Rattle.wire_paths.proofs.next_segment.Statement.{statement}
 use Rattle.wire_paths.proofs.next_segment.Tie as tie
-use Rattle.wire_paths.proofs.next_segment.Reads as reads
-use Rattle.wire_paths.proofs.next_segment.Lts as lts
-use Rattle.wire_paths.proofs.seg_at.Reads as seg-at-reads
 
--- src/lib.rt:260:9
 returns : tie.Need-returns
 returns c = step-over _ _ (omega arith)
 
--- src/lib.rt:263:9
 returns-2 : tie.Need-returns-2
 returns-2 c = step-end _ _ (omega arith) (omega arith)
 
--- src/lib.rt:266:9
 returns-3 : tie.Need-returns-3
 returns-3 c = step-past _ _ (omega arith) (omega arith)
 
--- src/lib.rt:268:5
 seg-at-requires : tie.Need-seg-at-requires
 seg-at-requires c κs = search needs
 
--- src/lib.rt:256:1
 returns-4 : tie.Need-returns-4
 returns-4 c = step-seg _ _ _ (omega arith) (omega arith) (search needs)
 

@@ -7,11 +7,6 @@ use Rattle.wire_paths.proofs.HeldLaws.{Held, held-none, held-more, held
 use borrow.Author.Needs.{needs}
 use Rattle.wire_paths.proofs.parse_path.Statement.{statement}
 use Rattle.wire_paths.proofs.parse_path.Tie as tie
-use Rattle.wire_paths.proofs.parse_path.Reads as reads
-use Rattle.wire_paths.proofs.parse_path.Lts as lts
-use Rattle.wire_paths.proofs.add_segment.Reads as add-segment-reads
-use Rattle.wire_paths.proofs.next_segment.Reads as next-segment-reads
-use Rattle.wire_paths.proofs.nothing_read.Reads as nothing-read-reads
 
 abbrev Inv-loop : tie.InvT-loop
 Inv-loop path held₀ at₀ held at = Held path at held
@@ -19,47 +14,36 @@ Inv-loop path held₀ at₀ held at = Held path at held
 abbrev μ-loop : tie.MeasureT-loop
 μ-loop path held₀ at₀ held at = length path - at
 
--- src/lib.rt:362:9
 nothing-read-requires : tie.Need-nothing-read-requires Inv-loop μ-loop
 nothing-read-requires c κs = search needs
 
--- src/lib.rt:364:5
 loop-holds : tie.Need-loop-holds Inv-loop μ-loop
 loop-holds c = held-none _ _ (c .nothing-read .ensures)
 
--- src/lib.rt:365:15
 next-segment-requires : tie.Need-next-segment-requires Inv-loop μ-loop
 next-segment-requires c κs = search needs
 
--- src/lib.rt:366:32
 enum-known-seg : tie.Need-enum-known-seg Inv-loop μ-loop
 enum-known-seg c = search needs
 
--- src/lib.rt:367:17
 add-segment-requires : tie.Need-add-segment-requires Inv-loop μ-loop
 add-segment-requires c κs = search needs
 
--- src/lib.rt:364:5
 loop-less : tie.Need-loop-less Inv-loop μ-loop
 loop-less c = omega (arith, segment-found _ _ _ _ (sym (c .before .before .seg .given .1) ∙ c .before .before .before .before .next-segment .ensures))
 
--- src/lib.rt:364:5
 loop-again : tie.Need-loop-again Inv-loop μ-loop
 loop-again c = held-more _ _ _ (c .before .before .before .before .before .loop .inv) _ _ _ (sym (c .before .before .seg .given .1) ∙ c .before .before .before .before .next-segment .ensures) (c .add-segment .ensures)
 
--- src/lib.rt:371:17
 enum-told : tie.Need-enum-told Inv-loop μ-loop
 enum-told c = search needs
 
--- src/lib.rt:371:17
 returns : tie.Need-returns Inv-loop μ-loop
 returns c = held-all _ _ _ (c .before .before .before .loop .inv) (sym (c .enum-told .given .1) ∙ c .before .before .next-segment .ensures)
 
--- src/lib.rt:373:29
 enum-known-offset : tie.Need-enum-known-offset Inv-loop μ-loop
 enum-known-offset c = search needs
 
--- src/lib.rt:374:17
 returns-2 : tie.Need-returns-2 Inv-loop μ-loop
 returns-2 c = held-broken _ _ _ (c .before .before .before .before .loop .inv) _ (sym (c .before .offset .given .1) ∙ c .before .before .before .next-segment .ensures)
 

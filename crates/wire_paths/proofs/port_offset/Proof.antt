@@ -1,16 +1,11 @@
 use native.Mathlib.Omega.{arith}
 use Rattle.wire_paths.proofs.StepLaws.{offset-sized, offset-plain}
-use borrow.Author.Needs.{needs}
 use Rattle.wire_paths.proofs.port_offset.Statement.{statement}
 use Rattle.wire_paths.proofs.port_offset.Tie as tie
-use Rattle.wire_paths.proofs.port_offset.Reads as reads
-use Rattle.wire_paths.proofs.port_offset.Lts as lts
 
--- src/lib.rt:81:9
 returns : tie.Need-returns
 returns c = (offset-sized _ (omega arith), (omega arith), (omega arith))
 
--- src/lib.rt:77:1
 returns-2 : tie.Need-returns-2
 returns-2 c = (offset-plain _ (omega arith), (omega arith), (omega arith))
 

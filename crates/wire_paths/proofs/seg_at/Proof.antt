@@ -3,86 +3,61 @@ use Rattle.wire_paths.proofs.StepLaws.{seg-port, seg-class, seg-instanc
 use borrow.Author.Needs.{needs}
 use Rattle.wire_paths.proofs.seg_at.Statement.{statement}
 use Rattle.wire_paths.proofs.seg_at.Tie as tie
-use Rattle.wire_paths.proofs.seg_at.Reads as reads
-use Rattle.wire_paths.proofs.seg_at.Lts as lts
-use Rattle.wire_paths.proofs.data_at.Reads as data-at-reads
-use Rattle.wire_paths.proofs.key_at.Reads as key-at-reads
-use Rattle.wire_paths.proofs.logical_at.Reads as logical-at-reads
-use Rattle.wire_paths.proofs.port_at.Reads as port-at-reads
 
--- src/lib.rt:242:17
 shared-slice-read-first : tie.Need-shared-slice-read-first
 shared-slice-read-first c = search needs
 
--- src/lib.rt:249:17
 key-at-requires : tie.Need-key-at-requires
 key-at-requires c κs = search needs
 
--- src/lib.rt:250:17
 data-at-requires : tie.Need-data-at-requires
 data-at-requires c κs = search needs
 
--- src/lib.rt:244:24
 port-at-requires : tie.Need-port-at-requires
 port-at-requires c κs = search needs
 
--- src/lib.rt:245:24
 logical-at-requires : tie.Need-logical-at-requires
 logical-at-requires c κs = search needs
 
--- src/lib.rt:246:24
 logical-at-requires-2 : tie.Need-logical-at-requires-2
 logical-at-requires-2 c κs = search needs
 
--- src/lib.rt:247:24
 logical-at-requires-3 : tie.Need-logical-at-requires-3
 logical-at-requires-3 c κs = search needs
 
--- src/lib.rt:248:24
 logical-at-requires-4 : tie.Need-logical-at-requires-4
 logical-at-requires-4 c κs = search needs
 
--- src/lib.rt:238:1
 returns : tie.Need-returns
 returns c = seg-key _ _ _ (omega arith) (search needs)
 
--- src/lib.rt:238:1
 returns-2 : tie.Need-returns-2
 returns-2 c = seg-data _ _ _ (omega arith) (search needs)
 
--- src/lib.rt:238:1
 returns-3 : tie.Need-returns-3
 returns-3 c = seg-port _ _ _ (omega arith) (search needs)
 
--- src/lib.rt:238:1
 returns-4 : tie.Need-returns-4
 returns-4 c = seg-class _ _ _ (omega arith) (omega arith) (c .logical-at .ensures)
 
--- src/lib.rt:238:1
 returns-5 : tie.Need-returns-5
 returns-5 c = seg-instance _ _ _ (omega arith) (omega arith) (c .logical-at2 .ensures)
 
--- src/lib.rt:238:1
 returns-6 : tie.Need-returns-6
 returns-6 c = seg-point _ _ _ (omega arith) (omega arith) (c .logical-at3 .ensures)
 
--- src/lib.rt:238:1
 returns-7 : tie.Need-returns-7
 returns-7 c = seg-attribute _ _ _ (omega arith) (omega arith) (c .logical-at4 .ensures)
 
--- src/lib.rt:238:1
 returns-8 : tie.Need-returns-8
 returns-8 c = seg-gap _ _ (omega arith) (omega arith) (omega arith) (omega arith) (omega arith) (omega arith) (omega arith)
 
--- src/lib.rt:238:1
 returns-9 : tie.Need-returns-9
 returns-9 c = seg-gap _ _ (omega arith) (omega arith) (omega arith) (omega arith) (omega arith) (omega arith) (omega arith)
 
--- src/lib.rt:238:1
 returns-10 : tie.Need-returns-10
 returns-10 c = seg-gap _ _ (omega arith) (omega arith) (omega arith) (omega arith) (omega arith) (omega arith) (omega arith)
 
--- src/lib.rt:238:1
 returns-11 : tie.Need-returns-11
 returns-11 c = seg-gap _ _ (omega arith) (omega arith) (omega arith) (omega arith) (omega arith) (omega arith) (omega arith)
 
