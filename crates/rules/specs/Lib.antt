@@ -11,6 +11,8 @@ pub mod Receiving
 pub mod Producing
 pub mod Host
 pub mod Calls
+pub mod Examples
+pub mod ListLaws
 pub mod Attributes
 pub mod Upload
 pub mod Objects
@@ -19,5 +21,3 @@ pub mod UploadLaws
 pub mod UploadMessages
 pub mod ReplyLaws
 pub mod ObjectExamples
-pub mod Examples
-pub mod ListLaws
