@@ -1,0 +1,108 @@
+// The definition of the adapter: what document 01 says, rule by rule. This crate has types and definitions, no code.
+// Here stand the types that code passes by value; specs/State.antt has the whole state, and the other files of specs/
+// the rules, in document 01's order and words.
+use ids::OtId;
+use ids::ToId;
+use ids::Triad;
+
+// What an assembly is for: 1, 2 and 3 in numbers.
+pub enum AssemblyKind {
+    Input,
+    Output,
+    Config,
+}
+
+// Who a connection serves: the owner of an output, or a reader with a heartbeat of its own.
+pub enum Kind {
+    Owner,
+    InputOnly,
+    ListenOnly,
+}
+
+// An IPv4 address and a UDP port.
+pub struct Socket {
+    pub address: u32,
+    pub port: u16,
+}
+
+// What never changes of a connection after its open. The input and the output are places in the setup's list of
+// assemblies; the output counts for an owner only and is 0 for others.
+pub struct Fixed {
+    pub kind: Kind,
+    pub triad: Triad,
+    pub originator: u32,
+    pub otid: OtId,
+    pub toid: ToId,
+    pub otrpi: u32,
+    pub multiplier: u8,
+    pub torpi: u32,
+    pub input: u8,
+    pub output: u8,
+    pub dest: Socket,
+    pub multicast: bool,
+    pub local: u32,
+}
+
+// What the originator's frames alone change: the time until which the connection lives without another frame (its
+// last receive time, or its open time, plus its timeout), and the last sequence and CIP sequence, if there was any.
+pub struct Heard {
+    pub until: u64,
+    pub any: bool,
+    pub sequence: u32,
+    pub anycip: bool,
+    pub cip: u16,
+}
+
+// When the next packet of a connection is due; one that joined another's stream does not produce.
+pub enum Due {
+    Never,
+    At(u64),
+}
+
+// What produce and hand-over alone change.
+pub struct Sent {
+    pub sequence: u32,
+    pub cip: u16,
+    pub due: Due,
+}
+
+pub struct Conn {
+    pub fixed: Fixed,
+    pub heard: Heard,
+    pub sent: Sent,
+}
+
+// What the host is told of a connection: its assemblies by instance and size, both 0 for no output.
+pub struct Info {
+    pub kind: Kind,
+    pub originator: u32,
+    pub otrpi: u32,
+    pub torpi: u32,
+    pub input: u16,
+    pub inputsize: u16,
+    pub output: u16,
+    pub outputsize: u16,
+    pub multicast: bool,
+    pub otid: OtId,
+    pub toid: ToId,
+}
+
+// What the host is told.
+pub enum Event {
+    Opened(Info),
+    Closed(Info),
+    TimedOut(Info),
+    Configured { instance: u16, length: u16 },
+    OutputChanged(u16),
+}
+
+// Where an open came from: the originator, the local address that it arrived on with its mask, the T→O socket address
+// of the request if one was given, and the port of class 1 frames.
+pub struct Origin {
+    pub peer: u32,
+    pub local: u32,
+    pub mask: u32,
+    pub given: bool,
+    pub socket: Socket,
+    pub ioport: u16,
+}

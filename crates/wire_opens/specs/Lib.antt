@@ -1,0 +1,5 @@
+pub mod Params
+pub mod Requests
+pub mod Transport
+pub mod Timeout
+pub mod Group

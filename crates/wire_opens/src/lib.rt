@@ -1,0 +1,269 @@
+// The Forward Open and Forward Close requests, and the numbers that an open carries. A large open has network parameters
+// of four bytes where a small one has two. Bytes after the path are ignored, and a close's path is not parsed here.
+ghost use mathlib.Core.Path.{_≡_};
+ghost use Prim.Native.Nat.{ℕ, _+_, _*_, _≤_, _<_, _^_, min};
+ghost use lib.ListN.{length};
+ghost use Rattle.cells.specs.Numbers.{le};
+ghost use Rattle.wire_opens.specs.Params.{netOf, smallParams, largeParams, paramsAt};
+ghost use Rattle.wire_opens.specs.Requests.{triadAt, wayAt, fieldsOf, openWith, openOf, closeOf};
+ghost use Rattle.wire_opens.specs.Transport.{transportClass, directionBit, transportOk, compatibleBit, majorOf};
+ghost use Rattle.wire_opens.specs.Timeout.{factorOf, timeoutOf};
+ghost use Rattle.wire_opens.specs.Group.{groupOf};
+use ids::OtId;
+use ids::ToId;
+use ids::Triad;
+
+// How a connection is carried in one direction.
+pub enum NetType {
+    Null,
+    Multicast,
+    PointToPoint,
+    Reserved,
+}
+
+// The network connection parameters of one direction.
+pub struct NetParams {
+    pub size: u32,
+    pub variable: bool,
+    pub net: NetType,
+}
+
+// One direction of a connection, as an open asks for it.
+pub struct Way {
+    pub rpi: u32,
+    pub params: NetParams,
+}
+
+// Bytes of the request, by where they begin and how many they are.
+pub struct Place {
+    pub start: usize,
+    pub len: usize,
+}
+
+// A Forward Open or Large Forward Open request.
+pub struct ForwardOpen {
+    pub otid: OtId,
+    pub toid: ToId,
+    pub triad: Triad,
+    pub multiplier: u8,
+    pub ot: Way,
+    pub to: Way,
+    pub transport: u8,
+    pub path: Place,
+}
+
+pub enum OpenAnswer {
+    Open(ForwardOpen),
+    NoOpen,
+}
+
+pub enum CloseAnswer {
+    Close(Triad),
+    NoClose,
+}
+
+fn net_of(n: u32) -> NetType
+    ensures { λ r. ⌜ r ≡ netOf n ⌝ }
+{
+    match n {
+        0 => NetType::Null,
+        1 => NetType::Multicast,
+        2 => NetType::PointToPoint,
+        _ => NetType::Reserved,
+    }
+}
+
+fn small_params(v: u32) -> NetParams
+    ensures { λ r. ⌜ r ≡ smallParams v ⌝ }
+{
+    NetParams {
+        size: v & 0x01FF,
+        variable: v >> 9 & 1 == 1,
+        net: net_of(v >> 13 & 3),
+    }
+}
+
+fn large_params(v: u32) -> NetParams
+    ensures { λ r. ⌜ r ≡ largeParams v ⌝ }
+{
+    NetParams {
+        size: v & 0xFFFF,
+        variable: v >> 25 & 1 == 1,
+        net: net_of(v >> 29 & 3),
+    }
+}
+
+fn params_at(s: &[u8], at: usize, large: bool) -> NetParams
+    requires { ⌜ at + 4 ≤ length (now s) ⌝ }
+    ensures { λ r. ⌜ r ≡ paramsAt large (now (s .entry)) at ⌝ }
+{
+    if large {
+        large_params(cells::u32_at(s, at))
+    } else {
+        small_params(cells::u16_at(s, at) as u32)
+    }
+}
+
+fn triad_at(s: &[u8], at: usize) -> Triad
+    requires { ⌜ at + 8 ≤ length (now s) ⌝ }
+    ensures { λ r. ⌜ r ≡ triadAt (now (s .entry)) at ⌝ }
+{
+    Triad {
+        serial: cells::u16_at(s, at),
+        vendor: cells::u16_at(s, at + 2),
+        originator: cells::u32_at(s, at + 4),
+    }
+}
+
+fn way_at(s: &[u8], at: usize, large: bool) -> Way
+    requires { ⌜ at + 8 ≤ length (now s) ⌝ }
+    ensures { λ r. ⌜ r ≡ wayAt large (now (s .entry)) at ⌝ }
+{
+    Way {
+        rpi: cells::u32_at(s, at),
+        params: params_at(s, at + 4, large),
+    }
+}
+
+// The length of a path whose words the byte at a place counts.
+fn path_len(s: &[u8], at: usize) -> usize
+    requires { ⌜ at + 1 ≤ length (now s) ⌝ }
+    ensures { λ r. ⌜ (r ≡ 2 * le 1 (now (s .entry)) at) × (r ≤ 510) ⌝ }
+{
+    let words = cells::u8_at(s, at);
+    2 * (words as usize)
+}
+
+// The fields of an open whose parameters are w bytes wide.
+fn fields(s: &[u8], large: bool, w: usize) -> ForwardOpen
+    requires { ⌜ (2 ≤ w) × (w ≤ 4) × (32 + w + w ≤ length (now s)) ⌝ }
+    ensures { λ r. ⌜ r ≡ fieldsOf large (now (s .entry)) w ⌝ }
+{
+    ForwardOpen {
+        otid: OtId(cells::u32_at(s, 2)),
+        toid: ToId(cells::u32_at(s, 6)),
+        triad: triad_at(s, 10),
+        multiplier: cells::u8_at(s, 18),
+        ot: way_at(s, 22, large),
+        to: way_at(s, 26 + w, large),
+        transport: cells::u8_at(s, 30 + w + w),
+        path: Place {
+            start: 32 + w + w,
+            len: path_len(s, 31 + w + w),
+        },
+    }
+}
+
+fn open_with(s: &[u8], large: bool, w: usize) -> OpenAnswer
+    requires { ⌜ (2 ≤ w) × (w ≤ 4) ⌝ }
+    ensures { λ r. ⌜ r ≡ openWith large (now (s .entry)) w ⌝ }
+{
+    let at = 31 + w + w;
+    if s.len() <= at {
+        return OpenAnswer::NoOpen;
+    }
+    if s.len() - at - 1 < path_len(s, at) {
+        return OpenAnswer::NoOpen;
+    }
+    OpenAnswer::Open(fields(s, large, w))
+}
+
+// The open that the service data is.
+pub fn decode_open(request: &[u8], large: bool) -> OpenAnswer
+    ensures { λ r. ⌜ r ≡ openOf large (now (request .entry)) ⌝ }
+{
+    if request.len() > 65536 {
+        return OpenAnswer::NoOpen;
+    }
+    if large {
+        open_with(request, large, 4)
+    } else {
+        open_with(request, large, 2)
+    }
+}
+
+// The close that the service data is.
+pub fn decode_close(request: &[u8]) -> CloseAnswer
+    ensures { λ r. ⌜ r ≡ closeOf (now (request .entry)) ⌝ }
+{
+    if request.len() > 65536 {
+        return CloseAnswer::NoClose;
+    }
+    if request.len() < 12 {
+        return CloseAnswer::NoClose;
+    }
+    if request.len() - 12 < path_len(request, 10) {
+        return CloseAnswer::NoClose;
+    }
+    CloseAnswer::Close(triad_at(request, 2))
+}
+
+// The transport class.
+pub fn transport_class(t: u8) -> u8
+    ensures { λ r. ⌜ r ≡ transportClass t ⌝ }
+{
+    t & 0x0F
+}
+
+// The direction bit of the transport byte.
+pub fn direction_bit(t: u8) -> u8
+    ensures { λ r. ⌜ r ≡ directionBit t ⌝ }
+{
+    t >> 7 & 1
+}
+
+// Check 1.
+pub fn transport_ok(t: u8) -> bool
+    ensures { λ r. ⌜ r ≡ transportOk t ⌝ }
+{
+    transport_class(t) == 1 && direction_bit(t) == 0
+}
+
+// Whether a key's major revision has the compatibility bit.
+pub fn compatible(major: u8) -> bool
+    ensures { λ r. ⌜ r ≡ compatibleBit major ⌝ }
+{
+    major >> 7 & 1 == 1
+}
+
+// A key's major revision itself.
+pub fn major_of(major: u8) -> u8
+    ensures { λ r. ⌜ r ≡ majorOf major ⌝ }
+{
+    major & 0x7F
+}
+
+fn capped(multiplier: u8) -> u8
+    ensures { λ r. ⌜ (r ≡ min multiplier 7) × (r ≤ 7) ⌝ }
+{
+    if multiplier < 7 { multiplier } else { 7 }
+}
+
+fn factor(multiplier: u8) -> u64
+    ensures { λ r. ⌜ (r ≡ factorOf multiplier) × (r ≤ 512) ⌝ }
+{
+    4u64 << capped(multiplier)
+}
+
+fn times(a: u32, b: u64) -> u64
+    requires { ⌜ b ≤ 512 ⌝ }
+    ensures { λ r. ⌜ r ≡ a * b ⌝ }
+{
+    (a as u64) * b
+}
+
+// The timeout of a connection in microseconds, by its O→T RPI.
+pub fn timeout(rpi: u32, multiplier: u8) -> u64
+    ensures { λ r. ⌜ r ≡ timeoutOf rpi multiplier ⌝ }
+{
+    times(rpi, factor(multiplier))
+}
+
+// The group address of a device at a local address.
+pub fn group(local: u32, mask: u32) -> u32
+    ensures { λ r. ⌜ r ≡ groupOf local mask ⌝ }
+{
+    let host = local & !mask;
+    let index = std::num::wrapping_sub_u32(host, 1) & 0x3FF;
+    0xEFC00100 + index * 32
+}

@@ -1,0 +1,106 @@
+-- What an open reads of a path's segments.
+use Prim.Native.Nat.{ℕ, min}
+use mathlib.Core.Bool.{Bool, true, false}
+use mathlib.Core.List.{List, [], _∷_, _++_}
+use lib.ListN.{length, getD}
+use Rattle.wire_paths.specs.Segments.{Segs, segs, broken, segsOf}
+use Rattle.wire_paths.specs.declared.Key.{Key}
+use Rattle.wire_paths.specs.declared.Seg.{Seg}
+use Rattle.wire_paths.specs.declared.Seg.the-variants.{Port, Class, Instance, Point, Attribute, Keyed, Data}
+use Rattle.wire_paths.specs.declared.ConnectionPath.{ConnectionPath}
+use Rattle.wire_paths.specs.declared.PathAnswer.{PathAnswer}
+use Rattle.wire_paths.specs.declared.PathAnswer.the-variants.{Parsed, Unparsed}
+
+-- what the segments give, one after the other
+unfoldable pub gather : {A : Type 0} → (Seg → List A) → List Seg → List A
+gather f [] = []
+gather f (x ∷ l) = f x ++ gather f l
+
+unfoldable pub some : {A : Type 0} → List A → Bool
+some [] = false
+some (a ∷ l) = true
+
+-- the last of a list, or a where there is none
+unfoldable pub last : {A : Type 0} → A → List A → A
+last a [] = a
+last a (b ∷ l) = last b l
+
+-- ---- what one segment gives
+
+abbrev pub key : Seg → List Key
+key (Port p start len) = []
+key (Class v) = []
+key (Instance v) = []
+key (Point v) = []
+key (Attribute v) = []
+key (Keyed k) = k ∷ []
+key (Data start len) = []
+
+abbrev pub class : Seg → List ℕ
+class (Port p start len) = []
+class (Class v) = v ∷ []
+class (Instance v) = []
+class (Point v) = []
+class (Attribute v) = []
+class (Keyed k) = []
+class (Data start len) = []
+
+-- an instance or a point
+abbrev pub number : Seg → List ℕ
+number (Port p start len) = []
+number (Class v) = []
+number (Instance v) = v ∷ []
+number (Point v) = v ∷ []
+number (Attribute v) = []
+number (Keyed k) = []
+number (Data start len) = []
+
+-- the place of configuration data: where it starts, and its length
+abbrev pub place : Seg → List (ℕ × ℕ)
+place (Port p start len) = []
+place (Class v) = []
+place (Instance v) = []
+place (Point v) = []
+place (Attribute v) = []
+place (Keyed k) = []
+place (Data start len) = (start, len) ∷ []
+
+-- a port or attribute segment, which an open may not hold (check 2)
+abbrev pub bar : Seg → List Seg
+bar (Port p start len) = Port p start len ∷ []
+bar (Class v) = []
+bar (Instance v) = []
+bar (Point v) = []
+bar (Attribute v) = Attribute v ∷ []
+bar (Keyed k) = []
+bar (Data start len) = []
+
+-- ---- what the path gives
+
+abbrev pub noKey : Key
+noKey = record { vendor = 0; device = 0; product = 0; major = 0; minor = 0 }
+
+-- the last key (check 3); the last class, and the instances and points in order (check 4); the last data (check 5)
+unfoldable pub connectionPath : List Seg → ConnectionPath
+connectionPath l =
+    record {
+      barred = some (gather bar l);
+      haskey = some (gather key l);
+      key = last noKey (gather key l);
+      hasclass = some (gather class l);
+      class = last 0 (gather class l);
+      count = min (length (gather number l)) 4;
+      first = getD (gather number l) 0 0;
+      second = getD (gather number l) 1 0;
+      third = getD (gather number l) 2 0;
+      datastart = last (0, 0) (gather place l) .0;
+      datalen = last (0, 0) (gather place l) .1;
+    }
+
+abbrev pub pathAnswer : Segs → PathAnswer
+pathAnswer (segs l) = Parsed (connectionPath l)
+pathAnswer (broken o) = Unparsed o
+
+-- what an open reads of a path, or where it does not parse
+unfoldable pub pathOf : List ℕ → PathAnswer
+pathOf s = pathAnswer (segsOf s)
