@@ -1,0 +1,1 @@
+// The lent state's layout: regions and rows.
