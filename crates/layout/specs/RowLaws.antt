@@ -8,6 +8,7 @@ use lib.Dec.{eqb, leb}
 use lib.ListN.{length, getD, take, drop, length-append}
 use lib.Seq.{sets, take-all, take-add, drop-drop}
 use borrow.Author.Tests.{leb-true, le-leb, ne-eqb}
+use mir.Val.{boolByte}
 use Rattle.cells.specs.Numbers.{le, sets-left}
 use Rattle.cells.specs.Records.{encFields, decFields, dec-enc, length-encFields, toBool, ofBool, to-of, sum}
 use Rattle.cells.specs.Back.{Bytes, enc-dec, of-to}
@@ -220,3 +221,8 @@ enc-heard c h =
     ∙ ap (λ (z : List ℕ). encSent (c .sent) ++ z)
     (sets-left (encHeard r (c .heard)) f 0 (encHeard r h) (omega arith)
     ∙ ap (λ (z : List ℕ). z ++ f) (sets-whole (encHeard r (c .heard)) (encHeard r h) (omega arith))))
+
+-- a bool that code takes as a number
+pub byte-small : (b : Bool) → boolByte b ≤ 1
+byte-small true = omega arith
+byte-small false = omega arith
