@@ -9,8 +9,8 @@ use lib.ListN.{length, getD, take, drop, length-append}
 use lib.Seq.{sets, take-all, take-add, drop-drop}
 use borrow.Author.Tests.{leb-true, le-leb, ne-eqb}
 use mir.Val.{boolByte}
-use Rattle.cells.specs.Numbers.{le, sets-left}
-use Rattle.cells.specs.Records.{encFields, decFields, dec-enc, length-encFields, toBool, ofBool, to-of, sum}
+use Rattle.cells.specs.Numbers.{le, sets-left, sets-append, le-take, le-drop}
+use Rattle.cells.specs.Records.{encFields, decFields, putFields, putFields-eq, dec-enc, length-encFields, toBool, ofBool, to-of, sum}
 use Rattle.cells.specs.Back.{Bytes, enc-dec, of-to}
 use Rattle.tables.specs.Store.{sets-right}
 use Rattle.tables.specs.Slots.{sets-whole}
@@ -226,3 +226,28 @@ enc-heard c h =
 pub byte-small : (b : Bool) → boolByte b ≤ 1
 byte-small true = omega arith
 byte-small false = omega arith
+
+-- ---- a row as code reads and writes it
+
+-- a number of row i, found in the whole region
+pub in-row : (k size at : ℕ) (r : List ℕ) (a : ℕ) → at + k ≤ size → le k (take size (drop a r)) at ≡ le k r (a + at)
+in-row k size at r a h = le-take k (drop a r) size at h ∙ le-drop k r a at
+
+-- the three parts put one after the other
+pub conn-put : (b₀ b₁ b₂ b₃ : List ℕ) (role : ℕ) (c : Conn) → role ≡ roleOf (c .fixed)
+    → b₁ ≡ putFields wSent b₀ 0 (listSent (c .sent)) → b₂ ≡ putFields wHeard b₁ 14 (listHeard role (c .heard)) → b₃ ≡ putFields wFixed b₂ 29 (listFixed (c .fixed))
+    → b₃ ≡ sets b₀ 0 (encConn c)
+unfolding encSent encHeard encFixed
+conn-put b₀ b₁ b₂ b₃ role c er e₁ e₂ e₃ =
+    let s : List ℕ = encSent (c .sent) in
+    let h : List ℕ = encHeard (roleOf (c .fixed)) (c .heard) in
+    let f : List ℕ = encFixed (c .fixed) in
+    let a : 0 + length s ≡ 14 = let z = length-encSent (c .sent) in omega arith in
+    let b : 14 + length h ≡ 29 = let z = length-encHeard (roleOf (c .fixed)) (c .heard) in omega arith in
+    e₃ ∙ putFields-eq wFixed b₂ 29 (listFixed (c .fixed))
+    ∙ ap (λ (z : List ℕ). sets z 29 f) (e₂ ∙ ap (λ (n : ℕ). putFields wHeard b₁ 14 (listHeard n (c .heard))) er ∙ putFields-eq wHeard b₁ 14 (listHeard (roleOf (c .fixed)) (c .heard)))
+    ∙ ap (λ (z : List ℕ). sets (sets z 14 h) 29 f) (e₁ ∙ putFields-eq wSent b₀ 0 (listSent (c .sent)))
+    ∙ ap (λ (n : ℕ). sets (sets (sets b₀ 0 s) 14 h) n f) (sym b)
+    ∙ sym (sets-append (sets b₀ 0 s) 14 h f)
+    ∙ ap (λ (n : ℕ). sets (sets b₀ 0 s) n (h ++ f)) (sym a)
+    ∙ sym (sets-append b₀ 0 s (h ++ f))

@@ -88,6 +88,13 @@ asHeard vs =
 abbrev pub wFixed : List ℕ
 wFixed = 1 ∷ 1 ∷ 2 ∷ 4 ∷ 4 ∷ 4 ∷ 4 ∷ 4 ∷ 4 ∷ 4 ∷ 2 ∷ 2 ∷ 4 ∷ 1 ∷ []
 
+-- the same in two halves, as code writes them
+abbrev pub wLow : List ℕ
+wLow = 1 ∷ 1 ∷ 2 ∷ 4 ∷ 4 ∷ 4 ∷ 4 ∷ []
+
+abbrev pub wHigh : List ℕ
+wHigh = 4 ∷ 4 ∷ 4 ∷ 2 ∷ 2 ∷ 4 ∷ 1 ∷ []
+
 abbrev pub listFixed : Fixed → List ℕ
 listFixed f =
     f .input
