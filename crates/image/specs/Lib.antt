@@ -5,3 +5,6 @@ pub mod StoreLaws
 pub mod ViewLaws
 pub mod TestLaws
 pub mod Passes
+pub mod Updates
+pub mod Writes
+pub mod Taken

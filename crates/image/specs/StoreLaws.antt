@@ -4,11 +4,12 @@ use mathlib.Core.Bool.{Bool, true, false}
 use mathlib.Core.List.{List, [], _∷_, _++_, append-assoc, map}
 use mathlib.Core.Path.{_≡_, refl, ap, ap₂, sym, _∙_}
 use native.Mathlib.Omega.{arith}
+use lib.Dec.{T}
 use lib.ListN.{length, getD, take, drop, length-append, length-drop, length-map, List·getD-map}
 use lib.Seq.{length-take-le}
 use borrow.Rule.Slice.PartMut.{midOf}
 use Rattle.cells.specs.Numbers.{le}
-use Rattle.cells.specs.Records.{encFields, decFields, ofBool, sum, dec-enc, length-encFields}
+use Rattle.cells.specs.Records.{encFields, decFields, ofBool, sum, Laid, dec-enc, length-encFields}
 use Rattle.tables.specs.Store.{length-storeRows}
 use Rattle.tables.specs.Ring.{length-ring}
 use Rattle.tables.specs.Slots.{Short, length-storeSlots, length-fill}
@@ -48,9 +49,18 @@ module _ (l : List ℕ) (long : length l ≡ 109056) where
   pub length-edsIn : length (edsIn l) ≡ 65536
   length-edsIn = mid-long 43520 65536 l (omega arith)
 
-pub length-encHead : (st : State) → length (encFields wHead (listHead st)) ≡ 36
+-- any numbers in the head
+pub length-head : (vs l : List ℕ) → length l ≡ 109056 → T (Laid wHead vs) → length (encFields wHead vs ++ drop 36 (headIn l)) ≡ 48
 unfolding sum
-length-encHead st = length-encFields wHead (listHead st) tt
+length-head vs l long t =
+    let a = length-headIn l long in
+    let b : length (drop 36 (headIn l)) ≡ 12 = length-drop 36 (headIn l) ∙ omega arith in
+    let c : length (encFields wHead vs) ≡ 36 = length-encFields wHead vs t in
+    length-append (encFields wHead vs) (drop 36 (headIn l)) ∙ omega arith
+
+-- a slot of a region
+pub slot-long : (r : List ℕ) (i size : ℕ) → i * size + size ≤ length r → length (take size (drop (i * size) r)) ≡ size
+slot-long r i size h = length-take-le size (drop (i * size) r) (rw (length-drop (i * size) r) (omega arith))
 
 module _ (st : State) (l : List ℕ) (w : Suits st l) where
   -- at most 16 assemblies, each in its slot
@@ -73,10 +83,7 @@ module _ (st : State) (l : List ℕ) (w : Suits st l) where
   -- ---- sizes
   pub length-headOf : length (headOf st l) ≡ 48
   unfolding headOf
-  length-headOf =
-      let a = length-headIn l (w .lent .long) in
-      let b : length (drop 36 (headIn l)) ≡ 12 = length-drop 36 (headIn l) ∙ omega arith in
-      length-append (encFields wHead (listHead st)) (drop 36 (headIn l)) ∙ (let c = length-encHead st in omega arith)
+  length-headOf = length-head (listHead st) l (w .lent .long) tt
 
   pub length-marksOf : length (marksOf st l) ≡ 16
   unfolding marksOf

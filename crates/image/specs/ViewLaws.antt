@@ -25,7 +25,7 @@ use Rattle.layout.specs.RowLaws.{length-encConn, dec-encConn, enc-decConn}
 use Rattle.image.specs.Image.{contentsOf, record32, asIs, view, listHead, markOf, bytesOf, headOf, marksOf, tableOf, eventsOf, dataOf, regionsOf, store, tested}
 use Rattle.image.specs.Fits.{Records32, none, one, Fits, Lent, Suits, few-assemblies, length-assemblies, size-short, is-long, is-sound, some-id, first-slot, few-events, few-conns, fault-bit, shapes-good, mark-good, row-good, lent}
 use Rattle.image.specs.Contents.{length-contentsOf, marks-back, data-back, sized-back, contents-back, length-record32, record32-own, records-back}
-use Rattle.image.specs.StoreLaws.{mid-long, length-headIn, length-marksIn, length-tableIn, length-ringIn, length-dataIn, room, content-short, few-contents, marks-of-store, table-of-store, ring-of-store, data-of-store, setup-kept, produced-is, late-is, maxLate-is, nextId-is, gone-is, waiting-is, conns-is, fault-is}
+use Rattle.image.specs.StoreLaws.{mid-long, slot-long, length-headIn, length-marksIn, length-tableIn, length-ringIn, length-dataIn, room, content-short, few-contents, marks-of-store, table-of-store, ring-of-store, data-of-store, setup-kept, produced-is, late-is, maxLate-is, nextId-is, gone-is, waiting-is, conns-is, fault-is}
 
 -- a buffer's regions, by their widths
 regions-are : (l : List ℕ) → regions widths l ≡ setupIn l ∷ headIn l ∷ marksIn l ∷ tableIn l ∷ ringIn l ∷ dataIn l ∷ edsIn l ∷ []
@@ -123,7 +123,7 @@ module _ (l : List ℕ) (ok : tested l ≡ true) where
     mid-cut a k i size p q =
         let n = is-long l ok in
         let e : length (midOf a k l) ≡ k = mid-long a k l (omega arith) in
-        length-take-le size (drop (i * size) (midOf a k l)) (rw (length-drop (i * size) (midOf a k l)) (omega arith))
+        slot-long (midOf a k l) i size (omega arith)
 
     head-back : headOf (view l) l ≡ headIn l
     unfolding headOf view sum
@@ -167,7 +167,7 @@ module _ (l : List ℕ) (ok : tested l ≡ true) where
         store-rows 70 encConn decConn (le 2 l 224) (tableIn l)
         (λ i g. enc-decConn (take 70 (drop (i * 70) (tableIn l))) (row-good l ok i g) (mid-bytes 256 2304 i 70) (mid-cut 256 2304 i 70 (omega arith) (omega arith)))
 
-    events-same : eventsOf (view l) l ≡ ringIn l
+    pub events-same : eventsOf (view l) l ≡ ringIn l
     unfolding eventsOf view
     events-same =
         store-ring 32 record32 asIs (le 2 l 220) (le 2 l 222) (ringIn l) (first-slot l ok) (let q = length-ringIn l (is-long l ok) in omega arith)
