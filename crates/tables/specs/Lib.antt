@@ -5,3 +5,5 @@ pub mod Store
 pub mod Ring
 pub mod Slots
 pub mod Grow
+pub mod RegionWrites
+pub mod RingRead

@@ -1,0 +1,40 @@
+use native.Mathlib.Omega.{arith}
+use Rattle.layout.specs.RowLaws.{byte-small, kind-small}
+use borrow.Author.Needs.{needs}
+use Rattle.layout.proofs.flags_number.Statement.{statement}
+use Rattle.layout.proofs.flags_number.Tie as tie
+use Rattle.layout.proofs.flags_number.Reads as reads
+use Rattle.layout.proofs.flags_number.Lts as lts
+
+-- src/lib.rt:94:5
+mul-result : tie.Need-mul-result
+mul-result c = search needs
+
+-- src/lib.rt:94:18
+cast-result : tie.Need-cast-result
+cast-result c = search needs
+
+-- src/lib.rt:94:36
+cast-result-2 : tie.Need-cast-result-2
+cast-result-2 c = search needs
+
+-- src/lib.rt:94:31
+mul-result-2 : tie.Need-mul-result-2
+mul-result-2 c = let a = byte-small (c .args .any) in let b = byte-small (c .args .anycip) in omega arith
+
+-- src/lib.rt:94:17
+add-result : tie.Need-add-result
+add-result c = let a = byte-small (c .args .any) in let b = byte-small (c .args .anycip) in omega arith
+
+-- src/lib.rt:94:5
+add-result-2 : tie.Need-add-result-2
+add-result-2 c = let a = byte-small (c .args .any) in let b = byte-small (c .args .anycip) in omega arith
+
+-- src/lib.rt:90:1
+returns : tie.Need-returns
+returns c = search needs
+
+pub flags-number-spec : {M : Type 1} → statement M
+flags-number-spec =
+    tie.close
+    (tie.spec mul-result cast-result cast-result-2 mul-result-2 add-result add-result-2 returns)
