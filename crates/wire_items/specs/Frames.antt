@@ -13,6 +13,7 @@ use Rattle.wire_items.specs.Items.{Part, Items, wellFormed, broken, item
 use Rattle.wire_items.specs.declared.IoFrame.{IoFrame}
 use Rattle.wire_items.specs.declared.IoFrame.the-variants.{Io, NotIo, Broken}
 
+-- the id that a frame to us carries
 abbrev pub otId : ℕ → OtId
 otId n = record { 0 = n }
 
@@ -31,7 +32,7 @@ firstTwo s [] = NotIo
 firstTwo s (a ∷ []) = NotIo
 firstTwo s (a ∷ (d ∷ l)) = ioPair s a d
 
--- broken at an offset before all else; "frames up to 65,536 bytes"
+-- broken at an offset before all else; then a frame of over 65,536 bytes is none of ours
 abbrev pub ioOfItems : List ℕ → Items → IoFrame
 ioOfItems s (broken o) = Broken o
 ioOfItems s (wellFormed l) = pick (leb (length s) 65536) (firstTwo s l) NotIo
