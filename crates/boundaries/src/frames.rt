@@ -30,7 +30,7 @@ fn say_start(out: &[u8], n: usize) {
 }
 
 fn say_written_in(out: &mut [u8], data: &[u8]) {
-    match wire_items::encode_io(out, ToId(1), 2, 3, data) {
+    match wire_frames::encode_io(out, ToId(1), 2, 3, data) {
         Written::Bytes(n) => say_start(out, n),
         Written::NoRoom => text::answer_at(b"no frame carries data of ", data.len()),
     }

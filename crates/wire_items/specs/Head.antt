@@ -29,10 +29,3 @@ pub record Head (s : List ℕ) : Type 0 where
 abbrev pub otherOf : Whole → IoFrame
 otherOf Good = NotIo
 otherOf (BrokenAt o) = Broken o
-
--- a frame's numbers before the data, with their widths
-abbrev pub frontWidths : List ℕ
-frontWidths = 2 ∷ 2 ∷ 2 ∷ 4 ∷ 4 ∷ 2 ∷ 2 ∷ 2 ∷ []
-
-abbrev pub frontValues : ℕ → ℕ → ℕ → ℕ → List ℕ
-frontValues id sequence cip size = 2 ∷ 0x8002 ∷ 8 ∷ id ∷ sequence ∷ 0xB1 ∷ size ∷ cip ∷ []

@@ -1,16 +1,13 @@
 // The items of a frame. Document 01: a 16-bit count, then kind, size, bytes; the last must end with the data. A list that
 // is not well formed has an offset: that of the first item or count that does not fit, or of the first spare byte after the last item.
-use cells::Written;
 use ids::OtId;
-use ids::ToId;
 ghost use mathlib.Core.Path.{_≡_};
 ghost use Prim.Native.Nat.{ℕ, _+_, _≤_, _<_};
 ghost use lib.ListN.{length};
 ghost use Rattle.cells.specs.Numbers.{le};
-ghost use Rattle.cells.specs.Records.{putFields};
 ghost use Rattle.wire_items.specs.Items.{startOf, stepAt, stepAfter, itemOf, itemsFrom, itemsOf, wholeOf};
-ghost use Rattle.wire_items.specs.Frames.{ioOf, frameWritten, frameAppended};
-ghost use Rattle.wire_items.specs.Head.{ioHead, Head, otherOf, frontWidths, frontValues};
+ghost use Rattle.wire_items.specs.Frames.{ioOf};
+ghost use Rattle.wire_items.specs.Head.{ioHead, Head, otherOf};
 
 // A place in a list and how many items are to come.
 pub struct Cursor {
@@ -210,54 +207,6 @@ pub fn decode_io(frame: &[u8]) -> IoFrame
         return from_head(frame);
     }
     without_head(frame)
-}
-
-// All of a frame but the data.
-fn put_front(out: &mut [u8], id: ToId, sequence: u32, cip: u16, size: u16)
-    requires { ⌜ 20 ≤ length (now out) ⌝ }
-    ensures { λ _. ⌜ now (out .exit) ≡ putFields frontWidths (now (out .entry)) 0 (frontValues (id .0) sequence cip size) ⌝ }
-{
-    cells::put_u16(out, 0, 2);
-    cells::put_u16(out, 2, 0x8002);
-    cells::put_u16(out, 4, 8);
-    cells::put_u32(out, 6, id.0);
-    cells::put_u32(out, 10, sequence);
-    cells::put_u16(out, 14, 0xB1);
-    cells::put_u16(out, 16, size);
-    cells::put_u16(out, 18, cip);
-}
-
-// The frame writer: an I/O frame at the start of the output.
-pub fn encode_io(out: &mut [u8], id: ToId, sequence: u32, cip: u16, bytes: &[u8]) -> Written
-    ensures { λ r. ⌜ (r, now (out .exit)) ≡ frameWritten (now (out .entry)) (id .0) sequence cip (now (bytes .entry)) ⌝ }
-{
-    let n = bytes.len();
-    if 65533 < n {
-        return Written::NoRoom;
-    }
-    if out.len() < 20 + n {
-        return Written::NoRoom;
-    }
-    put_front(out, id, sequence, cip, (2 + n) as u16);
-    cells::copy_in(out, 20, bytes);
-    Written::Bytes(20 + n)
-}
-
-// The same behind what the output holds already: the rest from `at` on is lent to the frame writer.
-pub fn append_io(
-    out: &mut [u8],
-    at: usize,
-    id: ToId,
-    sequence: u32,
-    cip: u16,
-    bytes: &[u8],
-) -> Written
-    ensures { λ r. ⌜ (r, now (out .exit)) ≡ frameAppended (now (out .entry)) at (id .0) sequence cip (now (bytes .entry)) ⌝ }
-{
-    if out.len() < at {
-        return Written::NoRoom;
-    }
-    encode_io(&mut out[at..], id, sequence, cip, bytes)
 }
 
 // A frame and a cursor in it: gives one item at a time.

@@ -1,8 +1,8 @@
 use native.Mathlib.Omega.{arith}
-use Rattle.wire_items.proofs.WriteLaws.{past-end, lent-rest}
+use Rattle.wire_frames.proofs.WriteLaws.{past-end, lent-rest}
 use borrow.Author.Needs.{needs}
-use Rattle.wire_items.proofs.append_io.Statement.{statement}
-use Rattle.wire_items.proofs.append_io.Tie as tie
+use Rattle.wire_frames.proofs.append_io.Statement.{statement}
+use Rattle.wire_frames.proofs.append_io.Tie as tie
 
 returns : tie.Need-returns
 returns c = past-end _ _ _ _ _ _ (omega arith)

@@ -1,6 +1,6 @@
 use borrow.Author.Needs.{needs}
-use Rattle.wire_items.proofs.put_front.Statement.{statement}
-use Rattle.wire_items.proofs.put_front.Tie as tie
+use Rattle.wire_frames.proofs.put_front.Statement.{statement}
+use Rattle.wire_frames.proofs.put_front.Tie as tie
 
 put-u16-requires : tie.Need-put-u16-requires
 put-u16-requires c κs = search needs

@@ -1,9 +1,9 @@
 use native.Mathlib.Omega.{arith}
 use mathlib.Core.Path.{refl}
-use Rattle.wire_items.proofs.WriteLaws.{too-long, no-room, all-written}
+use Rattle.wire_frames.proofs.WriteLaws.{too-long, no-room, all-written}
 use borrow.Author.Needs.{needs}
-use Rattle.wire_items.proofs.encode_io.Statement.{statement}
-use Rattle.wire_items.proofs.encode_io.Tie as tie
+use Rattle.wire_frames.proofs.encode_io.Statement.{statement}
+use Rattle.wire_frames.proofs.encode_io.Tie as tie
 
 returns : tie.Need-returns
 returns c = too-long _ _ _ _ _ (omega arith)

@@ -13,12 +13,14 @@ use Rattle.cells.specs.Records.{sum, encFields, decFields, dec-enc, length-encF
 use Rattle.cells.specs.Writes.{written-all}
 use Rattle.cells.specs.declared.Written.{Written}
 use Rattle.cells.specs.declared.Written.the-variants.{Bytes, NoRoom}
-use Rattle.wire_items.specs.Frames.{otId, ioOf, ioFrame, frameWritten, behind, frameAppended}
-use Rattle.wire_items.specs.Head.{Head, frontWidths, frontValues}
+use Rattle.wire_items.specs.Frames.{otId, ioOf, ioFrame}
+use Rattle.wire_frames.specs.Writing.{frameWritten, behind, frameAppended}
+use Rattle.wire_items.specs.Head.{Head}
+use Rattle.wire_frames.specs.Writing.{frontWidths, frontValues}
 use Rattle.wire_items.specs.declared.IoFrame.the-variants.{Io}
 use Rattle.wire_items.proofs.ItemLaws.{ends, step-end}
 use Rattle.wire_items.proofs.IoLaws.{is-io}
-use Rattle.wire_items.proofs.WriteLaws.{frame-split, frame-length, no-room, too-long, past-end}
+use Rattle.wire_frames.proofs.WriteLaws.{frame-split, frame-length, no-room, too-long, past-end}
 
 module _ (id sequence cip : ℕ) (bs : List ℕ) where
   abbrev s : List ℕ
