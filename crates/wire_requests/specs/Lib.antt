@@ -1,4 +1,4 @@
 pub mod Requests
 pub mod Reading
-pub mod RequestPlace
+pub mod PlaceLaws
 pub mod Examples

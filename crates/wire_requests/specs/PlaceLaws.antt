@@ -1,4 +1,4 @@
--- The data of a request lies inside the message, behind its two first bytes.
+-- The data of a request lies inside the message, behind its first two bytes.
 use Prim.Native.Nat.{ℕ, _+_, _*_, _≤_}
 use mathlib.Core.Path.{_≡_, refl}
 use mathlib.Core.Bool.{Bool, true, false}
