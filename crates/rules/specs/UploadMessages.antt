@@ -12,7 +12,7 @@ use Rattle.wire_requests.specs.declared.Object.the-variants.{Named}
 use Rattle.wire_requests.specs.declared.Request.{Request}
 use Rattle.wire_requests.specs.declared.RequestAnswer.{RequestAnswer}
 use Rattle.wire_requests.specs.declared.RequestAnswer.the-variants.{Parsed}
-use Rattle.wire_requests.specs.Requests.{attributeIn, requestOf}
+use Rattle.wire_requests.specs.Requests.{attributeIn, requestWith, requestOf}
 use Rattle.rules.specs.State.{State}
 use Rattle.rules.specs.Attributes.{NoAttribute, Outcome, Gives, Fails}
 use Rattle.rules.specs.Upload.{checksum, clamped, started, initiateReply, initiate, Upload, Under, transfer}
@@ -37,7 +37,7 @@ byMessage st local mask number up =
 
 file-request : (service byte : ℕ)
     → requestOf (toFile service byte) ≡ Parsed (record { service = service; object = Named 0x37 0xC8; attribute = NoAttribute; datastart = 6 })
-unfolding requestOf segsOf segsFrom stepAt segAt between logicalAt gather attributeIn
+unfolding requestOf requestWith segsOf segsFrom stepAt segAt between logicalAt gather attributeIn
 file-request service byte = refl
 
 behind-head : (service : ℕ) (o : Outcome) → drop 4 (replyTo service o) ≡ replyIn o
