@@ -12,6 +12,7 @@ use Rattle.wire_opens.specs.declared.OpenAnswer.the-variants.{Open, NoOpen}
 use Rattle.wire_opens.specs.declared.CloseAnswer.the-variants.{Close, NoClose}
 use Rattle.wire_items.specs.Frames.{ioOf}
 use Rattle.wire_opens.specs.Requests.{closeOf}
+use Rattle.rules.specs.declared.AssemblyKind.the-variants.{Input, Output, Config}
 use Rattle.rules.specs.declared.Stores.the-variants.{Nothing, Into}
 use Rattle.rules.specs.declared.Verdict.the-variants.{Stopped, Planned}
 use Rattle.rules.specs.declared.Event.the-variants.{Closed}
@@ -28,7 +29,7 @@ use Rattle.rules.specs.Producing
 use Rattle.rules.specs.Producing.{due, dueBy, lateBy, delays, sent, sends, packet, packets, inputBytes, counters, produceAnswer, produceEffect}
 use Rattle.rules.specs.Host.{filled, read, setInputAt, inputSet, setInputAnswer, setInputEffect, outputRead, outputEffect, nextEventEffect, connectionBytes}
 use Rattle.rules.specs.Events.{infoOf, infoRecord}
-use Rattle.isolation.specs.Names.{Triad, ForwardOpen, OpenAnswer, CloseAnswer, Origin, Fixed, Heard, Sent, Conn, Info, Event, Stores, Plan, Verdict}
+use Rattle.isolation.specs.Names.{AssemblyKind, Triad, ForwardOpen, OpenAnswer, CloseAnswer, Origin, Fixed, Heard, Sent, Conn, Info, Event, Stores, Plan, Verdict}
 use Rattle.isolation.specs.Ends.{rehear, removal-rehear}
 use Rattle.isolation.specs.Contents.{cover, change-alike, change-unseen, content-alike, idleBy, idles-alike, run-lost}
 
@@ -45,7 +46,7 @@ joined-same : {A B : Type 0} (f g : A → List B) (l : List A) → All (λ x. f 
 joined-same f g [] a = refl
 joined-same f g (x ∷ xs) a = cc (a .0, joined-same f g xs (a .1))
 
-joined-map : {A B : Type 0} (h : A → A) (f : A → List B) → ((x : A) → f (h x) ≡ f x) → (l : List A) → joined f (map h l) ≡ joined f l
+pub joined-map : {A B : Type 0} (h : A → A) (f : A → List B) → ((x : A) → f (h x) ≡ f x) → (l : List A) → joined f (map h l) ≡ joined f l
 joined-map h f e [] = refl
 joined-map h f e (x ∷ xs) = cc (e x, joined-map h f e xs)
 
@@ -121,6 +122,17 @@ back a = record { setup = sym (a .setup); contents = sym (a .contents); table = 
 -- what is left by calls that answer alike
 pub settled-alike : {A : ℕ} {o : ℕ → Bool} {s t s′ t′ : State} (a b : Answer) → a ≡ b → Alike A o s′ t′ → Alike A o s t → Alike A o (settled a s′ s .1) (settled b t′ t .1)
 settled-alike a b e r q = by-cases (isYes b) (λ y. let x : isYes a ≡ true = ap isYes e ∙ y in rw (x, y) r) (λ y. let x : isYes a ≡ false = ap isYes e ∙ y in rw (x, y) q)
+
+-- an input is no output
+pub input-no-output : (k : AssemblyKind) → isInput k ≡ true → isOutput k ≡ false
+input-no-output Input e = refl
+input-no-output Output e = sym e
+input-no-output Config e = refl
+
+-- an event that is read is not seen
+pub event-unseen : (A : ℕ) (o : ℕ → Bool) (s : State) → Alike A o (nextEventEffect s) s
+unfolding nextEventEffect
+event-unseen A o s = record { setup = refl; contents = refl; table = refl; nextId = refl; counters = refl }
 
 -- what is left by a call that changes nothing to be seen
 pub settled-unseen : {A : ℕ} {o : ℕ → Bool} {s s′ : State} (a : Answer) → Alike A o s′ s → Alike A o (settled a s′ s .1) s
@@ -282,10 +294,6 @@ module _ (A : ℕ) (o : ℕ → Bool) (s t : State) (r : Alike A o s t) where
   set-input-alike n bytes =
       subst (λ x. Alike A o (inputSet bytes s x) (inputSet bytes t (placeOf isInput (t .setup) n))) (sym (ap (λ u. placeOf isInput u n) (r .setup)))
       (input-set-alike bytes (placeOf isInput (t .setup) n))
-
-  pub event-alike : Alike A o (nextEventEffect s) (nextEventEffect t)
-  unfolding nextEventEffect
-  event-alike = record { setup = r .setup; contents = r .contents; table = r .table; nextId = r .nextId; counters = r .counters }
 
   -- RECEIVE, from another address
   module _ (now from : ℕ) (f : Frame) (other : eqb from A ≡ false) where

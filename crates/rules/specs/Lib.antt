@@ -13,3 +13,4 @@ pub mod Host
 pub mod Calls
 pub mod Examples
 pub mod ListLaws
+pub mod CheckLaws
