@@ -6,3 +6,4 @@ pub mod Seen
 pub mod Expiry
 pub mod Sound
 pub mod Demand
+pub mod Examples

@@ -340,6 +340,14 @@ module _ (A : ℕ) (o : ℕ → Bool) (s t : State) (r : Alike A o s t) where
   unfolding receiveEffect
   receive-alike now from bytes n = frame-alike now from n (frameOf bytes (ioOf bytes))
 
+-- a frame's data is taken of an owner only
+pub taken-owner : (u : Setup) (f : Frame) (c : Conn) → taken u f c ≡ true → isOwner (c .fixed .kind) ≡ true
+unfolding taken
+taken-owner u f c e =
+    let a = and-left (newer (c .heard) (f .sequence) && hasCip f c && not (repeats f (c .heard))) (rightSize u f (c .fixed)) e in
+    let b = and-right (newer (c .heard) (f .sequence)) (hasCip f c) (and-left (newer (c .heard) (f .sequence) && hasCip f c) (not (repeats f (c .heard))) a) in
+    and-left (isOwner (c .fixed .kind)) (leb 2 (length (f .payload))) b
+
 -- RECEIVE, from that address: nothing to be seen
 module _ (A : ℕ) (o : ℕ → Bool) (now from : ℕ) (that : eqb from A ≡ true) (s : State) (covers : Covers A o (s .table)) where
   module _ (f : Frame) where
@@ -350,18 +358,11 @@ module _ (A : ℕ) (o : ℕ → Bool) (now from : ℕ) (that : eqb from A ≡ tr
     unfolding hear
     hear-unseen c e = let m = meant-that c e in either-way (λ x. hide A x ≡ hide A c) (newer (c .heard) (f .sequence)) (rw m refl) refl
 
-    taken-owner : (c : Conn) → taken (s .setup) f c ≡ true → isOwner (c .fixed .kind) ≡ true
-    unfolding taken
-    taken-owner c e =
-        let a = and-left (newer (c .heard) (f .sequence) && hasCip f c && not (repeats f (c .heard))) (rightSize (s .setup) f (c .fixed)) e in
-        let b = and-right (newer (c .heard) (f .sequence)) (hasCip f c) (and-left (newer (c .heard) (f .sequence) && hasCip f c) (not (repeats f (c .heard))) a) in
-        and-left (isOwner (c .fixed .kind)) (leb 2 (length (f .payload))) b
-
     delivered-unseen : (c : Conn) → meantFor from f c ≡ true → stray A o c ≡ false → cover o (delivered (s .setup) f c (s .contents)) ≡ cover o (s .contents)
     delivered-unseen c m n =
         by-cases (taken (s .setup) f c)
         (λ e. let a = meant-that c m in
-        let b = taken-owner c e in
+        let b = taken-owner (s .setup) f c e in
         let k : o (c .fixed .output) ≡ true = by-cases (o (c .fixed .output)) (λ y. y) (λ y. clash true refl (cc)) in
         rw e (change-unseen o (c .fixed .output) (deliver f) (s .contents) k))
         (λ e. rw e refl)

@@ -14,3 +14,4 @@ pub mod Calls
 pub mod Examples
 pub mod ListLaws
 pub mod CheckLaws
+pub mod ExpiryLaws
