@@ -21,12 +21,12 @@ use Rattle.rules.specs.State.{AssemblyKind, isInput, isOutput, isConfig,
 use Rattle.rules.specs.Answers
 
 -- a check that holds says nothing; one that does not says what stops the open
-abbrev pub must : Bool → Stop → Option Stop
+unfoldable pub must : Bool → Stop → Option Stop
 must true s = none
 must false s = some s
 
 -- the first of two that does not hold
-abbrev pub andThen : Option Stop → Option Stop → Option Stop
+unfoldable pub andThen : Option Stop → Option Stop → Option Stop
 andThen none b = b
 andThen (some s) b = some s
 

@@ -13,6 +13,8 @@ pub mod Host
 pub mod Calls
 pub mod Examples
 pub mod ListLaws
+pub mod CheckLaws
+pub mod ExpiryLaws
 pub mod Attributes
 pub mod Upload
 pub mod Objects

@@ -9,10 +9,10 @@ use Rattle.cells.specs.Numbers.{bytesLe, le, leOf}
 use Rattle.cells.specs.Records.{sum, encFields}
 use Rattle.wire_paths.specs.Segments.{portOffset, linkOffset, linkSize, portOf, portAt, logicalAt, keyOf, keyAt, dataAt, between, segAt, stepAt, segsFrom, segsOf}
 use Rattle.wire_paths.specs.ConnectionPath.{gather}
-use Rattle.wire_requests.specs.Requests.{attributeIn, requestOf}
-use Rattle.rules.specs.State.{OtId, ToId, Input, Output, Config, Kind, Owner, InputOnly, Triad, Never, Conn, Identity, Shape, Setup, Content, Events, Counters, State}
-use Rattle.rules.specs.Attributes.{shortString, languageTag, taggedText}
-use Rattle.rules.specs.Upload.{checksum, clamped, initiate, NoLast, Was, Position, Upload, NoUpload, Under, turnOf, advanced, transferBytes, transferReply, transfer}
+use Rattle.wire_requests.specs.Requests.{attributeIn, requestWith, requestOf}
+use Rattle.rules.specs.State.{Input, Output, Config, Kind, Owner, InputOnly, Never, Conn, Identity, Shape, Setup, State}
+use Rattle.rules.specs.Attributes.{shortString, taggedText}
+use Rattle.rules.specs.Upload.{checksum, clamped, initiate, NoLast, Was, Upload, NoUpload, Under, turnOf, advanced, transferBytes, transferReply, transfer}
 use Rattle.rules.specs.Objects.{owned, running, extendedStatus, identityStatus, identityAttributes, identity, assemblyClass, assemblyAttributes, assemblyPlace, assembly, interface, tcpIpAttributes, tcpIp, ethernetAttributes, ethernetLink, fileAttributes, edsFile, file}
 use Rattle.rules.specs.Message.{replyHead, replyTo, ofClass, messageOutcome, messageReply}
 
@@ -270,5 +270,5 @@ abbrev pub examples : List Example
 examples = identityExamples ++ otherExamples ++ fileExamples ++ uploadExamples
 
 pub examples-hold : map given examples ≡ map wanted examples
-unfolding bytesLe le leOf sum encFields portOffset linkOffset linkSize portOf portAt logicalAt keyOf keyAt dataAt between segAt stepAt segsFrom segsOf gather attributeIn requestOf shortString taggedText checksum clamped initiate turnOf advanced transferBytes transferReply transfer owned running extendedStatus identityStatus identityAttributes identity assemblyClass assemblyAttributes assemblyPlace assembly interface tcpIpAttributes tcpIp ethernetAttributes ethernetLink fileAttributes edsFile file replyHead replyTo ofClass messageOutcome messageReply
+unfolding bytesLe le leOf sum encFields portOffset linkOffset linkSize portOf portAt logicalAt keyOf keyAt dataAt between segAt stepAt segsFrom segsOf gather attributeIn requestWith requestOf shortString taggedText checksum clamped initiate turnOf advanced transferBytes transferReply transfer owned running extendedStatus identityStatus identityAttributes identity assemblyClass assemblyAttributes assemblyPlace assembly interface tcpIpAttributes tcpIp ethernetAttributes ethernetLink fileAttributes edsFile file replyHead replyTo ofClass messageOutcome messageReply
 examples-hold = refl

@@ -1,6 +1,6 @@
 -- The five objects: Identity (0x01), Assembly (0x04), TCP/IP (0xF5), Ethernet Link (0xF6) and File (0x37). Each gives the outcome
 -- for a service, an instance and an attribute; File also has the EDS upload.
-use mathlib.Core.List.{List, [], _∷_, _++_}
+use mathlib.Core.List.{List, [], _∷_}
 use mathlib.Core.Option.{Option, none, some}
 use mathlib.Core.Bool.{Bool, cond, _&&_}
 use Prim.Native.Nat.{ℕ, _+_, _*_, _^_, max}
@@ -8,9 +8,9 @@ use lib.Dec.{eqb}
 use lib.ListN.{length}
 use Rattle.cells.specs.Numbers.{bytesLe}
 use Rattle.cells.specs.Records.{encFields, ofBool}
-use Rattle.rules.specs.Lists.{any, place, maybe}
-use Rattle.rules.specs.State.{isOwner, Conn, Identity, Shape, Setup, Content, State, contentAt}
-use Rattle.rules.specs.Attributes.{FirstAttribute, Outcome, Gives, Fails, ObjectUnknown, Attributes, single, among, classAttributes, shortString, fileName, taggedText}
+use Rattle.rules.specs.Lists.{any, place}
+use Rattle.rules.specs.State.{isOwner, Shape, Setup, Content, State, contentAt}
+use Rattle.rules.specs.Attributes.{FirstAttribute, Outcome, Fails, ObjectUnknown, Attributes, single, among, classAttributes, shortString, fileName, taggedText}
 use Rattle.rules.specs.Upload.{Upload, checksum, initiate, transfer}
 
 -- ---- Identity

@@ -2,25 +2,24 @@
 use mathlib.Core.List.{List, [], _∷_, _++_}
 use mathlib.Core.Option.{Option, none, some}
 use mathlib.Core.Bool.{Bool, true, false, cond}
-use mathlib.Core.Path.{_≡_, refl, ap, sym, _∙_}
-use Prim.Native.Nat.{ℕ, _+_, _%_, _≤_, _<_, min, max}
+use mathlib.Core.Path.{_≡_, refl}
+use Prim.Native.Nat.{ℕ, _+_, _≤_, _<_, min, max}
 use native.Mathlib.Omega.{arith}
-use lib.Dec.{eqb, leb}
+use lib.Dec.{eqb}
 use lib.ListN.{length, getD, take, drop, length-append, length-take}
 use borrow.Author.Tests.{le-leb, lt-leb, leb-true, lt-ltb}
-use Rattle.cells.specs.Numbers.{bytesLe, length-bytesLe}
+use Rattle.cells.specs.Numbers.{bytesLe}
 use Rattle.cells.specs.Records.{encFields}
 use Rattle.cells.specs.Back.{all, all-at}
 use Rattle.wire_requests.specs.declared.Object.{Object}
 use Rattle.wire_requests.specs.declared.Object.the-variants.{Named, NoObject}
-use Rattle.wire_requests.specs.declared.Request.{Request}
 use Rattle.wire_requests.specs.declared.RequestAnswer.{RequestAnswer}
 use Rattle.wire_requests.specs.declared.RequestAnswer.the-variants.{Parsed, Unparsed}
 use Rattle.wire_requests.specs.Requests.{messageMax, requestOf}
 use Rattle.rules.specs.State.{Setup, State, contentAt}
 use Rattle.rules.specs.Answers.{Wrote, Refused, NoRoom}
-use Rattle.rules.specs.Attributes.{FirstAttribute, Number, NoAttribute, Outcome, Gives, Fails, PathSegment, Attributes, valueOf, attributeNamed, getSingle, single, among, classAttributes, shortString, taggedText}
-use Rattle.rules.specs.Upload.{checksum, clamped, started, initiate, Last, NoLast, Was, Position, Upload, NoUpload, Under, Turn, Repeat, InTurn, OutOfTurn, turnOf, advanced, reachesEnd, transferBytes, transferReply, transferFor, transfer, lastOk, positionTests, positionOk, uploadOk}
+use Rattle.rules.specs.Attributes.{FirstAttribute, Number, NoAttribute, Outcome, Gives, Fails, Attributes, valueOf, attributeNamed, getSingle, single, among, classAttributes, shortString, taggedText}
+use Rattle.rules.specs.Upload.{checksum, clamped, started, initiate, Position, Upload, NoUpload, Under, Turn, Repeat, InTurn, OutOfTurn, turnOf, advanced, reachesEnd, transferBytes, transferReply, transferFor, transfer, lastOk, positionTests, positionOk, uploadOk}
 use Rattle.rules.specs.Objects.{identityAttributes, identity, assemblyClass, assemblyAttributes, assemblyPlace, assemblyObject, assembly, interface, tcpIpAttributes, tcpIp, ethernetAttributes, ethernetLink, fileAttributes, initiateUpload, uploadTransfer, edsFile, edsInstance, file}
 use Rattle.rules.specs.Message.{replyHead, replyTo, fileIn, ofClass, ofObject, ofRequest, serviceOf, messageOutcome, messageReply, replyRoom, messageAnswer, messageCall}
 

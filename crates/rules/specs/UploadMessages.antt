@@ -1,7 +1,7 @@
 -- The upload by messages: what a client gets that sends Initiate_Upload and Upload_Transfer to File, instance 0xC8.
 use mathlib.Core.List.{List, [], _∷_, _++_}
-use mathlib.Core.Option.{Option, none, some}
-use mathlib.Core.Bool.{Bool, true, false, cond}
+use mathlib.Core.Option.{some}
+use mathlib.Core.Bool.{true}
 use mathlib.Core.Path.{_≡_, refl, ap, sym, _∙_}
 use Prim.Native.Nat.{ℕ, zero, suc, _*_, _≤_}
 use lib.ListN.{length, drop}
@@ -9,16 +9,14 @@ use Rattle.cells.specs.Numbers.{bytesLe}
 use Rattle.wire_paths.specs.Segments.{logicalAt, between, segAt, stepAt, segsFrom, segsOf}
 use Rattle.wire_paths.specs.ConnectionPath.{gather}
 use Rattle.wire_requests.specs.declared.Object.the-variants.{Named}
-use Rattle.wire_requests.specs.declared.Request.{Request}
-use Rattle.wire_requests.specs.declared.RequestAnswer.{RequestAnswer}
 use Rattle.wire_requests.specs.declared.RequestAnswer.the-variants.{Parsed}
-use Rattle.wire_requests.specs.Requests.{attributeIn, requestOf}
+use Rattle.wire_requests.specs.Requests.{attributeIn, requestWith, requestOf}
 use Rattle.rules.specs.State.{State}
 use Rattle.rules.specs.Attributes.{NoAttribute, Outcome, Gives, Fails}
-use Rattle.rules.specs.Upload.{checksum, clamped, started, initiateReply, initiate, Upload, Under, transfer}
+use Rattle.rules.specs.Upload.{checksum, clamped, initiateReply, initiate, Upload, transfer}
 use Rattle.rules.specs.Objects.{edsFile, file}
 use Rattle.rules.specs.Message.{replyHead, replyTo, ofClass, messageOutcome, messageReply}
-use Rattle.rules.specs.UploadLaws.{Move, Next, Again, Client, client, got, ended, Ask, asksNext, asksAgain, move, moves, nexts, replyIn, step, begins, uploaded-whole, uploaded-ends}
+use Rattle.rules.specs.UploadLaws.{Move, Next, Again, Client, client, got, ended, Ask, asksAgain, move, moves, nexts, replyIn, step, begins, uploaded-whole, uploaded-ends}
 
 -- a message of a service to File, instance 0xC8, with one byte of data
 abbrev pub toFile : ℕ → ℕ → List ℕ
@@ -37,7 +35,7 @@ byMessage st local mask number up =
 
 file-request : (service byte : ℕ)
     → requestOf (toFile service byte) ≡ Parsed (record { service = service; object = Named 0x37 0xC8; attribute = NoAttribute; datastart = 6 })
-unfolding requestOf segsOf segsFrom stepAt segAt between logicalAt gather attributeIn
+unfolding requestOf requestWith segsOf segsFrom stepAt segAt between logicalAt gather attributeIn
 file-request service byte = refl
 
 behind-head : (service : ℕ) (o : Outcome) → drop 4 (replyTo service o) ≡ replyIn o
