@@ -35,22 +35,22 @@ use Rattle.isolation.specs.Ends.{length-removal}
 use Rattle.faults.specs.Names.{ForwardOpen, OpenAnswer, CloseAnswer, Origin, Conn, Info, Event, Plan, Verdict}
 
 -- A REFUSED CALL LEAVES THE WHOLE STATE EQUAL
-no-settles : {s s′ : State} (a b : Answer) → some a ≡ some b → isYes b ≡ false → settled a s′ s .1 ≡ s
-no-settles {s} {s′} a b e n = let k : isYes a ≡ false = cc in rw k refl
+no-settles : (s′ s : State) (a b : Answer) → some a ≡ some b → isYes b ≡ false → settled a s′ s .1 ≡ s
+no-settles s′ s a b e n = let k : isYes a ≡ false = cc in rw k refl
 
 pub refused-leaves : (c : Call) (s : State) (a : Answer) → answer c s ≡ some a → isYes a ≡ false → next c s ≡ s
 unfolding openCall closeCall receiveCall produceCall expireCall setInputCall outputCall nextEventCall
-refused-leaves (Calls.Open t service request g room) s a e n = no-settles _ a e n
+refused-leaves (Calls.Open t service request g room) s a e n = no-settles (openEffect t service request g s) s (openAnswer t service request g room s) a e n
 refused-leaves (Calls.OpenRefusal service request room) s a e n = refl
-refused-leaves (Calls.Close request room) s a e n = no-settles _ a e n
-refused-leaves (Calls.Receive t from frame) s a e n = no-settles _ a e n
-refused-leaves (Calls.Produce t room) s a e n = no-settles _ a e n
-refused-leaves (Calls.Expire t) s a e n = no-settles _ a e n
+refused-leaves (Calls.Close request room) s a e n = no-settles (closeEffect request s) s (closeAnswer request room s) a e n
+refused-leaves (Calls.Receive t from frame) s a e n = no-settles (receiveEffect t from frame s) s (receiveAnswer t) a e n
+refused-leaves (Calls.Produce t room) s a e n = no-settles (produceEffect t s) s (produceAnswer t room s) a e n
+refused-leaves (Calls.Expire t) s a e n = no-settles (expireEffect t s) s (expireAnswer t s) a e n
 refused-leaves (Calls.Deadline room) s a e n = refl
-refused-leaves (Calls.SetInput i bytes) s a e n = no-settles _ a e n
-refused-leaves (Calls.ReadOutput i room) s a e n = no-settles _ a e n
+refused-leaves (Calls.SetInput i bytes) s a e n = no-settles (setInputEffect i bytes s) s (setInputAnswer i bytes (s .setup)) a e n
+refused-leaves (Calls.ReadOutput i room) s a e n = no-settles (outputEffect i s) s (outputAnswer i room s) a e n
 refused-leaves (Calls.ReadAssembly kind i room) s a e n = refl
-refused-leaves (Calls.NextEvent room) s a e n = no-settles _ a e n
+refused-leaves (Calls.NextEvent room) s a e n = no-settles (nextEventEffect s) s (nextEventAnswer room s) a e n
 refused-leaves (Calls.Connections room) s a e n = refl
 refused-leaves (Calls.Stats room) s a e n = refl
 refused-leaves (Calls.Message local mask message room) s a e n = refl
@@ -77,6 +77,7 @@ pushed-bound e es h =
     (λ n. let k = ltb-false (length (es .waiting)) 1024 n in rw n (simp (length-append, length-drop) (omega arith)))
 
 pushed-all-bound : (l : List Event) (es : Events) → length (es .waiting) ≤ 1024 → length (pushedAll l es .waiting) ≤ 1024
+unfolding pushedAll
 pushed-all-bound [] es h = h
 pushed-all-bound (e ∷ l) es h = pushed-all-bound l (pushed e es) (pushed-bound e es h)
 

@@ -74,7 +74,7 @@ stored-run u l (Into j) bytes cs h i = at-change (InRun u l i) i j (holding byte
 
 plan-owned : (now : ℕ) (q : ForwardOpen) (g : Origin) (bytes : List ℕ) (s : State) (v : Verdict) → Owned s → Owned (planEffect now q g bytes s v)
 unfolding opened
-plan-owned now q g bytes s (Stopped x) h = h
+plan-owned now q g bytes s (Stopped x) h i = h i
 plan-owned now q g bytes s (Planned p) h i =
     let c = newConn now q g p (s .nextId) in
     more (s .setup) (s .table) (s .table ++ (c ∷ [])) (λ j y. ListLaws.any-append (ownerOf j) (s .table) (c ∷ []) ∙ ap (λ b. b || (ownerOf j c || false)) y) i
@@ -106,7 +106,7 @@ lost-before i f l =
 
 removed-owned : (fault : Bool) (why : Info → Event) (p : Conn → Bool) (s : State) (x : Option Conn) → find p (s .table) ≡ x → Owned s → Owned (removedIf fault why p s x)
 unfolding removed
-removed-owned fault why p s none e h = h
+removed-owned fault why p s none e h i r = h i r
 removed-owned fault why p s (some c) e h i r =
     let b = h i (lost-before i (c .fixed) (s .contents) r) in
     by-cases (ownerOf i c)
@@ -141,7 +141,7 @@ delivered-run u l f c cs w own h i =
 
 received-owned : (u : Setup) (now from : ℕ) (s : State) → Sound u s → Owned s → (x : Option Frame) → Owned (maybe s (λ f. received now from f s) x)
 unfolding received
-received-owned u now from s q h none = h
+received-owned u now from s q h none i = h i
 received-owned u now from s q h (some f) i =
     more (s .setup) (s .table) (changeFirst (meantFor from f) (hear now f) (s .table))
     (λ j y. ListLaws.any-change (ownerOf j) (meantFor from f) (hear now f) (λ c. ap (λ (x : Fixed). owns j x) (hear-fixed now f c)) (s .table) ∙ y) i
@@ -162,11 +162,11 @@ produce-owned now s h i =
     (λ j y. ListLaws.any-map (sends now) (ownerOf j) (ownerOf j) (λ c. ap (λ (x : Fixed). owns j x) (send-fixed now c)) (s .table) ∙ y) i (getD (s .contents) i noContent) (h i)
 
 input-owned : (bytes : List ℕ) (s : State) → Owned s → (x : Option ℕ) → Owned (inputSet bytes s x)
-input-owned bytes s h none = h
+input-owned bytes s h none i = h i
 input-owned bytes s h (some j) i = at-change (InRun (s .setup) (s .table) i) i j (filled (shapeAt (s .setup) j .size) bytes) (s .contents) (h i) (λ e. h i)
 
 output-owned : (s : State) → Owned s → (x : Option ℕ) → Owned (outputRead s x)
-output-owned s h none = h
+output-owned s h none i = h i
 output-owned s h (some j) i = at-change (InRun (s .setup) (s .table) i) i j read (s .contents) (h i) (λ e. h i)
 
 -- EVERY CALL KEEPS IT

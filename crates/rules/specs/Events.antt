@@ -59,6 +59,6 @@ appended e es = record { gone = es .gone; waiting = es .waiting ++ (e ∷ []) }
 unfoldable pub pushed : Event → Events → Events
 pushed e es = appended (eventRecord e) (cond (ltb (length (es .waiting)) maxEvents) es (oldestGone es))
 
-abbrev pub pushedAll : List Event → Events → Events
+unfoldable pub pushedAll : List Event → Events → Events
 pushedAll [] es = es
 pushedAll (e ∷ rest) es = pushedAll rest (pushed e es)
