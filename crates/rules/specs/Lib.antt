@@ -1,2 +1,15 @@
 pub mod Lists
 pub mod State
+pub mod Answers
+pub mod Setup
+pub mod Events
+pub mod Replies
+pub mod Checks
+pub mod Opening
+pub mod Removal
+pub mod Receiving
+pub mod Producing
+pub mod Host
+pub mod Calls
+pub mod Examples
+pub mod ListLaws

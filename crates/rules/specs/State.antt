@@ -1,11 +1,11 @@
 -- What the adapter remembers: the setup, what each assembly holds, the connections, the events that were not read, the
 -- fault mark, the next id and the counters.
-use mathlib.Core.List.{List, [], _∷_, _++_}
-use mathlib.Core.Option.{Option, none, some}
-use mathlib.Core.Bool.{Bool, true, false, cond, not, _&&_}
-use Prim.Native.Nat.{ℕ, _+_, _%_}
-use lib.Dec.{eqb, ltb}
-use lib.ListN.{length, getD, drop}
+use mathlib.Core.List.{List, [], _∷_, map}
+use mathlib.Core.Option.{Option}
+use mathlib.Core.Bool.{Bool, true, false, _&&_}
+use Prim.Native.Nat.{ℕ}
+use lib.Dec.{eqb}
+use lib.ListN.{getD}
 pub use Rattle.ids.specs.declared.OtId.{OtId}
 pub use Rattle.ids.specs.declared.ToId.{ToId}
 pub use Rattle.ids.specs.declared.Triad.{Triad}
@@ -24,6 +24,14 @@ pub use Rattle.rules.specs.declared.Info.{Info}
 pub use Rattle.rules.specs.declared.Event.{Event}
 pub use Rattle.rules.specs.declared.Event.the-variants.{Opened, Closed, TimedOut, Configured, OutputChanged}
 pub use Rattle.rules.specs.declared.Origin.{Origin}
+pub use Rattle.rules.specs.declared.Stop.{Stop}
+pub use Rattle.rules.specs.declared.Stream.{Stream}
+pub use Rattle.rules.specs.declared.Stream.the-variants.{Joins, Own}
+pub use Rattle.rules.specs.declared.Stores.{Stores}
+pub use Rattle.rules.specs.declared.Stores.the-variants.{Nothing, Into}
+pub use Rattle.rules.specs.declared.Plan.{Plan}
+pub use Rattle.rules.specs.declared.Verdict.{Verdict}
+pub use Rattle.rules.specs.declared.Verdict.the-variants.{Stopped, Planned}
 
 -- what is known of us: vendor, device type, product code, revision, serial number and product name
 pub record Identity : Type 0 where
@@ -158,5 +166,4 @@ produces (At t) = true
 
 -- the fixed parts of the table
 abbrev pub fixeds : List Conn → List Fixed
-fixeds [] = []
-fixeds (c ∷ cs) = c .fixed ∷ fixeds cs
+fixeds table = map (λ c. c .fixed) table

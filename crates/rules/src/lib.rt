@@ -4,6 +4,7 @@
 use ids::OtId;
 use ids::ToId;
 use ids::Triad;
+use wire_opens::NetType;
 
 // What an assembly is for: 1, 2 and 3 in numbers.
 pub enum AssemblyKind {
@@ -105,4 +106,112 @@ pub struct Origin {
     pub given: bool,
     pub socket: Socket,
     pub ioport: u16,
+}
+
+// The first check of document 01 that an open does not pass, with the value found and what would have passed.
+pub enum Stop {
+    // check 1: the transport byte
+    Transport(u8),
+    // check 2: where the path does not parse; a port or attribute segment
+    PathBroken(usize),
+    PathBarred,
+    // check 3: a key that is not ours
+    KeyVendor {
+        found: u16,
+        ours: u16,
+    },
+    KeyProduct {
+        found: u16,
+        ours: u16,
+    },
+    KeyDevice {
+        found: u16,
+        ours: u16,
+    },
+    KeyRevision {
+        major: u8,
+        minor: u8,
+        ourmajor: u8,
+        ourminor: u8,
+    },
+    // check 4: the last class, if any, is not 4; how many instances and points (4 for more); points that we do not have
+    ClassNotFour {
+        given: bool,
+        found: u32,
+    },
+    NumberCount(usize),
+    NoOutputPoint(u32),
+    NoInputPoint(u32),
+    // check 5: configuration data without a configuration assembly, or of another length than its size
+    NoConfig {
+        length: usize,
+    },
+    ConfigLength {
+        found: usize,
+        size: u16,
+    },
+    // check 6: an RPI outside the range
+    OtRpi {
+        found: u32,
+        min: u32,
+        max: u32,
+    },
+    ToRpi {
+        found: u32,
+        min: u32,
+        max: u32,
+    },
+    // check 7: how the directions are carried
+    OtType(NetType),
+    ToType(NetType),
+    // check 8: the O→T size of an owner, and of a heartbeat
+    OwnerSize {
+        found: u32,
+        wanted: u16,
+    },
+    HeartbeatSize(u32),
+    // check 9: the T→O size
+    InputSize {
+        found: u32,
+        wanted: u16,
+    },
+    // check 10: the triad is in use
+    TriadInUse,
+    // check 11: the output, by its instance, has an owner
+    Owned(u16),
+    // check 12: a listen-only open without a stream, multicast or not
+    NoStream,
+    ListenPointToPoint,
+    // check 13: the table is full
+    Full,
+}
+
+// The stream that an open joins: its T→O id, destination and RPI; or none, and it sends its own.
+pub enum Stream {
+    Joins {
+        toid: ToId,
+        dest: Socket,
+        torpi: u32,
+    },
+    Own,
+}
+
+// Where an open's configuration data goes: into the assembly at a place of the setup's list, or there is none.
+pub enum Stores {
+    Nothing,
+    Into(u8),
+}
+
+// What an open that passes every check comes to.
+pub struct Plan {
+    pub kind: Kind,
+    pub input: u8,
+    pub output: u8,
+    pub stores: Stores,
+    pub stream: Stream,
+}
+
+pub enum Verdict {
+    Stopped(Stop),
+    Planned(Plan),
 }

@@ -1,2 +1,2 @@
 pub mod BitLaws
-pub mod RequestLaws
+pub mod Returns

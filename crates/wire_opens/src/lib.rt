@@ -13,6 +13,9 @@ use ids::OtId;
 use ids::ToId;
 use ids::Triad;
 
+// Service data up to 65,536 bytes.
+const LIMIT: usize = 65536;
+
 // How a connection is carried in one direction.
 pub enum NetType {
     Null,
@@ -172,7 +175,7 @@ fn open_with(s: &[u8], large: bool, w: usize) -> OpenAnswer
 pub fn decode_open(request: &[u8], large: bool) -> OpenAnswer
     ensures { λ r. ⌜ r ≡ openOf large (now (request .entry)) ⌝ }
 {
-    if request.len() > 65536 {
+    if request.len() > LIMIT {
         return OpenAnswer::NoOpen;
     }
     if large {
@@ -186,7 +189,7 @@ pub fn decode_open(request: &[u8], large: bool) -> OpenAnswer
 pub fn decode_close(request: &[u8]) -> CloseAnswer
     ensures { λ r. ⌜ r ≡ closeOf (now (request .entry)) ⌝ }
 {
-    if request.len() > 65536 {
+    if request.len() > LIMIT {
         return CloseAnswer::NoClose;
     }
     if request.len() < 12 {
@@ -206,7 +209,7 @@ pub fn transport_class(t: u8) -> u8
 }
 
 // The direction bit of the transport byte.
-pub fn direction_bit(t: u8) -> u8
+fn direction_bit(t: u8) -> u8
     ensures { λ r. ⌜ r ≡ directionBit t ⌝ }
 {
     t >> 7 & 1

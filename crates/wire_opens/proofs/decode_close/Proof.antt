@@ -1,6 +1,6 @@
 use native.Mathlib.Omega.{arith}
 use borrow.Author.Needs.{needs}
-use Rattle.wire_opens.proofs.RequestLaws.{close-over, close-short, close-fits}
+use Rattle.wire_opens.proofs.Returns.{close-over, close-short, close-fits}
 use Rattle.wire_opens.proofs.decode_close.Statement.{statement}
 use Rattle.wire_opens.proofs.decode_close.Tie as tie
 

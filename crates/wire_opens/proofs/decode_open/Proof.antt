@@ -1,6 +1,6 @@
 use native.Mathlib.Omega.{arith}
 use borrow.Author.Needs.{needs}
-use Rattle.wire_opens.proofs.RequestLaws.{open-over, open-within, width-large, width-small}
+use Rattle.wire_opens.proofs.Returns.{open-over, open-within, width-large, width-small}
 use Rattle.wire_opens.proofs.decode_open.Statement.{statement}
 use Rattle.wire_opens.proofs.decode_open.Tie as tie
 

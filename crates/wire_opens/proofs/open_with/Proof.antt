@@ -1,6 +1,6 @@
 use native.Mathlib.Omega.{arith}
 use borrow.Author.Needs.{needs}
-use Rattle.wire_opens.proofs.RequestLaws.{open-short, open-fits}
+use Rattle.wire_opens.proofs.Returns.{open-short, open-fits}
 use Rattle.wire_opens.proofs.open_with.Statement.{statement}
 use Rattle.wire_opens.proofs.open_with.Tie as tie
 

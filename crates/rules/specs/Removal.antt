@@ -1,0 +1,143 @@
+-- Removal of a connection, close and expiry.
+use mathlib.Core.List.{List, [], _∷_, _++_, map}
+use mathlib.Core.Option.{Option, none, some}
+use mathlib.Core.Bool.{Bool, true, false, cond, not, _&&_, _||_}
+use Prim.Native.Nat.{ℕ, _+_, _-_, min}
+use lib.Dec.{eqb, ltb}
+use lib.ListN.{length}
+use Rattle.cells.specs.Numbers.{bytesLe}
+use Rattle.wire_opens.specs.declared.CloseAnswer.{CloseAnswer}
+use Rattle.wire_opens.specs.declared.CloseAnswer.the-variants.{Close, NoClose}
+use Rattle.wire_opens.specs.Requests.{closeOf}
+use Rattle.wire_opens.specs.Timeout.{timeoutOf}
+use Rattle.rules.specs.Replies.{closeReply}
+use Rattle.rules.specs.Lists.{find, any, keep, changeFirst, withoutFirst, changeAt, maybe, isSome, repeat}
+use Rattle.rules.specs.State.{Triad, triadIs, ToId, Kind, isOwner, isListener, Info, Fixed, Heard, Due, Never, At, Sent, Conn, withSent, produces, Event, Closed, TimedOut, Setup, Content, State}
+use Rattle.rules.specs.Answers.{Answer, Wrote, Gone, Refused, NotParsed, NothingThere, fitting, atTime, settled}
+use Rattle.rules.specs.Events.{infoOf, pushed, pushedAll}
+use Rattle.rules.specs.Checks.{hasTriad}
+
+-- the multicast connections of a T→O id
+abbrev pub inStream : ToId → Conn → Bool
+inStream id c = c .fixed .multicast && eqb (c .fixed .toid .0) (id .0)
+
+-- those that are not listen-only
+abbrev pub feeds : ToId → Conn → Bool
+feeds id c = inStream id c && not (isListener (c .fixed .kind))
+
+-- a multicast producer hands sequence, CIP sequence and due time to the first remaining multicast connection of its id, which
+-- then produces (D1: a point-to-point one hands nothing on)
+abbrev pub handsOn : Conn → Bool
+handsOn c = c .fixed .multicast && produces (c .sent .due)
+
+abbrev pub handedOver : Conn → List Conn → List Conn
+handedOver c rest = cond (handsOn c) (changeFirst (inStream (c .fixed .toid)) (withSent (c .sent)) rest) rest
+
+-- if a multicast non-listener went and none is left, its listeners close in table order
+abbrev pub endsStream : Conn → List Conn → Bool
+endsStream c rest = feeds (c .fixed .toid) c && not (any (feeds (c .fixed .toid)) rest)
+
+abbrev pub listenersOf : Conn → List Conn → List Conn
+listenersOf c rest = cond (endsStream c rest) (keep (inStream (c .fixed .toid)) rest) []
+
+abbrev pub withoutListeners : Conn → List Conn → List Conn
+withoutListeners c rest = cond (endsStream c rest) (keep (λ x. not (inStream (c .fixed .toid) x)) rest) rest
+
+-- the table after `c` has gone and `rest` is left
+abbrev pub afterRemoval : Conn → List Conn → List Conn
+afterRemoval c rest = withoutListeners c (handedOver c rest)
+
+-- the table after the removal of the first that passes a test
+abbrev pub removeFirst : (Conn → Bool) → List Conn → List Conn
+removeFirst p table = maybe table (λ c. afterRemoval c (withoutFirst p table)) (find p table)
+
+-- then the removed connection's output loses run; output bytes stay
+abbrev pub idle : Content → Content
+idle a = record { bytes = a .bytes; run = false; notified = a .notified }
+
+abbrev pub runLost : Fixed → List Content → List Content
+runLost f contents = cond (isOwner (f .kind)) (changeAt (f .output) idle contents) contents
+
+-- its own event comes after its listeners'
+abbrev pub closedEvents : Setup → List Conn → List Event
+closedEvents u cs = map (λ c. Closed (infoOf u (c .fixed))) cs
+
+unfoldable pub removed : Bool → (Info → Event) → (Conn → Bool) → Conn → State → State
+removed fault why p c st =
+    let rest = withoutFirst p (st .table) in
+    record {
+      setup = st .setup;
+      contents = runLost (c .fixed) (st .contents);
+      table = afterRemoval c rest;
+      events = pushed (why (infoOf (st .setup) (c .fixed))) (pushedAll (closedEvents (st .setup) (listenersOf c (handedOver c rest))) (st .events));
+      fault = fault || st .fault;
+      nextId = st .nextId;
+      counters = st .counters;
+    }
+
+abbrev pub removedIf : Bool → (Info → Event) → (Conn → Bool) → State → Option Conn → State
+removedIf fault why p st none = st
+removedIf fault why p st (some c) = removed fault why p c st
+
+abbrev pub connTriad : Triad → Conn → Bool
+connTriad t c = hasTriad t (c .fixed)
+
+-- CLOSE: No. 4, 9, 8
+unfoldable pub closed : Triad → State → State
+closed t st = removedIf false Closed (connTriad t) st (find (connTriad t) (st .table))
+
+abbrev pub closeFor : ℕ → State → CloseAnswer → Answer
+closeFor room st NoClose = Refused NotParsed
+closeFor room st (Close t) = cond (any (connTriad t) (st .table)) (fitting room (closeReply t) (Wrote (closeReply t))) (Refused NothingThere)
+
+abbrev pub closeBy : State → CloseAnswer → State
+closeBy st NoClose = st
+closeBy st (Close t) = closed t st
+
+unfoldable pub closeAnswer : List ℕ → ℕ → State → Answer
+closeAnswer request room st = closeFor room st (closeOf request)
+
+unfoldable pub closeEffect : List ℕ → State → State
+closeEffect request st = closeBy st (closeOf request)
+
+unfoldable pub closeCall : List ℕ → ℕ → State → Answer × State
+closeCall request room st = settled (closeAnswer request room st) (closeEffect request st) st
+
+-- A connection expires when now minus its last receive time, or its open time before any frame, exceeds its timeout; a clock
+-- behind that time counts as 0. Kept is that time plus the timeout (ExpiryLaws says that it is the same)
+abbrev pub expired : ℕ → Conn → Bool
+expired t c = ltb (c .heard .until) t
+
+-- expiry removes the first such, repeatedly, and sets the fault mark
+unfoldable pub expiredFirst : ℕ → State → State
+expiredFirst t st = removedIf true TimedOut (expired t) st (find (expired t) (st .table))
+
+unfoldable pub expireEffect : ℕ → State → State
+expireEffect t st = repeat (length (st .table)) (expiredFirst t) st
+
+-- EXPIRE: No. 3; how many went
+unfoldable pub expireAnswer : ℕ → State → Answer
+expireAnswer t st = atTime t (Gone (length (st .table) - length (expireEffect t st .table)))
+
+unfoldable pub expireCall : ℕ → State → Answer × State
+expireCall t st = settled (expireAnswer t st) (expireEffect t st) st
+
+-- the next deadline is the least of producing due times and receive time plus timeout
+abbrev pub dueOr : ℕ → Due → ℕ
+dueOr m Never = m
+dueOr m (At t) = min m t
+
+abbrev pub deadlineOf : Conn → ℕ
+deadlineOf c = dueOr (c .heard .until) (c .sent .due)
+
+abbrev pub leastOf : ℕ → List Conn → ℕ
+leastOf m [] = m
+leastOf m (c ∷ cs) = leastOf (min m (deadlineOf c)) cs
+
+abbrev pub deadline : List Conn → Option ℕ
+deadline [] = none
+deadline (c ∷ cs) = some (leastOf (deadlineOf c) cs)
+
+-- NEXT_DEADLINE: No. 9, 8; the time in 8 bytes, little-endian
+unfoldable pub deadlineAnswer : ℕ → State → Answer
+deadlineAnswer room st = maybe (Refused NothingThere) (λ t. fitting room (bytesLe 8 t) (Wrote (bytesLe 8 t))) (deadline (st .table))

@@ -1,0 +1,65 @@
+-- I/O frames, from document 01: "address item of exactly 8 bytes (id, sequence), then the data item".
+use Prim.Native.Nat.{ℕ, _+_}
+use mathlib.Core.List.{List, [], _∷_, _++_}
+use lib.ListN.{length, take, drop}
+use lib.Dec.{leb, eqb}
+use Rattle.cells.specs.Pick.{pick}
+use Rattle.cells.specs.Numbers.{le, bytesLe}
+use Rattle.cells.specs.Writes.{written}
+use Rattle.cells.specs.declared.Written.{Written}
+use Rattle.cells.specs.declared.Written.the-variants.{NoRoom}
+use Rattle.ids.specs.declared.OtId.{OtId}
+use Rattle.wire_items.specs.Items.{Part, Items, wellFormed, broken, itemsOf}
+use Rattle.wire_items.specs.declared.IoFrame.{IoFrame}
+use Rattle.wire_items.specs.declared.IoFrame.the-variants.{Io, NotIo, Broken}
+
+abbrev pub otId : ℕ → OtId
+otId n = record { 0 = n }
+
+-- a sequenced address item (0x8002) of exactly 8 bytes, id and sequence, then a connected data item (0x00B1)
+abbrev pub ioPair : List ℕ → Part → Part → IoFrame
+ioPair s a d =
+    pick (eqb (a .kind) 0x8002)
+    (pick (eqb (a .len) 8)
+    (pick (eqb (d .kind) 0xB1)
+    (Io (otId (le 4 s (a .start))) (le 4 s (a .start + 4)) (d .start) (d .len))
+    NotIo) NotIo) NotIo
+
+-- "Only the first two matter to an I/O frame"
+abbrev pub firstTwo : List ℕ → List Part → IoFrame
+firstTwo s [] = NotIo
+firstTwo s (a ∷ []) = NotIo
+firstTwo s (a ∷ (d ∷ l)) = ioPair s a d
+
+-- broken at an offset before all else; "frames up to 65,536 bytes"
+abbrev pub ioOfItems : List ℕ → Items → IoFrame
+ioOfItems s (broken o) = Broken o
+ioOfItems s (wellFormed l) = pick (leb (length s) 65536) (firstTwo s l) NotIo
+
+unfoldable pub ioOf : List ℕ → IoFrame
+ioOf s = ioOfItems s (itemsOf s)
+
+-- an item's bytes: kind, size, then the bytes themselves
+abbrev pub item : ℕ → List ℕ → List ℕ
+item kind bs = bytesLe 2 kind ++ (bytesLe 2 (length bs) ++ bs)
+
+-- the frame of a connection: two items, the second with the 16-bit CIP sequence before the data
+unfoldable pub ioFrame : ℕ → ℕ → ℕ → List ℕ → List ℕ
+ioFrame id sequence cip bs =
+    bytesLe 2 2
+    ++ (item 0x8002 (bytesLe 4 id ++ bytesLe 4 sequence)
+    ++ item 0xB1 (bytesLe 2 cip ++ bs))
+
+-- what the frame writer leaves of the output. An item's size has 16 bits: there is no room in it for more than 65,535 bytes
+unfoldable pub frameWritten : List ℕ → ℕ → ℕ → ℕ → List ℕ → Written × List ℕ
+frameWritten out id sequence cip bs = pick (leb (2 + length bs) 65535) (written out (ioFrame id sequence cip bs)) (NoRoom, out)
+
+abbrev pub behind : List ℕ → Written × List ℕ → Written × List ℕ
+behind front w = (w .0, front ++ w .1)
+
+-- the same, for the rest of the output from `at` on; what stands before `at` stays
+unfoldable pub frameAppended : List ℕ → ℕ → ℕ → ℕ → ℕ → List ℕ → Written × List ℕ
+frameAppended out at id sequence cip bs =
+    pick (leb at (length out))
+    (behind (take at out) (frameWritten (drop at out) id sequence cip bs))
+    (NoRoom, out)
