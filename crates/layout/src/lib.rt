@@ -197,7 +197,16 @@ fn put_heard_in(row: &mut [u8], role: u8, h: Heard)
     cells::put_u8(row, 28, flags_number(role, h.any, h.anycip));
 }
 
-fn put_fixed_low(row: &mut [u8], input: u8, output: u8, port: u16, otid: u32, originator: u32, toid: u32, otrpi: u32)
+fn put_fixed_low(
+    row: &mut [u8],
+    input: u8,
+    output: u8,
+    port: u16,
+    otid: u32,
+    originator: u32,
+    toid: u32,
+    otrpi: u32,
+)
     requires { ⌜ 70 ≤ length (now row) ⌝ }
     ensures { λ _. ⌜ now (row .exit) ≡ putFields wLow (now (row .entry)) 29 (input ∷ output ∷ port ∷ otid ∷ originator ∷ toid ∷ otrpi ∷ []) ⌝ }
 {
@@ -210,7 +219,16 @@ fn put_fixed_low(row: &mut [u8], input: u8, output: u8, port: u16, otid: u32, or
     cells::put_u32(row, 45, otrpi);
 }
 
-fn put_fixed_high(row: &mut [u8], torpi: u32, address: u32, local: u32, serial: u16, vendor: u16, owner: u32, multiplier: u8)
+fn put_fixed_high(
+    row: &mut [u8],
+    torpi: u32,
+    address: u32,
+    local: u32,
+    serial: u16,
+    vendor: u16,
+    owner: u32,
+    multiplier: u8,
+)
     requires { ⌜ 70 ≤ length (now row) ⌝ }
     ensures { λ _. ⌜ now (row .exit) ≡ putFields wHigh (now (row .entry)) 49 (torpi ∷ address ∷ local ∷ serial ∷ vendor ∷ owner ∷ multiplier ∷ []) ⌝ }
 {
@@ -227,8 +245,26 @@ fn put_fixed_in(row: &mut [u8], f: Fixed)
     requires { ⌜ 70 ≤ length (now row) ⌝ }
     ensures { λ _. ⌜ now (row .exit) ≡ putFields wFixed (now (row .entry)) 29 (listFixed f) ⌝ }
 {
-    put_fixed_low(row, f.input, f.output, f.dest.port, f.otid.0, f.originator, f.toid.0, f.otrpi);
-    put_fixed_high(row, f.torpi, f.dest.address, f.local, f.triad.serial, f.triad.vendor, f.triad.originator, f.multiplier);
+    put_fixed_low(
+        row,
+        f.input,
+        f.output,
+        f.dest.port,
+        f.otid.0,
+        f.originator,
+        f.toid.0,
+        f.otrpi,
+    );
+    put_fixed_high(
+        row,
+        f.torpi,
+        f.dest.address,
+        f.local,
+        f.triad.serial,
+        f.triad.vendor,
+        f.triad.originator,
+        f.multiplier,
+    );
 }
 
 fn put_conn_in(row: &mut [u8], c: Conn)
