@@ -1,27 +1,32 @@
 -- What each change in place makes of a held state.
 use Prim.Native.Nat.{ℕ, _+_, _*_, _/_, _-_, _≤_, _<_, _%_}
-use mathlib.Core.Bool.{Bool}
+use mathlib.Core.Bool.{Bool, true, false, cond}
 use mathlib.Core.List.{List, [], _∷_, _++_}
-use mathlib.Core.Path.{_≡_, refl, ap, ap₂, sym, _∙_}
+use mathlib.Core.Path.{_≡_, refl, ap, sym, _∙_}
 use native.Mathlib.Omega.{arith}
-use lib.ListN.{length, getD, drop, set}
+use lib.Dec.{ltb}
+use lib.ListN.{length, getD, drop, set, length-append, length-drop}
 use lib.Seq.{sets}
 use borrow.Rule.Slice.PartMut.{putMid}
+use borrow.Author.Tests.{lt-ltb, le-ltb, ltb-true, ltb-false}
 use Rattle.cells.specs.Numbers.{le, put}
 use Rattle.cells.specs.Records.{ofBool}
 use Rattle.tables.specs.Tables.{without}
-use Rattle.rules.specs.State.{Content, State, contentAt, withContents, withTable, withEvents, withFault, withNextId, withCounters, withHeard, withSent}
+use Rattle.tables.specs.Ring.{by-cases}
+use Rattle.rules.specs.Events.{maxEvents, oldestGone, appended}
+use Rattle.rules.specs.State.{Content, Events, State, contentAt, withContents, withTable, withEvents, withFault, withNextId, withCounters, withHeard, withSent}
 use Rattle.rules.specs.declared.Conn.{Conn}
 use Rattle.rules.specs.declared.Heard.{Heard}
 use Rattle.rules.specs.declared.Sent.{Sent}
 use Rattle.layout.specs.Places.{tableIn}
 use Rattle.layout.specs.Rows.{encConn, encHeard, encSent}
 use Rattle.layout.specs.Cut.{cut}
-use Rattle.image.specs.Image.{markOf, store}
-use Rattle.image.specs.Fits.{Fits, Suits}
+use Rattle.image.specs.Image.{store}
+use Rattle.image.specs.Fits.{Suits}
 use Rattle.image.specs.Updates.{noConn, produced-stored, late-stored, maxLate-stored, nextId-stored, fault-stored, heard-stored, sent-stored, appended-stored, removed-stored}
 use Rattle.image.specs.Writes.{withBytes, bytes-stored, mark-stored, pushed-stored, pushed-full-stored}
-use Rattle.image.specs.Holds.{Holds, Held, Becomes, BecomesHeld, conns-held, gone-held, waiting-held}
+use Rattle.image.specs.Holds.{Holds, Becomes, BecomesHeld, assemblies-held, conns-held, gone-held, waiting-held}
+use Rattle.image.specs.Kept.{suits-counters, suits-events, records-append, records-drop}
 
 -- ---- the head
 
@@ -49,6 +54,19 @@ module _ (s : List ℕ) where
 
   pub fault-becomes : (b : Bool) → Becomes s (put 2 s 226 (ofBool b)) (withFault b)
   fault-becomes b st l h = ap (λ (z : List ℕ). put 2 z 226 (ofBool b)) (h .is) ∙ fault-stored st l (h .suits) b
+
+abbrev pub countersAs : ℕ → ℕ → ℕ → State → State
+countersAs produced late maxLate st = withCounters (record { produced = produced; late = late; maxLate = maxLate }) st
+
+pub counters-become : (s : List ℕ) (p q m : ℕ) → Becomes s (put 8 (put 8 (put 8 s 192 p) 200 q) 208 m) (countersAs p q m)
+counters-become s p q m st l h =
+    let st₁ : State = producedAs p st in
+    let w₁ : Suits st₁ l = suits-counters st l (h .suits) (st₁ .counters) in
+    let h₁ : Holds (put 8 s 192 p) st₁ l = record { is = produced-becomes s p st l h; suits = w₁ } in
+    let st₂ : State = lateAs q st₁ in
+    let h₂ : Holds (put 8 (put 8 s 192 p) 200 q) st₂ l =
+    record { is = late-becomes (put 8 s 192 p) q st₁ l h₁; suits = suits-counters st l (h .suits) (st₂ .counters) } in
+    maxLate-becomes (put 8 (put 8 s 192 p) 200 q) m st₂ l h₂
 
 -- ---- the table
 
@@ -119,24 +137,61 @@ module _ (s : List ℕ) (st : State) (l : List ℕ) (h : Holds s st l) where
       ap (λ (z : List ℕ). put 1 z (240 + i) (ofBool run + 2 * ofBool notified)) (h .is)
       ∙ mark-stored st l (h .suits) i (marked run notified (contentAt st i)) p refl
 
+-- the same as contracts say it; bytes only where there are as many
+abbrev pub BytesBecome : ℕ → List ℕ → List ℕ → List ℕ → Type 0
+BytesBecome i d s s′ = (st : State) (l : List ℕ) → Holds s st l → length d ≡ length (contentAt st i .bytes) → s′ ≡ store (bytesAs i d st) l
+
+pub bytes-become : (s : List ℕ) (i : ℕ) (d : List ℕ) → i < le 1 s 0 → BytesBecome i d s (sets s (35328 + i * 512) d)
+bytes-become s i d p st l h n = let e = assemblies-held s st l h in bytes-put s st l h i d (omega arith) n
+
+pub mark-becomes : (s : List ℕ) (i : ℕ) (run notified : Bool) → i < le 1 s 0
+    → Becomes s (put 1 s (240 + i) (ofBool run + 2 * ofBool notified)) (markAs i run notified)
+mark-becomes s i run notified p st l h = let e = assemblies-held s st l h in mark-put s st l h i run notified (omega arith)
+
 -- ---- an event more
 
-abbrev pub eventAdded : List ℕ → State → State
-eventAdded e st = withEvents (record { gone = st .events .gone; waiting = st .events .waiting ++ (e ∷ []) }) st
+-- a record behind the last, or over the oldest
+abbrev pub recordPushed : List ℕ → Events → Events
+recordPushed e es = appended e (cond (ltb (length (es .waiting)) maxEvents) es (oldestGone es))
 
-abbrev pub eventOver : List ℕ → State → State
-eventOver e st = withEvents (record { gone = (st .events .gone + 1) % 1024; waiting = drop 1 (st .events .waiting) ++ (e ∷ []) }) st
+abbrev pub eventPushed : List ℕ → State → State
+eventPushed e st = withEvents (recordPushed e (st .events)) st
 
-module _ (s : List ℕ) (st : State) (l : List ℕ) (h : Holds s st l) (e : List ℕ) (whole : length e ≡ 32) (g n : ℕ) (eg : g ≡ le 2 s 220) (en : n ≡ le 2 s 222) where
-  pub push-room : n < 1024 → put 2 (sets s (2560 + ((g + n) % 1024) * 32) e) 222 (n + 1) ≡ store (eventAdded e st) l
-  push-room p =
+module _ (s : List ℕ) (e : List ℕ) (whole : length e ≡ 32) (g n : ℕ) (eg : g ≡ le 2 s 220) (en : n ≡ le 2 s 222) where
+  pub push-room : n < 1024 → Becomes s (put 2 (sets s (2560 + ((g + n) % 1024) * 32) e) 222 (n + 1)) (eventPushed e)
+  unfolding appended
+  push-room p st l h =
       let a : g ≡ st .events .gone = eg ∙ gone-held s st l h in
       let b : n ≡ length (st .events .waiting) = en ∙ waiting-held s st l h in
-      (λ j. put 2 (sets (h .is j) (2560 + ((a j + b j) % 1024) * 32) e) 222 (b j + 1)) ∙ pushed-stored st l (h .suits) e whole (omega arith)
+      let t : ltb (length (st .events .waiting)) 1024 ≡ true = lt-ltb (length (st .events .waiting)) 1024 (omega arith) in
+      (λ j. put 2 (sets (h .is j) (2560 + ((a j + b j) % 1024) * 32) e) 222 (b j + 1))
+      ∙ pushed-stored st l (h .suits) e whole (omega arith)
+      ∙ ap (λ (v : Bool). store (withEvents (appended e (cond v (st .events) (oldestGone (st .events)))) st) l) (sym t)
 
-  pub push-full : 1024 ≤ n → put 2 (sets s (2560 + g * 32) e) 220 ((g + 1) % 1024) ≡ store (eventOver e st) l
-  push-full p =
+  pub push-full : 1024 ≤ n → Becomes s (put 2 (sets s (2560 + g * 32) e) 220 ((g + 1) % 1024)) (eventPushed e)
+  unfolding appended oldestGone
+  push-full p st l h =
       let a : g ≡ st .events .gone = eg ∙ gone-held s st l h in
       let b : n ≡ length (st .events .waiting) = en ∙ waiting-held s st l h in
       let m = h .suits .fits .waiting in
-      (λ j. put 2 (sets (h .is j) (2560 + a j * 32) e) 220 ((a j + 1) % 1024)) ∙ pushed-full-stored st l (h .suits) e whole (omega arith)
+      let t : ltb (length (st .events .waiting)) 1024 ≡ false = le-ltb (length (st .events .waiting)) 1024 (omega arith) in
+      (λ j. put 2 (sets (h .is j) (2560 + a j * 32) e) 220 ((a j + 1) % 1024))
+      ∙ pushed-full-stored st l (h .suits) e whole (omega arith)
+      ∙ ap (λ (v : Bool). store (withEvents (appended e (cond v (st .events) (oldestGone (st .events)))) st) l) (sym t)
+
+-- the state with an event more can be stored
+pub suits-pushed : (st : State) (l : List ℕ) → Suits st l → (e : List ℕ) → length e ≡ 32 → Suits (eventPushed e st) l
+unfolding appended oldestGone
+suits-pushed st l w e whole =
+    let es : Events = st .events in
+    let f = w .fits in
+    let g = f .gone in
+    let n = f .waiting in
+    by-cases (ltb (length (es .waiting)) 1024)
+    (λ t. let q = ltb-true (length (es .waiting)) 1024 t in
+    rw t (suits-events st l w (record { gone = es .gone; waiting = es .waiting ++ (e ∷ []) }) g
+    (let z = length-append (es .waiting) (e ∷ []) in omega arith) (records-append (es .waiting) e (f .records) whole)))
+    (λ t.
+    rw t (suits-events st l w (record { gone = (es .gone + 1) % 1024; waiting = drop 1 (es .waiting) ++ (e ∷ []) }) (omega arith)
+    (let z = length-append (drop 1 (es .waiting)) (e ∷ []) in let y = length-drop 1 (es .waiting) in let q = ltb-false (length (es .waiting)) 1024 t in omega arith)
+    (records-append (drop 1 (es .waiting)) e (records-drop (es .waiting) (f .records)) whole)))

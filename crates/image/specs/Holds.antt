@@ -1,26 +1,25 @@
 -- A buffer that holds a state over a buffer lent: the contracts' words, and what is read of such a buffer.
-use Prim.Native.Nat.{ℕ, zero, suc, _+_, _*_, _-_, _≤_, _<_}
-use mathlib.Core.Bool.{Bool, true, false}
-use mathlib.Core.List.{List, [], _∷_, _++_, map}
-use mathlib.Core.Path.{_≡_, refl, ap, ap₂, sym, _∙_}
+use Prim.Native.Nat.{ℕ, _+_, _*_, _-_, _≤_, _<_}
+use mathlib.Core.Bool.{true}
+use mathlib.Core.List.{List, [], map}
+use mathlib.Core.Path.{_≡_, ap, sym, _∙_}
 use native.Mathlib.Omega.{arith}
 use lib.ListN.{length, getD, take, drop, length-map, List·getD-map, List·getD-append}
 use lib.Seq.{drop-drop, take-take, getD-drop, getD-take}
-use Rattle.cells.specs.Numbers.{le, drop-take, le-take}
+use Rattle.cells.specs.Numbers.{le, drop-take}
 use Rattle.cells.specs.Records.{ofBool}
 use Rattle.cells.specs.Back.{Bytes}
 use Rattle.tables.specs.Tables.{rows, length-rows}
 use Rattle.tables.specs.Store.{row-stored}
-use Rattle.tables.specs.Slots.{fill, slot-at}
-use Rattle.rules.specs.State.{Setup, Shape, Content, State, noContent, shapeAt, contentAt}
-use Rattle.rules.specs.declared.Conn.{Conn}
+use Rattle.tables.specs.Slots.{slot-at}
+use Rattle.rules.specs.State.{Setup, State, noContent, shapeAt, contentAt}
 use Rattle.layout.specs.Places.{setupIn, marksIn, tableIn, dataIn}
-use Rattle.layout.specs.Setups.{setupOf, decShape, shapeIn, goodShapes}
+use Rattle.layout.specs.Setups.{setupOf, decShape, shapeIn}
 use Rattle.layout.specs.Rows.{decConn, encConn}
 use Rattle.layout.specs.RowLaws.{length-encConn, dec-encConn}
 use Rattle.image.specs.Image.{view, store, tested, markOf, bytesOf, marksOf, tableOf, dataOf}
-use Rattle.image.specs.Fits.{Fits, Lent, Suits, few-assemblies, shape-short, shape-at, length-assemblies, is-long, is-sound, shapes-good, few-conns, first-slot, few-events}
-use Rattle.image.specs.StoreLaws.{length-store, few-contents, short-bytes, content-short, room, length-dataIn, setup-of-store, marks-of-store, table-of-store, data-of-store, setup-kept, assemblies-is, produced-is, late-is, maxLate-is, nextId-is, gone-is, waiting-is, conns-is, fault-is}
+use Rattle.image.specs.Fits.{Suits, few-assemblies, shape-short, shape-at, is-long, is-sound, shapes-good, few-conns, first-slot, few-events}
+use Rattle.image.specs.StoreLaws.{length-store, few-contents, short-bytes, content-short, room, marks-of-store, table-of-store, data-of-store, setup-kept, assemblies-is, produced-is, late-is, maxLate-is, nextId-is, gone-is, waiting-is, conns-is, fault-is}
 use Rattle.image.specs.ViewLaws.{suits-view, store-view, table-read}
 use Rattle.image.specs.TestLaws.{assemblies-in}
 use Rattle.image.specs.Updates.{noConn}

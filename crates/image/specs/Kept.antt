@@ -1,18 +1,20 @@
 -- A changed state can be stored where the state could: one law for each part that calls change; and a changed buffer keeps its bounds.
-use Prim.Native.Nat.{ℕ, zero, suc, _+_, _*_, _-_, _≤_, _<_, _%_}
-use mathlib.Core.Bool.{Bool}
+use Prim.Native.Nat.{ℕ, zero, suc, _+_, _-_, _≤_, _<_}
+use mathlib.Core.Bool.{Bool, true, false}
 use mathlib.Core.List.{List, [], _∷_, _++_}
 use mathlib.Core.Path.{_≡_, refl, ap, sym, _∙_}
 use native.Mathlib.Omega.{arith}
-use lib.ListN.{length, getD, take, drop, set, length-append, length-drop, length-set}
+use lib.ListN.{length, getD, take, drop, set, length-append, length-set}
 use lib.Seq.{sets, length-sets, take-take}
 use borrow.Rule.Slice.PartMut.{midOf, putMid, take-put, same-len-mid}
-use Rattle.cells.specs.Numbers.{le, put, length-put, le-same, le-put-same, le-put-before, le-put-after, take-sets, le-take}
+use mir.Val.{boolByte}
+use Rattle.cells.specs.Records.{ofBool}
+use Rattle.cells.specs.Numbers.{le, put, bytesLe, length-put, le-same, le-put-same, le-put-before, le-put-after, take-sets, take-put as take-put-le}
 use Rattle.tables.specs.Tables.{without}
 use Rattle.rules.specs.State.{Content, Counters, Events, State, noContent, contentAt, withContents, withTable, withEvents, withFault, withNextId, withCounters}
 use Rattle.rules.specs.declared.Conn.{Conn}
-use Rattle.layout.specs.Setups.{decShape, shapeIn}
-use Rattle.image.specs.Fits.{Records32, none, one, Fits, Lent, Suits}
+use Rattle.layout.specs.Setups.{shapeIn}
+use Rattle.image.specs.Fits.{Records32, none, one, Fits, Suits}
 use Rattle.image.specs.Holds.{Ready, Slotted, shape-in}
 
 -- ---- lists
@@ -197,3 +199,106 @@ module _ (s : List ℕ) (r : Ready s) where
         events = rw (le-put-before 2 2 s 222 226 v (omega arith)) (r .events);
         conns = rw (le-put-before 2 2 s 224 226 v (omega arith)) (r .conns);
       }
+
+-- ---- what a change in place keeps: the bounds, the setup, and a number of connections
+
+pub record Kept (n : ℕ) (s s′ : List ℕ) : Type 0 where
+  pub ready : Ready s′
+  pub setup : take 192 s′ ≡ take 192 s
+  pub conns : le 2 s′ 224 ≡ n
+
+pub kept-slotted : (n : ℕ) (s s′ : List ℕ) → Ready s → Kept n s s′ → Slotted s → Slotted s′
+kept-slotted n s s′ r k = slotted-same s s′ (k .setup) (r .assemblies)
+
+pub kept-trans : (n m : ℕ) (s s′ s″ : List ℕ) → Kept n s s′ → Kept m s′ s″ → Kept m s s″
+kept-trans n m s s′ s″ a b = record { ready = b .ready; setup = b .setup ∙ a .setup; conns = b .conns }
+
+pub kept-none : (s : List ℕ) → Ready s → Kept (le 2 s 224) s s
+kept-none s r = record { ready = r; setup = refl; conns = refl }
+
+module _ (s : List ℕ) (r : Ready s) where
+  -- stores behind the head
+  pub kept-sets : (at : ℕ) (bs : List ℕ) → 240 ≤ at → Kept (le 2 s 224) s (sets s at bs)
+  kept-sets at bs h =
+      record {
+        ready = ready-sets s at bs h r;
+        setup = take-sets 192 s at bs (omega arith);
+        conns = conns-same s (sets s at bs) (length-sets s at bs) (take-sets 240 s at bs h);
+      }
+
+  -- the table's region put back, and put back with another count
+  module _ (x : List ℕ) (n : length x ≡ length (midOf 256 2304 s)) where
+    mid-same : (k : ℕ) → k ≤ 256 → take k (putMid 256 2304 s x) ≡ take k s
+    mid-same k h =
+        let long = r .long in
+        sym (take-take k 256 (putMid 256 2304 s x) h) ∙ ap (take k) (take-put 256 2304 s x (omega arith)) ∙ take-take k 256 s h
+
+    pub kept-table : Kept (le 2 s 224) s (putMid 256 2304 s x)
+    kept-table =
+        record {
+          ready = ready-mid s 256 2304 x (omega arith) (omega arith) n r;
+          setup = mid-same 192 (omega arith);
+          conns = conns-same s (putMid 256 2304 s x) (same-len-mid 256 2304 s x n) (mid-same 240 (omega arith));
+        }
+
+    pub kept-counted : (m : ℕ) → m ≤ 32 → Kept m s (put 2 (putMid 256 2304 s x) 224 m)
+    kept-counted m h =
+        let s₁ : List ℕ = putMid 256 2304 s x in
+        let long = kept-table .ready .long in
+        record {
+          ready = ready-conns s₁ (kept-table .ready) m h;
+          setup = take-put-le 2 s₁ 224 m 192 (omega arith) ∙ kept-table .setup;
+          conns = le-put-same 1 s₁ 224 m (omega arith);
+        }
+
+  -- one of the head's other numbers
+  pub kept-low : (k at v : ℕ) → 192 ≤ at → at + k ≤ 220 → Kept (le 2 s 224) s (put k s at v)
+  kept-low k at v h g =
+      record { ready = ready-low s r k at v h g; setup = take-put-le k s at v 192 h; conns = le-put-after 2 k s 224 at v (omega arith) }
+
+  pub kept-fault : (v : ℕ) → Kept (le 2 s 224) s (put 2 s 226 v)
+  kept-fault v = record { ready = ready-fault s r v; setup = take-put-le 2 s 226 v 192 (omega arith); conns = le-put-before 2 2 s 224 226 v (omega arith) }
+
+  -- an event's record, and then the count or the first slot
+  pub kept-room : (at : ℕ) (bs : List ℕ) (v : ℕ) → 240 ≤ at → v ≤ 1024 → Kept (le 2 s 224) s (put 2 (sets s at bs) 222 v)
+  kept-room at bs v h g =
+      let k = kept-sets at bs h in
+      let s₁ : List ℕ = sets s at bs in
+      record {
+        ready = ready-events s₁ (k .ready) v g;
+        setup = take-put-le 2 s₁ 222 v 192 (omega arith) ∙ k .setup;
+        conns = le-put-after 2 2 s₁ 224 222 v (omega arith) ∙ k .conns;
+      }
+
+  pub kept-full : (at : ℕ) (bs : List ℕ) (v : ℕ) → 240 ≤ at → v < 1024 → Kept (le 2 s 224) s (put 2 (sets s at bs) 220 v)
+  kept-full at bs v h g =
+      let k = kept-sets at bs h in
+      let s₁ : List ℕ = sets s at bs in
+      record {
+        ready = ready-first s₁ (k .ready) v g;
+        setup = take-put-le 2 s₁ 220 v 192 (omega arith) ∙ k .setup;
+        conns = le-put-after 2 2 s₁ 224 220 v (omega arith) ∙ k .conns;
+      }
+
+  -- a number behind the head
+  pub kept-put : (k at v : ℕ) → 240 ≤ at → Kept (le 2 s 224) s (put k s at v)
+  unfolding put
+  kept-put k at v h = kept-sets at (bytesLe k v) h
+
+  -- the three counters
+  pub kept-counters : (p q m : ℕ) → Kept (le 2 s 224) s (put 8 (put 8 (put 8 s 192 p) 200 q) 208 m)
+  kept-counters p q m =
+      let k₁ = kept-low 8 192 p (omega arith) (omega arith) in
+      let s₁ : List ℕ = put 8 s 192 p in
+      let s₂ : List ℕ = put 8 s₁ 200 q in
+      let r₂ : Ready s₂ = ready-low s₁ (k₁ .ready) 8 200 q (omega arith) (omega arith) in
+      record {
+        ready = ready-low s₂ r₂ 8 208 m (omega arith) (omega arith);
+        setup = take-put-le 8 s₂ 208 m 192 (omega arith) ∙ take-put-le 8 s₁ 200 q 192 (omega arith) ∙ k₁ .setup;
+        conns = le-put-after 2 8 s₂ 224 208 m (omega arith) ∙ le-put-after 2 8 s₁ 224 200 q (omega arith) ∙ k₁ .conns;
+      }
+
+-- a bool that code takes as a number
+pub byte-of : (b : Bool) → boolByte b ≡ ofBool b
+byte-of true = refl
+byte-of false = refl

@@ -12,3 +12,4 @@ pub mod Holds
 pub mod Kept
 pub mod Changes
 pub mod Lift
+pub mod Searches

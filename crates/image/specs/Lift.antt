@@ -1,9 +1,9 @@
 -- A call of the rules on lent bytes, once and for all: No. 1 and the bytes as they were where the state test fails, else the call's
 -- answer in document 01's numbers, and the state that it leaves written over the bytes.
 use Prim.Native.Nat.{ℕ}
-use mathlib.Core.Bool.{Bool, true, false}
+use mathlib.Core.Bool.{true, false}
 use mathlib.Core.List.{List, []}
-use mathlib.Core.Path.{_≡_, refl, ap, sym, _∙_}
+use mathlib.Core.Path.{_≡_, ap, sym, _∙_}
 use lib.ListN.{length}
 use lib.Seq.{sets}
 use Rattle.cells.specs.Pick.{pick}

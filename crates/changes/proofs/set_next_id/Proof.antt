@@ -1,0 +1,15 @@
+use borrow.Author.Needs.{needs}
+use Rattle.changes.proofs.set_next_id.Statement.{statement}
+use Rattle.changes.proofs.set_next_id.Tie as tie
+
+put-u32-requires : tie.Need-put-u32-requires
+put-u32-requires c κs = search needs
+
+same-length : tie.Need-same-length
+same-length c = search needs
+
+returns : tie.Need-returns
+returns c = ?
+
+pub set-next-id-spec : {M : Type 1} → statement M
+set-next-id-spec = tie.close (tie.spec put-u32-requires same-length returns)
