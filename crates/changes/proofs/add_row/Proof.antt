@@ -1,3 +1,7 @@
+use native.Mathlib.Omega.{arith}
+use Prim.Native.Nat.{_+_}
+use Rattle.image.specs.Kept.{kept-counted}
+use Rattle.image.specs.Changes.{added-becomes}
 use borrow.Author.Needs.{needs}
 use Rattle.changes.proofs.add_row.Statement.{statement}
 use Rattle.changes.proofs.add_row.Tie as tie
@@ -30,7 +34,15 @@ same-length : tie.Need-same-length
 same-length c = search needs
 
 returns : tie.Need-returns
-returns c = ?
+returns c =
+    let s = c .before .before .before .before .before .before .before .before .before .before .before .args .s .now in
+    let w = c .before .before .before .before .before .before .put-conn-at in
+    let x = w .last .0 in
+    let n = c .before .before .before .before .before .before .before .before .u16-at .result in
+    let e = c .before .before .before .before .before .before .before .before .u16-at .ensures in
+    let p = c .before .before .before .before .before .before .before .before .before .before .before .pre .1 in
+    rw (c .before .before .put-u16 .ensures, ← e)
+    (kept-counted s (c .before .before .before .before .before .before .before .before .before .before .before .pre .0) x (w .kept .0) (n + 1) (omega arith), added-becomes s x n (c .before .before .before .before .before .before .before .before .before .before .before .args .c) e (omega arith) (w .ensures))
 
 pub add-row-spec : {M : Type 1} → statement M
 add-row-spec =

@@ -1,3 +1,10 @@
+use native.Mathlib.Omega.{arith}
+use mathlib.Core.Path.{ap, _∙_}
+use Prim.Native.Nat.{ℕ, _+_, _*_, _%_}
+use mathlib.Core.List.{List}
+use Rattle.cells.specs.Numbers.{put}
+use Rattle.image.specs.Kept.{kept-room, kept-full}
+use Rattle.image.specs.Changes.{push-room, push-full}
 use borrow.Author.Needs.{needs}
 use Rattle.changes.proofs.push_event.Statement.{statement}
 use Rattle.changes.proofs.push_event.Tie as tie
@@ -33,7 +40,13 @@ same-length : tie.Need-same-length
 same-length c = search needs
 
 returns : tie.Need-returns
-returns c = ?
+returns c =
+    let s = c .before .before .before .before .before .before .before .before .before .before .before .before .before .before .before .args .s .now in
+    let e = c .before .before .before .before .before .before .before .before .before .before .before .before .before .before .before .args .e .now in
+    let g = c .before .before .before .before .before .before .before .before .before .before .before .u16-at .result in
+    let n = c .before .before .before .before .before .before .before .before .before .u16-at2 .result in
+    rw (c .before .before .put-u16 .ensures ∙ ap (λ (z : List ℕ). put 2 z 222 (n + 1)) (c .before .before .before .before .before .before .copy-in .ensures))
+    (kept-room s (c .before .before .before .before .before .before .before .before .before .before .before .before .before .before .before .pre .0) (2560 + ((g + n) % 1024) * 32) e (n + 1) (omega arith) (omega arith), push-room s e (c .before .before .before .before .before .before .before .before .before .before .before .before .before .before .before .pre .1) g n (c .before .before .before .before .before .before .before .before .before .before .before .u16-at .ensures) (c .before .before .before .before .before .before .before .before .before .u16-at2 .ensures) (omega arith))
 
 cast-copy-in : tie.Need-cast-copy-in
 cast-copy-in c = search needs
@@ -57,7 +70,13 @@ same-length-2 : tie.Need-same-length-2
 same-length-2 c = search needs
 
 returns-2 : tie.Need-returns-2
-returns-2 c = ?
+returns-2 c =
+    let s = c .before .before .before .before .before .before .before .before .before .before .before .before .before .before .before .args .s .now in
+    let e = c .before .before .before .before .before .before .before .before .before .before .before .before .before .before .before .args .e .now in
+    let g = c .before .before .before .before .before .before .before .before .before .before .before .u16-at .result in
+    let n = c .before .before .before .before .before .before .before .before .before .u16-at2 .result in
+    rw (c .before .before .put-u162 .ensures ∙ ap (λ (z : List ℕ). put 2 z 220 ((g + 1) % 1024)) (c .before .before .before .before .before .before .copy-in2 .ensures))
+    (kept-full s (c .before .before .before .before .before .before .before .before .before .before .before .before .before .before .before .pre .0) (2560 + g * 32) e ((g + 1) % 1024) (omega arith) (omega arith), push-full s e (c .before .before .before .before .before .before .before .before .before .before .before .before .before .before .before .pre .1) g n (c .before .before .before .before .before .before .before .before .before .before .before .u16-at .ensures) (c .before .before .before .before .before .before .before .before .before .u16-at2 .ensures) (omega arith))
 
 pub push-event-spec : {M : Type 1} → statement M
 push-event-spec =

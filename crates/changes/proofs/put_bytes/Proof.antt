@@ -1,3 +1,7 @@
+use native.Mathlib.Omega.{arith}
+use Prim.Native.Nat.{_+_, _*_}
+use Rattle.image.specs.Kept.{kept-sets}
+use Rattle.image.specs.Changes.{bytes-become}
 use borrow.Author.Needs.{needs}
 use Rattle.changes.proofs.put_bytes.Statement.{statement}
 use Rattle.changes.proofs.put_bytes.Tie as tie
@@ -15,7 +19,11 @@ same-length : tie.Need-same-length
 same-length c = search needs
 
 returns : tie.Need-returns
-returns c = ?
+returns c =
+    let s = c .before .before .before .before .before .before .args .s .now in
+    let i = c .before .before .before .before .before .before .args .i in
+    let d = c .before .before .before .before .before .before .args .d .now in
+    rw (c .before .before .copy-in .ensures) (kept-sets s (c .before .before .before .before .before .before .pre .0) (35328 + i * 512) d (omega arith), bytes-become s i d (c .before .before .before .before .before .before .pre .1))
 
 pub put-bytes-spec : {M : Type 1} → statement M
 put-bytes-spec = tie.close (tie.spec mul-copy-in add-copy-in copy-in-requires same-length returns)

@@ -1,3 +1,5 @@
+use Rattle.image.specs.Kept.{kept-table}
+use Rattle.image.specs.Changes.{heard-becomes}
 use borrow.Author.Needs.{needs}
 use Rattle.changes.proofs.put_heard.Statement.{statement}
 use Rattle.changes.proofs.put_heard.Tie as tie
@@ -18,7 +20,8 @@ same-length : tie.Need-same-length
 same-length c = search needs
 
 returns : tie.Need-returns
-returns c = ?
+returns c =
+    let s = c .before .before .before .before .before .args .s .now in let w = c .before .before .put-heard-at in (kept-table s (c .before .before .before .before .before .pre .0) (w .last .0) (w .kept .0), heard-becomes s (w .last .0) (c .before .before .before .before .before .args .i) (c .before .before .before .before .before .args .h) (c .before .before .before .before .before .pre .1) (w .ensures))
 
 pub put-heard-spec : {M : Type 1} → statement M
 put-heard-spec =

@@ -1,3 +1,5 @@
+use Rattle.image.specs.Kept.{kept-table}
+use Rattle.image.specs.Changes.{sent-becomes}
 use borrow.Author.Needs.{needs}
 use Rattle.changes.proofs.put_sent.Statement.{statement}
 use Rattle.changes.proofs.put_sent.Tie as tie
@@ -18,7 +20,8 @@ same-length : tie.Need-same-length
 same-length c = search needs
 
 returns : tie.Need-returns
-returns c = ?
+returns c =
+    let s = c .before .before .before .before .before .args .s .now in let w = c .before .before .put-sent-at in (kept-table s (c .before .before .before .before .before .pre .0) (w .last .0) (w .kept .0), sent-becomes s (w .last .0) (c .before .before .before .before .before .args .i) (c .before .before .before .before .before .args .x) (c .before .before .before .before .before .pre .1) (w .ensures))
 
 pub put-sent-spec : {M : Type 1} → statement M
 put-sent-spec =

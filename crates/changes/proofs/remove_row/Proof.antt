@@ -1,3 +1,7 @@
+use native.Mathlib.Omega.{arith}
+use Prim.Native.Nat.{_-_}
+use Rattle.image.specs.Kept.{kept-counted}
+use Rattle.image.specs.Changes.{gone-becomes}
 use borrow.Author.Needs.{needs}
 use Rattle.changes.proofs.remove_row.Statement.{statement}
 use Rattle.changes.proofs.remove_row.Tie as tie
@@ -30,7 +34,16 @@ same-length : tie.Need-same-length
 same-length c = search needs
 
 returns : tie.Need-returns
-returns c = ?
+returns c =
+    let s = c .before .before .before .before .before .before .before .before .before .before .before .args .s .now in
+    let w = c .before .before .before .before .before .before .cut-row in
+    let x = w .last .0 in
+    let n = c .before .before .before .before .before .before .before .before .u16-at .result in
+    let e = c .before .before .before .before .before .before .before .before .u16-at .ensures in
+    let p = c .before .before .before .before .before .before .before .before .before .before .before .pre .1 in
+    let b = c .before .before .before .before .before .before .before .before .before .before .before .pre .0 .conns in
+    rw (c .before .before .put-u16 .ensures, ← e)
+    (kept-counted s (c .before .before .before .before .before .before .before .before .before .before .before .pre .0) x (w .kept .0) (n - 1) (omega arith), gone-becomes s x n (c .before .before .before .before .before .before .before .before .before .before .before .args .i) e (omega arith) (w .ensures))
 
 pub remove-row-spec : {M : Type 1} → statement M
 remove-row-spec =

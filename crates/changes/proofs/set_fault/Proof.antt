@@ -1,3 +1,8 @@
+use mathlib.Core.Path.{ap, _∙_}
+use Rattle.cells.specs.Numbers.{put}
+use Rattle.image.specs.Kept.{kept-fault, byte-of}
+use Rattle.image.specs.Changes.{fault-becomes}
+use Rattle.cells.specs.Records.{ofBool}
 use borrow.Author.Needs.{needs}
 use Rattle.changes.proofs.set_fault.Statement.{statement}
 use Rattle.changes.proofs.set_fault.Tie as tie
@@ -12,7 +17,10 @@ same-length : tie.Need-same-length
 same-length c = search needs
 
 returns : tie.Need-returns
-returns c = ?
+returns c =
+    let s = c .before .before .before .before .before .args .s .now in
+    let b = c .before .before .before .before .before .args .b in
+    rw (c .before .before .put-u16 .ensures ∙ ap (put 2 s 226) (byte-of b)) (kept-fault s (c .before .before .before .before .before .pre) (ofBool b), fault-becomes s b)
 
 pub set-fault-spec : {M : Type 1} → statement M
 set-fault-spec = tie.close (tie.spec cast-put-u16 put-u16-requires same-length returns)
