@@ -4,7 +4,7 @@ mod copies;
 use copies::{Copy, Edit};
 
 fn main() {
-    copies::write(&[
+    let copies = [
         Copy::unchanged("reference"),
         Copy::unchanged("again"),
         // D1 as document 01 says it, in the text itself: shows that the runner's own way with D1 is exact
@@ -15,5 +15,6 @@ fn main() {
                 Edit::new("side.rs", "const MEND_D1: bool = true;", "const MEND_D1: bool = false;"),
             ],
         },
-    ]);
+    ];
+    copies::write(&copies, false);
 }

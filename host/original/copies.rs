@@ -92,20 +92,25 @@ fn apply(copy: &Copy, file: &str, text: &str) -> String {
     text
 }
 
-/// Writes the copies into OUT_DIR, and copies.rs there, which declares a module for each.
-pub fn write(copies: &[Copy]) {
+/// Writes the copies into OUT_DIR, and copies.rs there, which declares a module for each; for timing, with raw.rs.
+pub fn write(copies: &[Copy], timing: bool) {
     let here = PathBuf::from(std::env::var_os("CARGO_MANIFEST_DIR").expect("run by cargo"));
     let host = here.parent().expect("a crate of host/").to_owned();
     let out = PathBuf::from(std::env::var_os("OUT_DIR").expect("run by cargo"));
     let ours = host.join("original");
     let source = source(&host);
     println!("cargo::rerun-if-changed={}", ours.join("copies.rs").display());
+    let mut declarations = read(&ours.join("mod.rs"));
+    if timing {
+        declarations += "\nmod raw;\npub use raw::Raw;\n";
+    }
     let parts = [
         ("state.rs", read(&source.join("state.rs")), read(&ours.join("probe_state.rs"))),
         ("objects.rs", read(&source.join("objects.rs")), read(&ours.join("probe_objects.rs"))),
         ("wire.rs", read(&source.join("wire.rs")), String::new()),
         ("side.rs", read(&ours.join("side.rs")), String::new()),
-        ("mod.rs", read(&ours.join("mod.rs")), String::new()),
+        ("raw.rs", read(&ours.join("raw.rs")), String::new()),
+        ("mod.rs", declarations, String::new()),
     ];
     let mut declared = String::new();
     for copy in copies {

@@ -8,7 +8,7 @@ mod side;
 mod state;
 mod wire;
 
-pub use side::{Original, Raw};
+pub use side::Original;
 
 use std::net::Ipv4Addr;
 use std::time::Duration;

@@ -34,14 +34,16 @@ pub fn width(n: u32) -> u8 {
 
 fn number(out: &mut Vec<u8>, first: u8, n: u32, wide: u8) {
     out.push(first | wide);
+    // the pad byte before a wider value is not read: not always 0 here
+    let pad = if n % 3 == 1 { 0x77 } else { 0 };
     match wide {
         0 => out.push(n as u8),
         1 => {
-            out.push(0);
+            out.push(pad);
             out.extend((n as u16).to_le_bytes());
         }
         _ => {
-            out.push(0);
+            out.push(pad);
             out.extend(n.to_le_bytes());
         }
     }

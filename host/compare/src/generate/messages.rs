@@ -44,7 +44,7 @@ impl Generator {
         let instance = Seg::Instance(instance, self.wide(instance));
         let attribute = Seg::Attribute(attribute, self.wide(attribute));
         let other = Seg::Attribute(self.rng.between(1, 9) as u32, 0);
-        let port = Seg::Raw(vec![0x01, 0x05]);
+        let port = Seg::Raw(self.port_segment());
         let key = Seg::Key { vendor: 1, device: 2, product: 3, major: 4, minor: 5 };
         let point = Seg::Point(self.rng.below(256) as u32, 0);
         match self.rng.below(30) {
@@ -140,6 +140,18 @@ impl Generator {
             }
             _ => self.file(session, 0x4F, &[upload.next, 9]),
         }
+    }
+
+    pub(super) fn transfer_in_turn(&mut self, seen: &Seen, session: usize) -> Call {
+        let Some(upload) = seen.uploads[session] else {
+            return self.initiate(session);
+        };
+        let number = match (upload.last, self.rng.below(20)) {
+            (Some((last, _)), 0..2) => last,
+            (_, 2) => upload.next.wrapping_add(1),
+            _ => upload.next,
+        };
+        self.file(session, 0x4F, &[number])
     }
 
     fn initiate(&mut self, session: usize) -> Call {

@@ -109,7 +109,7 @@ enum Step {
     ReadOutput,
     /// The first connection closes.
     CloseOne,
-    /// The next transfer of a session, or the last again.
+    /// The next transfer of a session; now and then the last again, or one out of turn.
     Transfer(usize),
     Produce,
     Event,
@@ -220,7 +220,7 @@ impl Generator {
             Step::Change => self.change(seen),
             Step::ReadOutput => self.output(seen),
             Step::CloseOne => self.close_one(seen),
-            Step::Transfer(session) => self.transfer(seen, session),
+            Step::Transfer(session) => self.transfer_in_turn(seen, session),
             Step::Produce => self.produce(seen),
             Step::Event => self.event(),
         }

@@ -222,7 +222,7 @@ impl Generator {
 
     /// One change, aimed at a check.
     fn twist(&mut self, seen: &Seen, d: &mut Draft) {
-        match self.rng.below(34) {
+        match self.rng.below(35) {
             0 => d.open.transport = self.rng.pick(&[0, 2, 3, 0x81, 0x80, 0x91, 0x11, 0xA3, 0x71]),
             1 => d.open.transport = self.rng.byte(),
             2 => d.other.push(Seg::Raw(vec![0x01, 0x00])),
@@ -300,6 +300,12 @@ impl Generator {
                 d.open.o_t.size = self.rng.pick(&[0, 2, 6]);
                 d.open.o_t.variable = false;
             }
+            33 => {
+                // a key of another format
+                let mut key = bytes::path(&[self.own_key()]);
+                key[1] = self.rng.pick(&[0, 3, 5, 0x14]);
+                d.keys = vec![Seg::Raw(key)];
+            }
             32 => d.service = Some(self.rng.pick(&[0x4E, 0x54, 0x5B, 0])),
             _ => d.shuffled = true,
         }
@@ -314,7 +320,7 @@ impl Generator {
         }
     }
 
-    fn port_segment(&mut self) -> Vec<u8> {
+    pub(super) fn port_segment(&mut self) -> Vec<u8> {
         let n = self.rng.index(6);
         let mut link = self.rng.bytes(n);
         let mut out = match self.rng.below(3) {
