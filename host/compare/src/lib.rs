@@ -7,7 +7,7 @@
 // the copies of ciplink's files name this crate, here and in `plants`
 extern crate self as compare;
 
-mod bytes;
+pub mod bytes;
 mod call;
 mod generate;
 mod rng;
@@ -28,7 +28,7 @@ pub use call::*;
 pub use generate::Generator;
 #[cfg(feature = "library")]
 pub use library::Library;
-pub use run::{Difference, Found, Make, Run, Runner, Tally, replay};
+pub use run::{Difference, Found, Make, Run, Runner, Tally, answers, replay};
 pub use seen::{AssemblySeen, ConnSeen, Seen, Side, UploadSeen};
 pub use show::{grouped, show_run};
 pub use shrink::shrink;

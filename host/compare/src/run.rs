@@ -169,19 +169,22 @@ impl Pair {
         if let Some(fault) = fault {
             let _ = writeln!(text, "  {fault}");
         }
-        self.tell_answers(&mut text, answers);
+        self.tell_answers(&mut text, call, answers);
         self.tell_state(&mut text);
         Some(text)
     }
 
     fn names(&self) -> [&'static str; 2] {
-        [self.first.name(), self.second.name()]
+        match [self.first.name(), self.second.name()] {
+            [a, b] if a == b => ["the first", "the second"],
+            names => names,
+        }
     }
 
-    fn tell_answers(&self, text: &mut String, answers: [u64; 2]) {
+    fn tell_answers(&self, text: &mut String, call: &Call, answers: [u64; 2]) {
         let names = self.names();
         if answers[0] != answers[1] {
-            let say = crate::show::answer;
+            let say = |n: u64| crate::show::answer(n, matches!(call, Call::Open { .. }));
             let _ = writeln!(text, "  answer: {} {}, {} {}", names[0], say(answers[0]), names[1], say(answers[1]));
         }
         if self.outs[0] != self.outs[1] {

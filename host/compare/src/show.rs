@@ -33,12 +33,13 @@ pub fn grouped(n: u64) -> String {
     out
 }
 
-/// The C interface's number in words.
-pub fn answer(n: u64) -> String {
+/// The C interface's number in words. `open` says that it answers an open.
+pub fn answer(n: u64, open: bool) -> String {
     let value = n >> 8;
     match n & 0xFF {
         0 if value == 0 => "yes".into(),
-        0 => format!("yes, value {value:#X}"),
+        0 if open => format!("yes, multicast to {}:{}", address((n >> 32) as u32), n >> 16 & 0xFFFF),
+        0 => format!("yes, {value}"),
         1 => "no. 1, state of the wrong size or failing its test".into(),
         2 => "no. 2, setup beyond the sizes".into(),
         3 => "no. 3, time above 2^63 - 1".into(),
@@ -95,19 +96,36 @@ pub fn event(r: &[u8; 32]) -> String {
 
 /// The fields in which two connections differ.
 pub fn conn_difference(text: &mut String, names: [&str; 2], a: &ConnSeen, b: &ConnSeen) {
-    let fields = |c: &ConnSeen| {
-        let text = format!("{c:#?}");
-        text.lines().map(|l| l.trim().to_owned()).collect::<Vec<_>>()
-    };
-    let (a, b) = (fields(a), fields(b));
-    if a.len() == b.len() {
-        for (x, y) in a.iter().zip(&b).filter(|(x, y)| x != y) {
-            let _ = writeln!(text, "    {} {x} {} {y}", names[0], names[1]);
-        }
-    } else {
-        let _ = writeln!(text, "    {} {}", names[0], a.join(" "));
-        let _ = writeln!(text, "    {} {}", names[1], b.join(" "));
+    macro_rules! fields {
+        ($($field:ident: $words:literal),* $(,)?) => {
+            $(if a.$field != b.$field {
+                let _ = writeln!(text, "    {}: {} {:?}, {} {:?}", $words, names[0], a.$field, names[1], b.$field);
+            })*
+        };
     }
+    fields!(
+        kind: "kind",
+        multicast: "multicast",
+        triad: "triad",
+        originator: "originator",
+        o_t_id: "O→T id",
+        t_o_id: "T→O id",
+        o_t_rpi: "O→T RPI",
+        t_o_rpi: "T→O RPI",
+        timeout: "timeout",
+        input: "input instance",
+        input_size: "input size",
+        output: "output instance",
+        output_size: "output size",
+        dest: "destination",
+        local: "local address",
+        until: "receive time plus timeout",
+        last_sequence: "last sequence",
+        last_cip: "last CIP sequence",
+        due: "due time, if it sends",
+        sequence: "sequence sent",
+        cip: "CIP sequence sent",
+    );
 }
 
 /// A path's segments, as far as they can be told.
@@ -320,15 +338,17 @@ pub fn show_run(first: Make, calls: &[Call], difference: &Difference) -> String 
     for (i, c) in calls.iter().enumerate().take(difference.at + 1) {
         let _ = writeln!(text, "{:3}. {}", i + 1, call(c));
         if let Some((n, out)) = answers.get(i) {
+            let opens = matches!(c, Call::Open { .. });
             let length = match c {
                 Call::Open { .. } => 26,
+                Call::Expire { .. } => 0,
                 _ => (*n >> 8) as usize,
             };
             let bytes = match (n & 0xFF, out.get(..length)) {
                 (0, Some(bytes)) if !bytes.is_empty() => format!(": {}", hex(bytes)),
                 _ => String::new(),
             };
-            let _ = writeln!(text, "      = {}{bytes}", answer(*n));
+            let _ = writeln!(text, "      = {}{bytes}", answer(*n, opens));
         }
     }
     let _ = writeln!(text, "after call {}:", difference.at + 1);

@@ -35,6 +35,7 @@ pub fn shrink(first: Make, second: Make, calls: &[Call], difference: &Difference
         let before = (s.calls.len(), s.weight());
         s.leave_out();
         s.simplify();
+        s.plain_numbers();
         if (s.calls.len(), s.weight()) == before || s.late() {
             return (s.calls, s.difference);
         }
@@ -102,6 +103,47 @@ impl Shrinker<'_> {
         self.take(calls)
     }
 
+    /// Times from 0 on, ids from 1 on, few addresses and ports: each where the difference still shows.
+    fn plain_numbers(&mut self) {
+        let least = self.calls.iter_mut().filter_map(time_of).map(|t| *t).min().unwrap_or(0);
+        self.change_all(&|call| {
+            if let Some(time) = time_of(call) {
+                *time -= least;
+            }
+        });
+        let first = match &self.calls[0] {
+            Call::Setup { seed, .. } => *seed | 1,
+            _ => 1,
+        };
+        self.change_all(&|call| match call {
+            Call::Setup { seed, .. } => *seed = 1,
+            other => renumber(other, first, first.wrapping_sub(1)),
+        });
+        let mut peers: Vec<u32> = self.calls.iter_mut().filter_map(peer_of).map(|p| *p).collect();
+        peers.sort_unstable();
+        peers.dedup();
+        self.change_all(&|call| {
+            if let Some(peer) = peer_of(call) {
+                let place = peers.binary_search(peer).unwrap_or(0);
+                *peer = 0x0A00_0001 + place as u32;
+            }
+        });
+        self.change_all(&|call| {
+            if let Call::Open { local, mask, io_port, .. } = call {
+                (*local, *mask, *io_port) = (0x0A00_0064, 0xFFFF_FF00, 2222);
+            }
+        });
+    }
+
+    /// Changes every call; taken if the run is no longer for it.
+    fn change_all(&mut self, change: &dyn Fn(&mut Call)) {
+        let mut calls = self.calls.clone();
+        calls.iter_mut().for_each(change);
+        if calls != self.calls && !self.late() {
+            self.take(calls);
+        }
+    }
+
     fn simplify(&mut self) {
         let mut at = 0;
         while at < self.calls.len() {
@@ -120,6 +162,21 @@ impl Shrinker<'_> {
             }
             at += 1;
         }
+    }
+}
+
+fn time_of(call: &mut Call) -> Option<&mut u64> {
+    match call {
+        Call::Open { time, .. } | Call::Receive { time, .. } | Call::Produce { time, .. } | Call::Expire { time } => Some(time),
+        _ => None,
+    }
+}
+
+fn peer_of(call: &mut Call) -> Option<&mut u32> {
+    match call {
+        Call::Open { peer, .. } => Some(peer),
+        Call::Receive { from, .. } => Some(from),
+        _ => None,
     }
 }
 
