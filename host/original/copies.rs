@@ -16,11 +16,7 @@ pub struct Edit {
 
 impl Edit {
     pub fn new(file: &str, old: &str, new: &str) -> Self {
-        Edit {
-            file: file.into(),
-            old: old.into(),
-            new: new.into(),
-        }
+        Edit { file: file.into(), old: old.into(), new: new.into() }
     }
 }
 
@@ -31,10 +27,7 @@ pub struct Copy {
 
 impl Copy {
     pub fn unchanged(name: &str) -> Self {
-        Copy {
-            name: name.into(),
-            edits: Vec::new(),
-        }
+        Copy { name: name.into(), edits: Vec::new() }
     }
 }
 
@@ -61,9 +54,7 @@ fn write_file(path: &Path, text: &str) {
 fn source(host: &Path) -> PathBuf {
     println!("cargo::rerun-if-env-changed=CIPLINK_SRC");
     let given = std::env::var_os("CIPLINK_SRC").map(PathBuf::from);
-    let root = given
-        .clone()
-        .unwrap_or_else(|| host.join("../../shared/docs/src"));
+    let root = given.clone().unwrap_or_else(|| host.join("../../shared/docs/src"));
     let inner = root.join("crates/ciplink/src/adapter");
     for folder in [&inner, &root] {
         if folder.join("state.rs").is_file() {
@@ -126,11 +117,7 @@ pub fn write(copies: &[Copy], timing: bool) {
         for (file, text, probe) in &parts {
             write_file(&folder.join(file), &(apply(copy, file, text) + probe));
         }
-        declared += &format!(
-            "#[path = {:?}]\npub mod {};\n",
-            folder.join("mod.rs").display().to_string(),
-            copy.name
-        );
+        declared += &format!("#[path = {:?}]\npub mod {};\n", folder.join("mod.rs").display().to_string(), copy.name);
     }
     write_file(&out.join("copies.rs"), &declared);
 }

@@ -1,7 +1,7 @@
 //! The types that ciplink's state.rs, wire.rs and objects.rs take from the crate round them (its adapter/mod.rs),
 //! without the sockets. The three files stand beside this one as they are in the source, each with a few lines
 //! behind its end that read what is private to it.
-#![allow(dead_code, unused_imports, unused_variables)]
+#![allow(dead_code, unused_imports, unused_variables, clippy::all)]
 
 mod objects;
 mod side;

@@ -1,4 +1,3 @@
-
 // ---- Not ciplink's: what the comparison reads, keeps and plants of the fields that are private to this file.
 
 /// What produce and a hand-over change.
@@ -36,11 +35,7 @@ impl IoConn {
     }
 
     pub(crate) fn heard(&self) -> Heard {
-        Heard {
-            last_rx: self.last_rx,
-            last_sequence: self.last_sequence,
-            last_cip_sequence: self.last_cip_sequence,
-        }
+        Heard { last_rx: self.last_rx, last_sequence: self.last_sequence, last_cip_sequence: self.last_cip_sequence }
     }
 
     pub(crate) fn set_last_rx(&mut self, time: Instant) {

@@ -15,10 +15,7 @@ pub struct Raw {
 impl Raw {
     /// None where document 01 says No. 2.
     pub fn new(block: &[u8], eds: &[u8], seed: u32) -> Option<Raw> {
-        Some(Raw {
-            state: State::new(config(block, eds)?, seed),
-            base: Instant::now(),
-        })
+        Some(Raw { state: State::new(config(block, eds)?, seed), base: Instant::now() })
     }
 
     /// The time as ciplink takes it.
@@ -28,15 +25,8 @@ impl Raw {
 
     /// Whether the open was accepted. The request is decoded here, as the server does before it calls.
     pub fn open(&mut self, request: &[u8], peer: Ipv4Addr, local: Ipv4Addr, now: Instant) -> bool {
-        let origin = Origin {
-            peer,
-            local,
-            mask: Ipv4Addr::new(255, 255, 255, 0),
-            t_o_sockaddr: None,
-            io_port: 2222,
-        };
-        ForwardOpen::decode(request, false)
-            .is_some_and(|fo| self.state.open(&fo, &origin, now).is_ok())
+        let origin = Origin { peer, local, mask: Ipv4Addr::new(255, 255, 255, 0), t_o_sockaddr: None, io_port: 2222 };
+        ForwardOpen::decode(request, false).is_some_and(|fo| self.state.open(&fo, &origin, now).is_ok())
     }
 
     pub fn close(&mut self, request: &[u8]) -> Vec<u8> {

@@ -5,10 +5,10 @@
 
 use super::objects::{self, Ctx};
 use super::state::{Origin, Refusal, Sent, State};
-use super::wire::{self, ForwardOpen, Triad};
+use super::wire::{self, ForwardOpen, Seg, Triad};
 use super::{AdapterConfig, AdapterIdentity, Assembly, AssemblyKind, ConnectionInfo, ConnectionKind, Event};
 use compare::{
-    AssemblySeen, BLOCK, Call, ConnSeen, MAX_BYTES, MAX_CONNECTIONS, MAX_REPLY, MAX_TIME, RECORD, SESSIONS, Seen, Side,
+    AssemblySeen, BLOCK, Call, ConnSeen, MAX_BYTES, MAX_CONNECTIONS, MAX_PATH, MAX_REPLY, MAX_TIME, PATH_RECORD, RECORD, REQUEST_RECORD, SESSIONS, Seen, Side,
     UploadSeen,
 };
 use std::net::{Ipv4Addr, SocketAddrV4};
@@ -37,9 +37,7 @@ fn refused((general, words): Refusal) -> u64 {
 }
 
 fn accepted(item: Option<SocketAddrV4>) -> u64 {
-    item.map_or(0, |a| {
-        1 << 8 | u64::from(a.port()) << 16 | u64::from(u32::from(*a.ip())) << 32
-    })
+    item.map_or(0, |a| 1 << 8 | u64::from(a.port()) << 16 | u64::from(u32::from(*a.ip())) << 32)
 }
 
 /// Writes an answer's bytes, or says that there is no room.
@@ -89,11 +87,7 @@ pub(super) fn config(block: &[u8], eds: &[u8]) -> Option<AdapterConfig> {
         if instance == 0 || size > 512 || assemblies.iter().any(|a| a.instance == instance) {
             return None;
         }
-        assemblies.push(Assembly {
-            instance,
-            kind,
-            size,
-        });
+        assemblies.push(Assembly { instance, kind, size });
     }
     let micros = |at: usize| Duration::from_micros(u64::from(u32_le(block, at)));
     Some(AdapterConfig {
@@ -167,11 +161,7 @@ fn fresh_uploads() -> [Ctx; SESSIONS] {
 
 impl Default for Original {
     fn default() -> Self {
-        Original {
-            state: None,
-            uploads: fresh_uploads(),
-            base: Instant::now(),
-        }
+        Original { state: None, uploads: fresh_uploads(), base: Instant::now() }
     }
 }
 
@@ -182,10 +172,7 @@ fn spared(state: &State, index: usize) -> Option<(Triad, Sent)> {
     if !MEND_D1 || going.multicast || !going.sent().produces {
         return None;
     }
-    let next = state
-        .conns
-        .iter()
-        .find(|c| c.multicast && c.t_o_id == going.t_o_id)?;
+    let next = state.conns.iter().find(|c| c.multicast && c.t_o_id == going.t_o_id)?;
     Some((next.triad, next.sent()))
 }
 
@@ -198,11 +185,7 @@ fn put_back(state: &mut State, spared: Option<(Triad, Sent)>) {
 }
 
 fn close(state: &mut State, triad: Triad) -> bool {
-    let spared = state
-        .conns
-        .iter()
-        .position(|c| c.triad == triad)
-        .and_then(|i| spared(state, i));
+    let spared = state.conns.iter().position(|c| c.triad == triad).and_then(|i| spared(state, i));
     let closed = state.close(triad);
     put_back(state, spared);
     closed
@@ -226,10 +209,8 @@ fn expire(state: &mut State, now: Instant) {
             return state.expire(now);
         }
         let spared = spared(state, going[0]);
-        let held: Vec<(Triad, Instant)> = going[1..]
-            .iter()
-            .map(|i| (state.conns[*i].triad, state.conns[*i].heard().last_rx))
-            .collect();
+        let held: Vec<(Triad, Instant)> =
+            going[1..].iter().map(|i| (state.conns[*i].triad, state.conns[*i].heard().last_rx)).collect();
         let hold = |state: &mut State, times: &[(Triad, Instant)]| {
             for (triad, time) in times {
                 if let Some(c) = state.conns.iter_mut().find(|c| c.triad == *triad) {
@@ -278,6 +259,75 @@ fn decode_open(service: u8, request: &[u8]) -> Option<ForwardOpen> {
     ForwardOpen::decode(request, large)
 }
 
+/// Where the segment in a place of the list ends: the least part of the path that reads as that segment and those before.
+fn end_of(path: &[u8], place: usize) -> usize {
+    let reads = |n: &usize| wire::parse_path(&path[..*n]).is_some_and(|segs| segs.len() == place + 1);
+    (0..=path.len()).find(reads).unwrap_or(0)
+}
+
+/// What `path` writes of a path: whether a port or attribute segment bars an open, the last key, the last class, the
+/// first three instances and points and their count (4 for more), and the place of the last data segment.
+fn path_record(path: &[u8]) -> Option<[u8; PATH_RECORD]> {
+    if path.len() > MAX_PATH {
+        return None;
+    }
+    let segs = wire::parse_path(path)?;
+    let mut out = [0; PATH_RECORD];
+    let mut numbers = 0;
+    for (place, seg) in segs.iter().enumerate() {
+        match seg {
+            Seg::Port { .. } | Seg::Attribute(_) => out[0] = 1,
+            Seg::Key(key) => {
+                out[1] = 1;
+                out[4..6].copy_from_slice(&key.vendor.to_le_bytes());
+                out[6..8].copy_from_slice(&key.device_type.to_le_bytes());
+                out[8..10].copy_from_slice(&key.product_code.to_le_bytes());
+                out[10..12].copy_from_slice(&[key.major, key.minor]);
+            }
+            Seg::Class(class) => {
+                out[2] = 1;
+                out[12..16].copy_from_slice(&class.to_le_bytes());
+            }
+            Seg::Instance(n) | Seg::Point(n) => {
+                if numbers < 3 {
+                    out[16 + 4 * numbers..20 + 4 * numbers].copy_from_slice(&n.to_le_bytes());
+                }
+                numbers += 1;
+            }
+            Seg::Data(data) => {
+                let start = end_of(path, place) - data.len();
+                out[28..30].copy_from_slice(&(start as u16).to_le_bytes());
+                out[30..32].copy_from_slice(&(data.len() as u16).to_le_bytes());
+            }
+        }
+    }
+    out[3] = numbers.min(4) as u8;
+    Some(out)
+}
+
+/// What `request` writes of a message: service, whether its path names an object, whether it names an attribute, class,
+/// instance, attribute, and where the service's data begins.
+fn request_record(message: &[u8]) -> Option<[u8; REQUEST_RECORD]> {
+    if message.len() > MAX_BYTES {
+        return None;
+    }
+    let request = wire::parse_request(message)?;
+    let mut out = [0; REQUEST_RECORD];
+    out[0] = message[0];
+    if let Some((class, instance)) = wire::class_instance(&request.path) {
+        out[1] = 1;
+        out[4..8].copy_from_slice(&class.to_le_bytes());
+        out[8..12].copy_from_slice(&instance.to_le_bytes());
+    }
+    if let Some(attribute) = wire::attribute(&request.path) {
+        out[2] = 1;
+        out[12..16].copy_from_slice(&attribute.to_le_bytes());
+    }
+    let start = (message.len() - request.data.len()) as u32;
+    out[16..20].copy_from_slice(&start.to_le_bytes());
+    Some(out)
+}
+
 fn kind_of(code: u8) -> Option<AssemblyKind> {
     AssemblyKind::from_code(code)
 }
@@ -301,20 +351,7 @@ impl Original {
     }
 
     fn open(&mut self, call: &Call, out: &mut [u8]) -> u64 {
-        let Call::Open {
-            time,
-            service,
-            request,
-            peer,
-            local,
-            mask,
-            given,
-            address,
-            port,
-            io_port,
-            ..
-        } = call
-        else {
+        let Call::Open { time, service, request, peer, local, mask, given, address, port, io_port, .. } = call else {
             unreachable!("an open")
         };
         let now = self.at((*time).min(MAX_TIME));
@@ -393,14 +430,14 @@ impl Side for Original {
             Call::Setup { block, eds, seed } => return self.setup(block, eds, *seed),
             Call::Open { .. } => return self.open(call, out),
             Call::Produce { time, .. } => return self.produce(*time, out),
-            Call::OpenRefusal {
-                service, request, ..
-            } => {
+            Call::OpenRefusal { service, request, .. } => {
                 return match decode_open(*service, request) {
                     Some(fo) => give(out, &fo.refusal()),
                     None => PARSE,
                 };
             }
+            Call::Path { path, .. } => return path_record(path).map_or(PARSE, |r| give(out, &r)),
+            Call::Request { message, .. } => return request_record(message).map_or(PARSE, |r| give(out, &r)),
             _ => {}
         }
         let Some(state) = &mut self.state else {
@@ -413,10 +450,8 @@ impl Side for Original {
                 Err(_) => TOO_LONG,
             },
             Call::Output { instance, .. } => {
-                let Some(size) = state
-                    .assembly(*instance)
-                    .filter(|a| a.kind == AssemblyKind::Output)
-                    .map(|a| a.data.len())
+                let Some(size) =
+                    state.assembly(*instance).filter(|a| a.kind == AssemblyKind::Output).map(|a| a.data.len())
                 else {
                     return ASSEMBLY;
                 };
@@ -433,10 +468,7 @@ impl Side for Original {
                 }
             }
             Call::Assembly { kind, instance, .. } => {
-                match state
-                    .assembly(*instance)
-                    .filter(|a| kind_of(*kind) == Some(a.kind))
-                {
+                match state.assembly(*instance).filter(|a| kind_of(*kind) == Some(a.kind)) {
                     None => ASSEMBLY,
                     Some(a) => give(out, &a.data),
                 }
@@ -488,11 +520,7 @@ impl Side for Original {
                 }
             },
             Call::Connections { .. } => {
-                let records: Vec<u8> = state
-                    .connections()
-                    .iter()
-                    .flat_map(|info| record(0, info))
-                    .collect();
+                let records: Vec<u8> = state.connections().iter().flat_map(|info| record(0, info)).collect();
                 give(out, &records)
             }
             Call::Stats { .. } => {
@@ -503,13 +531,7 @@ impl Side for Original {
                 bytes[16..].copy_from_slice(&(stats.max_late.as_micros() as u64).to_le_bytes());
                 give(out, &bytes)
             }
-            Call::Message {
-                session,
-                local,
-                mask,
-                message,
-                ..
-            } => {
+            Call::Message { session, local, mask, message, .. } => {
                 if out.len() < MAX_REPLY {
                     return ROOM;
                 }
@@ -585,8 +607,7 @@ impl Side for Original {
             });
             seen.data.extend_from_slice(&a.data);
         }
-        seen.records
-            .extend(state.connections().iter().map(|info| record(0, info)));
+        seen.records.extend(state.connections().iter().map(|info| record(0, info)));
         seen.produced = state.stats.produced;
         seen.late = state.stats.late;
         seen.max_late = state.stats.max_late.as_micros() as u64;
@@ -596,14 +617,7 @@ impl Side for Original {
         seen.deadline = state.next_deadline().map(micros);
         seen.events = state.events.len();
         for (place, ctx) in seen.uploads.iter_mut().zip(&self.uploads) {
-            *place = ctx
-                .position()
-                .map(|(size, next, offset, last)| UploadSeen {
-                    size,
-                    next,
-                    offset,
-                    last,
-                });
+            *place = ctx.position().map(|(size, next, offset, last)| UploadSeen { size, next, offset, last });
         }
     }
 

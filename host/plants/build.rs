@@ -19,15 +19,11 @@ fn main() {
         Ok(plants) => plants,
         Err(e) => copies::fail(&format!("plants/list.txt: {e}")),
     };
-    let all: Vec<Copy> = plants
-        .iter()
-        .map(|p| Copy {
-            name: p.name.clone(),
-            edits: vec![Edit::new(&p.file, &p.old, &p.new)],
-        })
-        .collect();
+    let all: Vec<Copy> =
+        plants.iter().map(|p| Copy { name: p.name.clone(), edits: vec![Edit::new(&p.file, &p.old, &p.new)] }).collect();
     copies::write(&all, false);
-    let mut table = String::from("pub fn side(name: &str) -> Option<fn() -> Box<dyn compare::Side>> {\n    match name {\n");
+    let mut table =
+        String::from("pub fn side(name: &str) -> Option<fn() -> Box<dyn compare::Side>> {\n    match name {\n");
     for p in &plants {
         table += &format!("        {:?} => Some(|| Box::new({}::Original::default())),\n", p.name, p.name);
     }

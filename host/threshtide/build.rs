@@ -6,10 +6,9 @@ use std::process::exit;
 fn main() {
     println!("cargo::rerun-if-env-changed=THRESHTIDE_LIB");
     let here = PathBuf::from(std::env::var_os("CARGO_MANIFEST_DIR").expect("run by cargo"));
+    let top = here.ancestors().nth(2).expect("a crate of host/");
     let given = std::env::var_os("THRESHTIDE_LIB").map(PathBuf::from);
-    let place = given
-        .clone()
-        .unwrap_or_else(|| here.join("../../target/staticlib"));
+    let place = given.clone().unwrap_or_else(|| top.join("target/staticlib"));
     let is_file = place.extension().is_some_and(|e| e == "a");
     let archive = if is_file { place } else { place.join("libadapter.a") };
     println!("cargo::rerun-if-changed={}", archive.display());

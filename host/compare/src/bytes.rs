@@ -12,13 +12,7 @@ pub enum Seg {
     Instance(u32, u8),
     Point(u32, u8),
     Attribute(u32, u8),
-    Key {
-        vendor: u16,
-        device: u16,
-        product: u16,
-        major: u8,
-        minor: u8,
-    },
+    Key { vendor: u16, device: u16, product: u16, major: u8, minor: u8 },
     Data(Vec<u8>),
     Raw(Vec<u8>),
 }
@@ -57,13 +51,7 @@ pub fn path(segs: &[Seg]) -> Vec<u8> {
             Seg::Instance(n, w) => number(&mut out, 0x24, *n, *w),
             Seg::Point(n, w) => number(&mut out, 0x2C, *n, *w),
             Seg::Attribute(n, w) => number(&mut out, 0x30, *n, *w),
-            Seg::Key {
-                vendor,
-                device,
-                product,
-                major,
-                minor,
-            } => {
+            Seg::Key { vendor, device, product, major, minor } => {
                 out.extend([0x34, 0x04]);
                 out.extend(vendor.to_le_bytes());
                 out.extend(device.to_le_bytes());
@@ -92,12 +80,7 @@ pub struct Params {
 
 impl Params {
     pub fn new(size: usize, net: u8) -> Self {
-        Params {
-            size,
-            variable: false,
-            net,
-            other: 0,
-        }
+        Params { size, variable: false, net, other: 0 }
     }
 
     fn bits(&self, large: bool) -> u32 {

@@ -16,6 +16,11 @@ pub const MAX_CONNECTIONS: usize = 32;
 pub const MAX_EVENTS: usize = 1024;
 /// The bytes of an event or connection record.
 pub const RECORD: usize = 32;
+/// A path has at most this many bytes.
+pub const MAX_PATH: usize = 510;
+/// The bytes of what is read of a path, and of a request.
+pub const PATH_RECORD: usize = 32;
+pub const REQUEST_RECORD: usize = 20;
 /// Sessions of the comparison, each with an upload position of its own.
 pub const SESSIONS: usize = 4;
 
@@ -93,6 +98,14 @@ pub enum Call {
         message: Vec<u8>,
         room: usize,
     },
+    Path {
+        path: Vec<u8>,
+        room: usize,
+    },
+    Request {
+        message: Vec<u8>,
+        room: usize,
+    },
     /// A session ends and another begins in its place: a fresh upload position.
     NewSession {
         session: usize,
@@ -123,6 +136,8 @@ impl Call {
             Call::Connections { .. } => "connections",
             Call::Stats { .. } => "stats",
             Call::Message { .. } => "message",
+            Call::Path { .. } => "path",
+            Call::Request { .. } => "request",
             Call::NewSession { .. } => "(new session)",
             Call::PlantSent { .. } => "(planted)",
         }
@@ -141,6 +156,8 @@ impl Call {
             | Call::NextEvent { room }
             | Call::Connections { room }
             | Call::Stats { room }
+            | Call::Path { room, .. }
+            | Call::Request { room, .. }
             | Call::Message { room, .. } => *room,
             _ => 0,
         }

@@ -56,35 +56,25 @@ impl Library {
                 Call::Assembly { kind, instance, .. } => {
                     sys::threshtide_assembly(state, size, *kind, *instance, to, room)
                 }
-                Call::Open {
-                    time,
-                    service,
-                    request,
-                    peer,
-                    local,
-                    mask,
-                    given,
-                    address,
-                    port,
-                    io_port,
-                    ..
-                } => sys::threshtide_open(
-                    state,
-                    size,
-                    *time,
-                    *service,
-                    request.as_ptr(),
-                    request.len(),
-                    *peer,
-                    *local,
-                    *mask,
-                    *given,
-                    *address,
-                    *port,
-                    *io_port,
-                    to,
-                    room,
-                ),
+                Call::Open { time, service, request, peer, local, mask, given, address, port, io_port, .. } => {
+                    sys::threshtide_open(
+                        state,
+                        size,
+                        *time,
+                        *service,
+                        request.as_ptr(),
+                        request.len(),
+                        *peer,
+                        *local,
+                        *mask,
+                        *given,
+                        *address,
+                        *port,
+                        *io_port,
+                        to,
+                        room,
+                    )
+                }
                 Call::OpenRefusal { service, request, .. } => {
                     sys::threshtide_open_refusal(*service, request.as_ptr(), request.len(), to, room)
                 }
@@ -100,13 +90,7 @@ impl Library {
                 Call::NextEvent { .. } => sys::threshtide_next_event(state, size, to, room),
                 Call::Connections { .. } => sys::threshtide_connections(state, size, to, room),
                 Call::Stats { .. } => sys::threshtide_stats(state, size, to, room),
-                Call::Message {
-                    session,
-                    local,
-                    mask,
-                    message,
-                    ..
-                } => {
+                Call::Message { session, local, mask, message, .. } => {
                     let upload = &mut self.uploads[*session];
                     sys::threshtide_message(
                         state,
@@ -121,6 +105,8 @@ impl Library {
                         room,
                     )
                 }
+                Call::Path { path, .. } => sys::threshtide_path(path.as_ptr(), path.len(), to, room),
+                Call::Request { message, .. } => sys::threshtide_request(message.as_ptr(), message.len(), to, room),
                 Call::NewSession { session } => {
                     self.uploads[*session].fill(0);
                     0
@@ -149,7 +135,7 @@ impl Side for Library {
 
     fn call(&mut self, call: &Call, out: &mut [u8]) -> u64 {
         self.calls += 1;
-        let watched = self.calls % WATCHED == 0;
+        let watched = self.calls.is_multiple_of(WATCHED);
         if watched {
             self.before.clone_from(&self.state);
         }

@@ -157,7 +157,8 @@ fn main() -> ExitCode {
     );
     print!("{}", found.difference.what);
     println!("shortening ..");
-    let (calls, difference) = shrink(&first, &second, &found.run.calls, &found.difference, Duration::from_secs(o.shrink));
+    let (calls, difference) =
+        shrink(&first, &second, &found.run.calls, &found.difference, Duration::from_secs(o.shrink));
     println!("the shortest run found has {} calls:", calls.len());
     print!("{}", show_run(&first, &calls, &difference));
     ExitCode::FAILURE

@@ -68,9 +68,10 @@ impl Tally {
             self.happen("two or more connections removed by one call", gone.clone().count() > 1);
             self.happen(
                 "a stream handed over",
-                after.conns.iter().any(|c| {
-                    c.due.is_some() && before.conns.iter().any(|b| b.triad == c.triad && b.due.is_none())
-                }),
+                after
+                    .conns
+                    .iter()
+                    .any(|c| c.due.is_some() && before.conns.iter().any(|b| b.triad == c.triad && b.due.is_none())),
             );
             self.happen(
                 "listeners closed with their stream",
@@ -79,7 +80,8 @@ impl Tally {
             self.happen(
                 "D1: a point-to-point connection removed beside a stream of its T→O id",
                 gone.clone().any(|g| {
-                    !g.multicast && before.conns.iter().any(|c| c.multicast && c.t_o_id == g.t_o_id && there(after, c.triad))
+                    !g.multicast
+                        && before.conns.iter().any(|c| c.multicast && c.t_o_id == g.t_o_id && there(after, c.triad))
                 }),
             );
             self.happen(
@@ -88,16 +90,17 @@ impl Tally {
             );
         }
         if let Call::Produce { .. } = call {
-            let wrapped = |c: &crate::seen::ConnSeen, b: &crate::seen::ConnSeen| c.triad == b.triad && c.sequence < b.sequence;
-            self.happen(
-                "a sequence wrapped",
-                after.conns.iter().zip(&before.conns).any(|(c, b)| wrapped(c, b)),
-            );
+            let wrapped =
+                |c: &crate::seen::ConnSeen, b: &crate::seen::ConnSeen| c.triad == b.triad && c.sequence < b.sequence;
+            self.happen("a sequence wrapped", after.conns.iter().zip(&before.conns).any(|(c, b)| wrapped(c, b)));
             self.happen("a packet was late", after.late > before.late);
         }
         self.happen("an open with a full table", matches!(call, Call::Open { .. }) && before.conns.len() == 32);
         self.happen("a call with 1,024 events waiting", before.events == MAX_EVENTS);
-        self.happen("a joined stream", after.conns.len() > before.conns.len() && after.conns.last().is_some_and(|c| c.due.is_none()));
+        self.happen(
+            "a joined stream",
+            after.conns.len() > before.conns.len() && after.conns.last().is_some_and(|c| c.due.is_none()),
+        );
         self.happen("ids wrapped past 0", after.next_id < before.next_id && after.conns.len() > before.conns.len());
     }
 }
@@ -154,10 +157,7 @@ impl Pair {
             out.clear();
             out.resize(call.room(), LENT);
         }
-        let answers = [
-            self.first.call(call, &mut self.outs[0]),
-            self.second.call(call, &mut self.outs[1]),
-        ];
+        let answers = [self.first.call(call, &mut self.outs[0]), self.second.call(call, &mut self.outs[1])];
         self.answer = answers[0];
         self.first.see(&mut self.seen[0]);
         self.second.see(&mut self.seen[1]);
@@ -213,7 +213,14 @@ impl Pair {
         for (i, (x, y)) in a.assemblies.iter().zip(&b.assemblies).enumerate() {
             differ(text, names, &format!("assembly {i}"), x, y);
             if x.size == y.size && a.data_of(i) != b.data_of(i) {
-                let _ = writeln!(text, "  assembly {i} data: {} {}, {} {}", names[0], hex(a.data_of(i)), names[1], hex(b.data_of(i)));
+                let _ = writeln!(
+                    text,
+                    "  assembly {i} data: {} {}, {} {}",
+                    names[0],
+                    hex(a.data_of(i)),
+                    names[1],
+                    hex(b.data_of(i))
+                );
             }
         }
         differ(text, names, "assemblies", a.assemblies.len(), b.assemblies.len());
@@ -237,7 +244,7 @@ impl Pair {
     /// The newest 64 events after every call (no call adds more than 34), all of them now and then.
     fn compare_events(&mut self) -> Option<String> {
         let waiting = self.seen[0].events;
-        let from = if self.made % 64 == 0 { 0 } else { waiting.saturating_sub(64) };
+        let from = if self.made.is_multiple_of(64) { 0 } else { waiting.saturating_sub(64) };
         self.first.events(from, &mut self.events[0]);
         self.second.events(from, &mut self.events[1]);
         if self.events[0] == self.events[1] {
@@ -296,24 +303,14 @@ pub struct Runner<'a> {
 
 impl<'a> Runner<'a> {
     pub fn new(first: Make<'a>, second: Make<'a>, seed: u64) -> Self {
-        Runner {
-            first,
-            second,
-            seed,
-            calls: 0,
-            runs: 0,
-            tally: None,
-        }
+        Runner { first, second, seed, calls: 0, runs: 0, tally: None }
     }
 
     /// Makes the run of a number. `go_on` is asked after every call.
     pub fn run(&mut self, number: u64, go_on: &mut dyn FnMut(u64) -> bool) -> Result<(), Found> {
         let mut generator = Generator::new(self.seed, number);
         let mut pair = Pair::new(self.first, self.second);
-        let mut run = Run {
-            calls: vec![generator.first()],
-            profile: generator.profile(),
-        };
+        let mut run = Run { calls: vec![generator.first()], profile: generator.profile() };
         self.runs += 1;
         let mut before = Seen::default();
         loop {
@@ -324,10 +321,7 @@ impl<'a> Runner<'a> {
             let answer = pair.step(&run.calls[at]);
             self.calls += 1;
             if let Some(what) = answer {
-                return Err(Found {
-                    run,
-                    difference: Difference { at, what },
-                });
+                return Err(Found { run, difference: Difference { at, what } });
             }
             if let Some(tally) = &mut self.tally {
                 tally.note(&run.calls[at], &before, &pair.seen[0]);

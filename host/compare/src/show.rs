@@ -25,7 +25,7 @@ pub fn grouped(n: u64) -> String {
     let digits = n.to_string();
     let mut out = String::new();
     for (i, c) in digits.chars().enumerate() {
-        if i > 0 && (digits.len() - i) % 3 == 0 {
+        if i > 0 && (digits.len() - i).is_multiple_of(3) {
             out.push(',');
         }
         out.push(c);
@@ -284,7 +284,9 @@ pub fn call(call: &Call) -> String {
         Call::Setup { block, eds, seed } => format!("setup: {}", setup(block, eds, *seed)),
         Call::SetInput { instance, data } => format!("set_input {instance}: {} bytes {}", data.len(), hex(data)),
         Call::Output { instance, room } => format!("output {instance} (room for {room} bytes)"),
-        Call::Assembly { kind, instance, room } => format!("assembly of kind {kind}, {instance} (room for {room} bytes)"),
+        Call::Assembly { kind, instance, room } => {
+            format!("assembly of kind {kind}, {instance} (room for {room} bytes)")
+        }
         Call::Open { time, service, request, peer, local, mask, given, address: a, port, io_port, room: r } => format!(
             "open {} from {} on {}/{}{}, I/O port {io_port}{}: {}",
             at(*time),
@@ -295,7 +297,9 @@ pub fn call(call: &Call) -> String {
             room(26, *r),
             open(*service, request),
         ),
-        Call::OpenRefusal { service, request, room: r } => format!("open_refusal{}: {}", room(10, *r), open(*service, request)),
+        Call::OpenRefusal { service, request, room: r } => {
+            format!("open_refusal{}: {}", room(10, *r), open(*service, request))
+        }
         Call::Close { request, room: r } => format!(
             "close{} of triad {}/{}/{}: {}",
             room(10, *r),
@@ -304,7 +308,9 @@ pub fn call(call: &Call) -> String {
             le(request, 6, 4),
             hex(request)
         ),
-        Call::Receive { time, from, frame: f } => format!("receive {} from {}: {}", at(*time), address(*from), frame(f)),
+        Call::Receive { time, from, frame: f } => {
+            format!("receive {} from {}: {}", at(*time), address(*from), frame(f))
+        }
         Call::Produce { time, room } => format!("produce {} (room for {room} bytes)", at(*time)),
         Call::Expire { time } => format!("expire {}", at(*time)),
         Call::NextDeadline { room } => format!("next_deadline (room for {room} bytes)"),
@@ -324,6 +330,8 @@ pub fn call(call: &Call) -> String {
                 hex(message.get(end..).unwrap_or(&[])),
             )
         }
+        Call::Path { path: p, room } => format!("path (room for {room} bytes): {}; {}", path(p), hex(p)),
+        Call::Request { message, room } => format!("request (room for {room} bytes): {}", hex(message)),
         Call::NewSession { session } => format!("session {session} begins anew"),
         Call::PlantSent { row, sequence, cip } => {
             format!("(no call) connection {row}, if it sends, is set to sequence {sequence:#X}, CIP sequence {cip:#X}")

@@ -17,7 +17,13 @@ struct Shrinker<'a> {
 
 /// Shortens a run that shows a difference, for at most so long: calls left out, then calls made simpler. A run that
 /// shows none when made again from fresh sides stays as it is.
-pub fn shrink(first: Make, second: Make, calls: &[Call], difference: &Difference, most: Duration) -> (Vec<Call>, Difference) {
+pub fn shrink(
+    first: Make,
+    second: Make,
+    calls: &[Call],
+    difference: &Difference,
+    most: Duration,
+) -> (Vec<Call>, Difference) {
     let (again, ids) = replay(first, second, calls);
     let Some(again) = again else {
         return (calls.to_vec(), difference.clone());
@@ -167,7 +173,9 @@ impl Shrinker<'_> {
 
 fn time_of(call: &mut Call) -> Option<&mut u64> {
     match call {
-        Call::Open { time, .. } | Call::Receive { time, .. } | Call::Produce { time, .. } | Call::Expire { time } => Some(time),
+        Call::Open { time, .. } | Call::Receive { time, .. } | Call::Produce { time, .. } | Call::Expire { time } => {
+            Some(time)
+        }
         _ => None,
     }
 }
@@ -207,7 +215,8 @@ fn weight(call: &Call) -> usize {
         Call::Open { request, given, .. } => ones(request) + usize::from(*given),
         Call::OpenRefusal { request, .. } | Call::Close { request, .. } => ones(request),
         Call::Receive { frame, .. } => ones(frame),
-        Call::Message { message, .. } => ones(message),
+        Call::Message { message, .. } | Call::Request { message, .. } => ones(message),
+        Call::Path { path, .. } => ones(path),
         _ => 0,
     }
 }

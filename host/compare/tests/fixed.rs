@@ -228,7 +228,8 @@ fn d1_in_an_expiry_that_takes_several() {
 #[test]
 fn d2_a_configuration_event_has_instance_and_length() {
     let mut calls = begin(&setup());
-    let segs = [Seg::Class(4, 0), Seg::Instance(199, 0), Seg::Point(238, 0), Seg::Point(100, 0), Seg::Data(vec![9, 8, 7, 6])];
+    let segs =
+        [Seg::Class(4, 0), Seg::Instance(199, 0), Seg::Point(238, 0), Seg::Point(100, 0), Seg::Data(vec![9, 8, 7, 6])];
     calls.push(open(0, &Open { path: bytes::path(&segs), ..heartbeat(1) }));
     calls.extend([Call::NextEvent { room: 32 }, Call::NextEvent { room: 32 }]);
     calls.push(Call::Assembly { kind: 3, instance: 199, room: 4 });
@@ -240,12 +241,7 @@ fn d2_a_configuration_event_has_instance_and_length() {
 
 #[test]
 fn the_sequences_that_document_01_names() {
-    for (last, next, taken) in [
-        (5, 5, false),
-        (u32::MAX, 0, true),
-        (0, 0x7FFF_FFFF, true),
-        (0, 0x8000_0000, false),
-    ] {
+    for (last, next, taken) in [(5, 5, false), (u32::MAX, 0, true), (0, 0x7FFF_FFFF, true), (0, 0x8000_0000, false)] {
         let mut calls = begin(&setup());
         calls.push(open(0, &owner(1, 150)));
         calls.push(frame(1, 0x101, last, 1, &[1, 1]));
@@ -348,8 +344,7 @@ fn an_upload_with_a_repeat_and_past_its_end() {
     for number in [0, 0, 1, 2, 1] {
         calls.push(file(0x4F, &[number]));
     }
-    let replies: Vec<Vec<u8>> =
-        agreed(&calls)[1..].iter().map(|(n, out)| out[..(*n >> 8) as usize].to_vec()).collect();
+    let replies: Vec<Vec<u8>> = agreed(&calls)[1..].iter().map(|(n, out)| out[..(*n >> 8) as usize].to_vec()).collect();
     assert_eq!(replies[0], [0xCF, 0, 0x0C, 0]);
     assert_eq!(replies[1], [0xCB, 0, 0, 0, 3, 0, 0, 0, 2]);
     assert_eq!(replies[2], [0xCF, 0, 0, 0, 0, 0, 1, 2]);
@@ -364,7 +359,10 @@ fn a_refusal_for_room_changes_nothing() {
     let mut calls = begin(&setup());
     let short = |mut call: Call| {
         match &mut call {
-            Call::Open { room, .. } | Call::Close { room, .. } | Call::Output { room, .. } | Call::Produce { room, .. } => *room -= 1,
+            Call::Open { room, .. }
+            | Call::Close { room, .. }
+            | Call::Output { room, .. }
+            | Call::Produce { room, .. } => *room -= 1,
             _ => {}
         }
         call

@@ -84,8 +84,7 @@ fn the_way_with_d1_is_exact() {
 #[test]
 fn a_difference_is_found_shortened_and_shown() {
     let found = runs(odd, 1, 400_000).expect_err("the odd close");
-    let (calls, difference) =
-        shrink(&reference, &odd, &found.run.calls, &found.difference, Duration::from_secs(30));
+    let (calls, difference) = shrink(&reference, &odd, &found.run.calls, &found.difference, Duration::from_secs(30));
     let names: Vec<&str> = calls.iter().map(Call::name).collect();
     assert_eq!(names, ["setup", "open", "produce", "close"]);
     let text = show_run(&reference, &calls, &difference);

@@ -13,10 +13,7 @@ pub struct Plant {
 /// The plants of a list; a message with the line where its form is broken.
 pub fn read(text: &str) -> Result<Vec<Plant>, String> {
     let mut plants: Vec<Plant> = Vec::new();
-    let mut lines = text
-        .lines()
-        .enumerate()
-        .filter(|(_, l)| !l.trim().is_empty() && !l.starts_with('#'));
+    let mut lines = text.lines().enumerate().filter(|(_, l)| !l.trim().is_empty() && !l.starts_with('#'));
     while let Some((at, head)) = lines.next() {
         let wrong = |what: &str| format!("line {}: {what}", at + 1);
         let (name, says) = head.split_once(": ").ok_or_else(|| wrong("no \"NAME: meaning\""))?;
@@ -30,13 +27,7 @@ pub fn read(text: &str) -> Result<Vec<Plant>, String> {
             line.map(str::to_owned).ok_or_else(|| wrong(&format!("no line that begins with {mark:?}")))
         };
         let (old, new) = (part("- ")?, part("+ ")?);
-        plants.push(Plant {
-            name: name.into(),
-            says: says.into(),
-            file: file.into(),
-            old,
-            new,
-        });
+        plants.push(Plant { name: name.into(), says: says.into(), file: file.into(), old, new });
     }
     Ok(plants)
 }

@@ -63,7 +63,9 @@ fn options(mut args: impl Iterator<Item = String>) -> Result<Options, String> {
             "--show" => o.show = true,
             "--list" => o.list = true,
             other if other.starts_with('-') => return Err(format!("{other:?} is no option")),
-            name if copies::side(name).is_none() => return Err(format!("{name:?} is no planted reading; --list names them")),
+            name if copies::side(name).is_none() => {
+                return Err(format!("{name:?} is no planted reading; --list names them"));
+            }
             name => o.names.push(name.into()),
         }
     }

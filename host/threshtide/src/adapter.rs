@@ -386,9 +386,8 @@ impl Adapter {
     pub fn connections(&self) -> Vec<Connection> {
         let mut out = [0; MAX_RECORDS];
         // SAFETY: as in `assembly`.
-        let answer = unsafe {
-            sys::threshtide_connections(self.state.as_ptr(), self.state.len(), out.as_mut_ptr(), out.len())
-        };
+        let answer =
+            unsafe { sys::threshtide_connections(self.state.as_ptr(), self.state.len(), out.as_mut_ptr(), out.len()) };
         let length = expected(read(answer)) as usize;
         let (records, _) = out[..length].as_chunks();
         records.iter().map(Connection::read).collect()
@@ -397,9 +396,8 @@ impl Adapter {
     fn try_stats(&self) -> Result<Stats, No> {
         let mut out = [0; 24];
         // SAFETY: as in `assembly`.
-        let answer = unsafe {
-            sys::threshtide_stats(self.state.as_ptr(), self.state.len(), out.as_mut_ptr(), out.len())
-        };
+        let answer =
+            unsafe { sys::threshtide_stats(self.state.as_ptr(), self.state.len(), out.as_mut_ptr(), out.len()) };
         read(answer)?;
         Ok(Stats { produced: u64_at(&out, 0), late: u64_at(&out, 8), max_late: u64_at(&out, 16) })
     }

@@ -81,13 +81,15 @@
 mod adapter;
 mod answer;
 mod records;
+mod routing;
 mod setup;
-/// The C functions as they are.
+#[rustfmt::skip]
 pub mod sys;
 mod words;
 
 pub use adapter::{Adapter, MAX_PACKETS, Opened, Origin, Service, Session, open_refusal};
 pub use answer::{No, OpenError, Refusal};
 pub use records::{Connection, ConnectionKind, Event, OtId, Output, Packet, Packets, Stats, ToId};
+pub use routing::{ConnectionPath, Key, Request, read_path, read_request};
 pub use setup::{Assembly, AssemblyKind, BLOCK_SIZE, Setup, SetupError};
 pub use words::Word;

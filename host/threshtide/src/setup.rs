@@ -160,7 +160,9 @@ impl fmt::Display for SetupError {
             SetupError::Assemblies(n) => write!(f, "{n} assemblies; at most 16 can be"),
             SetupError::InstanceZero => write!(f, "an assembly of instance 0; instances begin at 1"),
             SetupError::InstanceTwice(n) => write!(f, "two assemblies of instance {n}"),
-            SetupError::AssemblySize { instance, size } => write!(f, "assembly {instance} of {size} bytes; at most 512 can be"),
+            SetupError::AssemblySize { instance, size } => {
+                write!(f, "assembly {instance} of {size} bytes; at most 512 can be")
+            }
             SetupError::ProductName(n) => write!(f, "a product name of {n} bytes; at most 32 can be"),
             SetupError::EdsName(n) => write!(f, "an EDS name of {n} bytes; at most 32 can be"),
             SetupError::Eds(n) => write!(f, "an EDS of {n} bytes; at most 65,535 can be"),

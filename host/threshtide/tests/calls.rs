@@ -2,8 +2,8 @@
 
 use std::net::{Ipv4Addr, SocketAddrV4};
 use threshtide::{
-    Adapter, Assembly, AssemblyKind, ConnectionKind, Event, MAX_PACKETS, No, OpenError, Origin, Service, Session, Setup,
-    SetupError, Stats, Word, open_refusal, sys,
+    Adapter, Assembly, AssemblyKind, ConnectionKind, Event, MAX_PACKETS, No, OpenError, Origin, Service, Session,
+    Setup, SetupError, Stats, Word, open_refusal, sys,
 };
 
 const PEER: Ipv4Addr = Ipv4Addr::new(10, 0, 0, 1);
@@ -191,7 +191,9 @@ fn configuration_is_stored_and_told() {
     let mut a = adapter();
     let with_data = request(1, 2, false, &[0x20, 4, 0x24, 199, 0x2C, 238, 0x2C, 100, 0x80, 1, 0xAB, 0xCD]);
     a.open(0, Service::ForwardOpen, &with_data, &origin()).expect("accepted");
-    assert!(matches!(a.next_event(), Some(Event::Opened(c)) if c.kind == ConnectionKind::InputOnly && c.output.is_none()));
+    assert!(
+        matches!(a.next_event(), Some(Event::Opened(c)) if c.kind == ConnectionKind::InputOnly && c.output.is_none())
+    );
     assert_eq!(a.next_event(), Some(Event::Configured { instance: 199, length: 2 }));
     assert_eq!(a.assembly(AssemblyKind::Configuration, 199), Ok(vec![0xAB, 0xCD]));
 }

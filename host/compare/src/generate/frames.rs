@@ -220,11 +220,7 @@ impl Generator {
         Call::Receive {
             time: self.clock.min(crate::call::MAX_TIME),
             from: c.originator,
-            frame: bytes::items(&bytes::frame_items(
-                c.o_t_id,
-                sequence,
-                bytes::payload(cip, u32::from(run), &data),
-            )),
+            frame: bytes::items(&bytes::frame_items(c.o_t_id, sequence, bytes::payload(cip, u32::from(run), &data))),
         }
     }
 }

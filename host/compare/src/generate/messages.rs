@@ -2,7 +2,7 @@
 
 use super::{Generator, Step};
 use crate::bytes::{self, Seg};
-use crate::call::{Call, MAX_BYTES, MAX_REPLY};
+use crate::call::{Call, MAX_BYTES, MAX_REPLY, PATH_RECORD, REQUEST_RECORD};
 use crate::seen::Seen;
 
 const CLASSES: [u32; 8] = [0x01, 0x04, 0xF5, 0xF6, 0x37, 0x37, 0x04, 0x01];
@@ -94,6 +94,23 @@ impl Generator {
             _ => {}
         }
         self.send(message)
+    }
+
+    /// A path or a message on its own.
+    pub(super) fn routing(&mut self, seen: &Seen) -> Call {
+        if self.rng.chance(40) {
+            let Call::Message { message, .. } = self.message(seen) else {
+                return self.new_session();
+            };
+            return Call::Request { message, room: self.room(REQUEST_RECORD) };
+        }
+        let mut path = if self.rng.chance(50) { bytes::path(&self.message_path()) } else { self.open_path(seen) };
+        match self.rng.below(12) {
+            0..3 => path = self.damaged(path),
+            3 if self.rng.once_in(8) => path = vec![0; 508 + 2 * self.rng.index(3)],
+            _ => {}
+        }
+        Call::Path { path, room: self.room(PATH_RECORD) }
     }
 
     fn send(&mut self, message: Vec<u8>) -> Call {

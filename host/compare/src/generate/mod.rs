@@ -18,7 +18,7 @@ use std::collections::VecDeque;
 struct Profile {
     name: &'static str,
     calls: (u64, u64),
-    /// open, close, receive, produce, expire, next event, output, set input, message, reads, open refusal, setup
+    /// open, close, receive, produce, expire, next event, output, set input, message, reads, open refusal or path, setup
     /// again, plant, refresh, fill, upload, churn
     weights: [u32; 17],
     /// Percent of opens that are twisted, that are multicast, and that choose a T→O id in use.
@@ -87,7 +87,7 @@ const PROFILES: [Profile; 8] = [
     Profile {
         name: "messages",
         calls: (60, 700),
-        weights: [15, 6, 20, 8, 4, 10, 4, 8, 300, 4, 0, 1, 0, 2, 0, 12, 0],
+        weights: [15, 6, 20, 8, 4, 10, 4, 8, 300, 4, 30, 1, 0, 2, 0, 12, 0],
         twisted: 10,
         multicast: 50,
         colliding: 5,
@@ -203,7 +203,8 @@ impl Generator {
             7 => self.set_input(),
             8 => self.message(seen),
             9 => self.read(seen),
-            10 => self.open_refusal(seen),
+            10 if self.rng.chance(50) => self.open_refusal(seen),
+            10 => self.routing(seen),
             11 => self.setup_again(),
             12 => self.plant(seen),
             13 => self.refresh(seen),
@@ -279,21 +280,14 @@ impl Generator {
     }
 
     fn output(&mut self, seen: &Seen) -> Call {
-        let outputs: Vec<(u32, usize)> = seen
-            .assemblies
-            .iter()
-            .filter(|a| a.kind == 2)
-            .map(|a| (a.instance, a.size))
-            .collect();
+        let outputs: Vec<(u32, usize)> =
+            seen.assemblies.iter().filter(|a| a.kind == 2).map(|a| (a.instance, a.size)).collect();
         if outputs.is_empty() || self.rng.chance(4) {
             let instance = self.some_instance();
             return Call::Output { instance, room: 513 };
         }
         let (instance, size) = self.rng.pick(&outputs);
-        Call::Output {
-            instance,
-            room: self.room(1 + size),
-        }
+        Call::Output { instance, room: self.room(1 + size) }
     }
 
     /// An instance that need not be there, or be of the kind wanted.
@@ -318,10 +312,7 @@ impl Generator {
         let inputs = self.shapes(1);
         if inputs.is_empty() || self.rng.chance(4) {
             let n = self.rng.index(20);
-            return Call::SetInput {
-                instance: self.some_instance(),
-                data: self.rng.bytes(n),
-            };
+            return Call::SetInput { instance: self.some_instance(), data: self.rng.bytes(n) };
         }
         let a = self.rng.pick(&inputs);
         let n = match self.rng.below(10) {
@@ -331,36 +322,23 @@ impl Generator {
             3 => self.rng.index(2 * a.size + 2),
             _ => a.size,
         };
-        Call::SetInput {
-            instance: a.instance,
-            data: self.rng.bytes(n),
-        }
+        Call::SetInput { instance: a.instance, data: self.rng.bytes(n) }
     }
 
     /// A call that reads and changes nothing.
     fn read(&mut self, seen: &Seen) -> Call {
         match self.rng.below(4) {
             0 => Call::NextDeadline { room: self.room(8) },
-            1 => Call::Connections {
-                room: self.room(32 * seen.conns.len()),
-            },
+            1 => Call::Connections { room: self.room(32 * seen.conns.len()) },
             2 => Call::Stats { room: self.room(24) },
             _ => {
                 let known = self.setup.assemblies.len();
                 if known == 0 || self.rng.chance(20) {
-                    return Call::Assembly {
-                        kind: self.rng.below(5) as u8,
-                        instance: self.some_instance(),
-                        room: 512,
-                    };
+                    return Call::Assembly { kind: self.rng.below(5) as u8, instance: self.some_instance(), room: 512 };
                 }
                 let i = self.rng.index(known);
                 let a = self.setup.assemblies[i];
-                Call::Assembly {
-                    kind: a.kind,
-                    instance: a.instance,
-                    room: self.room(a.size),
-                }
+                Call::Assembly { kind: a.kind, instance: a.instance, room: self.room(a.size) }
             }
         }
     }
@@ -374,11 +352,7 @@ impl Generator {
         for _ in 0..3 {
             self.steps.push_back(Step::Produce);
         }
-        Call::PlantSent {
-            row,
-            sequence: u32::MAX - self.rng.below(3) as u32,
-            cip: u16::MAX - self.rng.below(3) as u16,
-        }
+        Call::PlantSent { row, sequence: u32::MAX - self.rng.below(3) as u32, cip: u16::MAX - self.rng.below(3) as u16 }
     }
 
     /// A frame to each connection, so that most live on.
@@ -425,19 +399,13 @@ impl Generator {
 
     fn produce(&mut self, seen: &Seen) -> Call {
         let time = self.time_to_produce(seen);
-        let need: usize = seen
-            .conns
-            .iter()
-            .filter(|c| c.due.is_some_and(|due| due <= time))
-            .map(|c| 33 + c.input_size)
-            .sum();
+        let need: usize =
+            seen.conns.iter().filter(|c| c.due.is_some_and(|due| due <= time)).map(|c| 33 + c.input_size).sum();
         let room = if self.rng.chance(5) { MAX_PACKETS } else { self.room(need) };
         Call::Produce { time, room }
     }
 
     fn expire(&mut self, seen: &Seen) -> Call {
-        Call::Expire {
-            time: self.time_to_expire(seen),
-        }
+        Call::Expire { time: self.time_to_expire(seen) }
     }
 }

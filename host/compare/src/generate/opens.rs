@@ -79,11 +79,8 @@ impl Generator {
     }
 
     fn kind(&mut self, seen: &Seen, outputs: &[Shape], multicast: bool) -> (Kind, Option<Shape>) {
-        let free: Vec<Shape> = outputs
-            .iter()
-            .copied()
-            .filter(|a| !seen.conns.iter().any(|c| c.output == Some(a.instance)))
-            .collect();
+        let free: Vec<Shape> =
+            outputs.iter().copied().filter(|a| !seen.conns.iter().any(|c| c.output == Some(a.instance))).collect();
         let streams = seen.conns.iter().any(|c| c.multicast && c.kind != 3);
         match self.rng.below(10) {
             0..5 if !free.is_empty() => (Kind::Owner, Some(self.rng.pick(&free))),
@@ -201,7 +198,7 @@ impl Generator {
         if !configs.is_empty() && self.rng.chance(35) {
             let config = self.rng.pick(&configs);
             numbers.insert(0, self.number(config.instance));
-            if config.size % 2 == 0 && config.size <= 490 && self.rng.chance(60) {
+            if config.size.is_multiple_of(2) && config.size <= 490 && self.rng.chance(60) {
                 data.push(Seg::Data(self.rng.bytes(config.size)));
             }
         } else if self.rng.chance(10) {
@@ -384,8 +381,7 @@ impl Generator {
     }
 
     fn owned_output(&mut self, seen: &Seen, d: &mut Draft) {
-        let owned: Vec<(u32, usize)> =
-            seen.conns.iter().filter_map(|c| c.output.map(|o| (o, c.output_size))).collect();
+        let owned: Vec<(u32, usize)> = seen.conns.iter().filter_map(|c| c.output.map(|o| (o, c.output_size))).collect();
         if !owned.is_empty() {
             let (output, size) = self.rng.pick(&owned);
             self.put_number(d, 2, output);
@@ -443,12 +439,20 @@ impl Generator {
         (service, request)
     }
 
+    /// The path of an open.
+    pub(super) fn open_path(&mut self, seen: &Seen) -> Vec<u8> {
+        let (service, request) = self.request(seen, false);
+        let from = if service == 0x5B { 40 } else { 36 };
+        request.get(from..).unwrap_or(&[]).to_vec()
+    }
+
     /// One byte of the path changed: mostly a segment's first, so that it is of another kind.
     fn damage_path(&mut self, service: u8, request: &mut [u8]) {
         let from = if service == 0x5B { 40 } else { 36 };
         if request.len() > from {
             let at = from + self.rng.index(request.len() - from);
-            request[at] = self.rng.pick(&[0x20, 0x23, 0x24, 0x28, 0x2C, 0x2F, 0x30, 0x34, 0x80, 0x81, 0x00, 0x10, 0x1F, 0xFF]);
+            request[at] =
+                self.rng.pick(&[0x20, 0x23, 0x24, 0x28, 0x2C, 0x2F, 0x30, 0x34, 0x80, 0x81, 0x00, 0x10, 0x1F, 0xFF]);
         }
     }
 
@@ -479,11 +483,7 @@ impl Generator {
 
     pub(super) fn open_refusal(&mut self, seen: &Seen) -> Call {
         let (service, request) = self.request(seen, false);
-        Call::OpenRefusal {
-            service,
-            request,
-            room: self.room(10),
-        }
+        Call::OpenRefusal { service, request, room: self.room(10) }
     }
 
     pub(super) fn close(&mut self, seen: &Seen) -> Call {
@@ -521,19 +521,13 @@ impl Generator {
             3 if self.rng.once_in(60) => request.resize(MAX_BYTES + self.rng.index(2), 0),
             _ => {}
         }
-        Call::Close {
-            request,
-            room: self.room(10),
-        }
+        Call::Close { request, room: self.room(10) }
     }
 
     /// The close of some connection, with room.
     pub(super) fn close_one(&mut self, seen: &Seen) -> Call {
         match self.triad_in_use(seen) {
-            Some(triad) => Call::Close {
-                request: bytes::close(triad, &[], &[]),
-                room: 10,
-            },
+            Some(triad) => Call::Close { request: bytes::close(triad, &[], &[]), room: 10 },
             None => self.open(seen, true),
         }
     }

@@ -120,11 +120,7 @@ impl Generator {
         }
         self.setup = setup;
         self.triads = 0;
-        Call::Setup {
-            block,
-            eds: self.rng.bytes(self.eds),
-            seed,
-        }
+        Call::Setup { block, eds: self.rng.bytes(self.eds), seed }
     }
 
     /// A setup on a state in use: a good one, or one that document 01 refuses and that changes nothing.
@@ -170,8 +166,6 @@ impl Generator {
     }
 
     pub(super) fn new_session(&mut self) -> Call {
-        Call::NewSession {
-            session: self.rng.index(SESSIONS),
-        }
+        Call::NewSession { session: self.rng.index(SESSIONS) }
     }
 }
