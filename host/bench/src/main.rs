@@ -9,6 +9,7 @@ mod ciplink {
 }
 
 use cases::{CASES, Case, Counters, Which};
+use compare::say;
 use pair::Pair;
 use std::process::ExitCode;
 use std::time::{Duration, Instant};
@@ -120,7 +121,7 @@ fn processor() -> String {
 fn main() -> ExitCode {
     let args: Vec<String> = std::env::args().skip(1).collect();
     if args.iter().any(|a| a == "--help" || a == "-h") {
-        print!("{USAGE}");
+        say!("{USAGE}");
         return ExitCode::SUCCESS;
     }
     let o = match options(args.into_iter()) {
@@ -133,14 +134,14 @@ fn main() -> ExitCode {
     if cfg!(debug_assertions) {
         eprintln!("bench: built without optimisation: the figures say nothing (use --release)");
     }
-    println!(
+    say!(
         "Nanoseconds a call, library / ciplink (ratio), at so many connections. Processor: {}. Medians of {} pairs of batches of about {} µs, taken in turn in one process; the ratio is the median of the pairs' ratios.\n",
         processor(),
         o.rounds,
         o.batch.as_micros()
     );
-    println!("| Call | Bytes | {} |", CONNECTIONS.map(|n| n.to_string()).join(" | "));
-    println!("|---|---|{}", "---|".repeat(CONNECTIONS.len()));
+    say!("| Call | Bytes | {} |", CONNECTIONS.map(|n| n.to_string()).join(" | "));
+    say!("|---|---|{}", "---|".repeat(CONNECTIONS.len()));
     for case in CASES.iter().filter(|c| c.name.contains(&o.case)) {
         for size in SIZES.into_iter().take(if case.sized { 2 } else { 1 }) {
             let bytes = if case.sized { size.to_string() } else { "-".into() };
@@ -152,7 +153,7 @@ fn main() -> ExitCode {
                     format!("{:.0} / {:.0} ({:.2})", f.library, f.original, f.ratio)
                 })
                 .collect();
-            println!("| {} | {bytes} | {} |", case.name, cells.join(" | "));
+            say!("| {} | {bytes} | {} |", case.name, cells.join(" | "));
         }
     }
     ExitCode::SUCCESS

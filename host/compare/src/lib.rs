@@ -30,7 +30,7 @@ pub use generate::Generator;
 pub use library::Library;
 pub use run::{Difference, Found, Make, Run, Runner, Tally, answers, replay};
 pub use seen::{AssemblySeen, ConnSeen, Seen, Side, UploadSeen};
-pub use show::{grouped, show_run};
+pub use show::{grouped, print_line, show_run};
 pub use shrink::shrink;
 
 /// ciplink as it is: compiled from its own text.

@@ -1,6 +1,6 @@
 //! The command `compare`.
 
-use compare::{Runner, Side, Tally, ciplink, grouped, show_run, shrink};
+use compare::{Runner, Side, Tally, ciplink, grouped, say, show_run, shrink};
 use std::process::ExitCode;
 use std::time::{Duration, Instant};
 
@@ -74,20 +74,20 @@ fn side(name: &str) -> Result<fn() -> Box<dyn Side>, String> {
 }
 
 fn print_tally(tally: &Tally) {
-    println!("calls and answers:");
+    say!("calls and answers:");
     for ((call, answer), n) in &tally.calls {
-        println!("  {:>12}  {call}: {answer}", grouped(*n));
+        say!("  {:>12}  {call}: {answer}", grouped(*n));
     }
-    println!("situations:");
+    say!("situations:");
     for (what, n) in &tally.happened {
-        println!("  {:>12}  {what}", grouped(*n));
+        say!("  {:>12}  {what}", grouped(*n));
     }
 }
 
 fn main() -> ExitCode {
     let args: Vec<String> = std::env::args().skip(1).collect();
     if args.iter().any(|a| a == "--help" || a == "-h") {
-        print!("{USAGE}");
+        say!("{USAGE}");
         return ExitCode::SUCCESS;
     }
     let picked = options(args.into_iter()).and_then(|o| side(&o.against).map(|s| (o, s)));
@@ -101,7 +101,7 @@ fn main() -> ExitCode {
     let first = || -> Box<dyn Side> { Box::new(ciplink::reference::Original::default()) };
     let mut runner = Runner::new(&first, &second, o.seed);
     runner.tally = o.tally.then(Tally::default);
-    println!("compare: ciplink against {}, seed {}", o.against, o.seed);
+    say!("compare: ciplink against {}, seed {}", o.against, o.seed);
     let start = Instant::now();
     let end = start + Duration::from_secs(o.seconds);
     let mut told = start;
@@ -113,7 +113,7 @@ fn main() -> ExitCode {
             if calls % 4096 == 0 && told.elapsed() > Duration::from_secs(2) {
                 told = Instant::now();
                 let spent = so_far.elapsed().as_secs_f64();
-                println!(
+                say!(
                     "  {spent:6.1} s  {:>13} calls  {:>8} runs  {:>9} calls a second",
                     grouped(calls),
                     grouped(runs),
@@ -138,7 +138,7 @@ fn main() -> ExitCode {
     if let Some(tally) = &runner.tally {
         print_tally(tally);
     }
-    println!(
+    say!(
         "compare: {} calls in {} runs, {:.1} s, {} calls a second",
         grouped(runner.calls),
         grouped(runner.runs),
@@ -146,20 +146,20 @@ fn main() -> ExitCode {
         grouped((runner.calls as f64 / spent) as u64)
     );
     let Some(found) = found else {
-        println!("compare: no difference");
+        say!("compare: no difference");
         return ExitCode::SUCCESS;
     };
-    println!(
+    say!(
         "compare: DIFFERENCE in run {number} ({}), after its call {} (again: --seed {} --run {number})",
         found.run.profile,
         found.difference.at + 1,
         o.seed
     );
-    print!("{}", found.difference.what);
-    println!("shortening ..");
+    say!("{}", found.difference.what);
+    say!("shortening ..");
     let (calls, difference) =
         shrink(&first, &second, &found.run.calls, &found.difference, Duration::from_secs(o.shrink));
-    println!("the shortest run found has {} calls:", calls.len());
-    print!("{}", show_run(&first, &calls, &difference));
+    say!("the shortest run found has {} calls:", calls.len());
+    say!("{}", show_run(&first, &calls, &difference));
     ExitCode::FAILURE
 }

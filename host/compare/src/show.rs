@@ -20,6 +20,20 @@ fn address(n: u32) -> String {
     Ipv4Addr::from(n).to_string()
 }
 
+/// Prints a line; ends the program quietly where nobody reads any more.
+pub fn print_line(line: std::fmt::Arguments<'_>) {
+    use std::io::Write;
+    if writeln!(std::io::stdout(), "{line}").is_err() {
+        std::process::exit(1);
+    }
+}
+
+/// `println!`, but for a reader that went away.
+#[macro_export]
+macro_rules! say {
+    ($($text:tt)*) => { $crate::print_line(format_args!($($text)*)) };
+}
+
 /// A number with its thousands set apart.
 pub fn grouped(n: u64) -> String {
     let digits = n.to_string();

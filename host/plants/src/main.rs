@@ -8,7 +8,7 @@ mod copies {
     include!(concat!(env!("OUT_DIR"), "/copies.rs"));
 }
 
-use compare::{Runner, Side, ciplink, grouped, show_run, shrink};
+use compare::{Runner, Side, ciplink, grouped, say, show_run, shrink};
 use list::Plant;
 use std::process::ExitCode;
 use std::time::{Duration, Instant};
@@ -101,10 +101,10 @@ fn try_one(plant: &Plant, second: fn() -> Box<dyn Side>, o: &Options) -> bool {
                 let (calls, difference) = shrink(&first, &second, &found.run.calls, &found.difference, most);
                 shorter = format!(", {} calls when shortened", calls.len());
                 if o.show {
-                    print!("{}", show_run(&first, &calls, &difference));
+                    say!("{}", show_run(&first, &calls, &difference));
                 }
             }
-            println!(
+            say!(
                 "noticed {:28} after {:>9} calls ({}){shorter}: {}",
                 plant.name,
                 grouped(runner.calls),
@@ -115,14 +115,14 @@ fn try_one(plant: &Plant, second: fn() -> Box<dyn Side>, o: &Options) -> bool {
         }
         number += 1;
     }
-    println!("NOT NOTICED {} in {} calls: {}", plant.name, grouped(runner.calls), plant.says);
+    say!("NOT NOTICED {} in {} calls: {}", plant.name, grouped(runner.calls), plant.says);
     false
 }
 
 fn main() -> ExitCode {
     let args: Vec<String> = std::env::args().skip(1).collect();
     if args.iter().any(|a| a == "--help" || a == "-h") {
-        print!("{USAGE}");
+        say!("{USAGE}");
         return ExitCode::SUCCESS;
     }
     let picked = options(args.into_iter()).and_then(|o| other_side(&o.against).map(|s| (o, s)));
@@ -136,7 +136,7 @@ fn main() -> ExitCode {
     let plants = list::read(include_str!("../list.txt")).expect("read when this was built");
     if o.list {
         for p in &plants {
-            println!("{}: {} ({}: {:?} -> {:?})", p.name, p.says, p.file, p.old, p.new);
+            say!("{}: {} ({}: {:?} -> {:?})", p.name, p.says, p.file, p.old, p.new);
         }
         return ExitCode::SUCCESS;
     }
@@ -145,7 +145,7 @@ fn main() -> ExitCode {
     let start = Instant::now();
     let picked: Vec<&Plant> = plants.iter().filter(|p| o.names.is_empty() || o.names.contains(&p.name)).collect();
     let noticed = picked.iter().filter(|p| try_one(p, second, &o)).count();
-    println!(
+    say!(
         "plants: {noticed} of {} wrong readings noticed against {}, {:.1} s",
         picked.len(),
         o.against,

@@ -264,3 +264,19 @@ fn lent_state_of_the_wrong_size_is_answered_with_1_and_stays() {
         assert!(state == before && out == [0xA5; 600]);
     }
 }
+
+#[test]
+fn a_session_of_another_adapter_is_refused_where_its_upload_cannot_be() {
+    let with = |eds: Option<Vec<u8>>| Adapter::new(&Setup { eds, ..setup() }, 1).expect("within the sizes");
+    let (long, short, none) = (with(Some(vec![9; 1_000])), with(Some(vec![9; 3])), with(None));
+    let mut session = Session::new(Ipv4Addr::LOCALHOST, Ipv4Addr::new(255, 0, 0, 0));
+    let file = |service: u8, data: u8| [service, 2, 0x20, 0x37, 0x24, 0xC8, data];
+    for message in [file(0x4B, 240), file(0x4F, 0), file(0x4F, 1)] {
+        assert_eq!(long.message(&mut session, &message).expect("room")[2], 0);
+    }
+    let before = session.clone();
+    assert_eq!(short.message(&mut session, &file(0x4F, 2)), Err(No::State));
+    assert_eq!(none.message(&mut session, &file(0x4F, 2)), Err(No::State));
+    assert_eq!(session, before);
+    assert_eq!(long.message(&mut session, &file(0x4F, 2)).expect("room")[4..6], [2, 1]);
+}
