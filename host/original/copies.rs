@@ -99,6 +99,7 @@ pub fn write(copies: &[Copy], timing: bool) {
         ("state.rs", read(&source.join("state.rs")), read(&ours.join("probe_state.rs"))),
         ("objects.rs", read(&source.join("objects.rs")), read(&ours.join("probe_objects.rs"))),
         ("wire.rs", read(&source.join("wire.rs")), String::new()),
+        ("forms.rs", read(&ours.join("forms.rs")), String::new()),
         ("side.rs", read(&ours.join("side.rs")), String::new()),
         ("raw.rs", read(&ours.join("raw.rs")), String::new()),
         ("mod.rs", declarations, String::new()),

@@ -3,6 +3,7 @@
 //! behind its end that read what is private to it.
 #![allow(dead_code, unused_imports, unused_variables, clippy::all)]
 
+mod forms;
 mod objects;
 mod side;
 mod state;

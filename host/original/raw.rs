@@ -1,6 +1,6 @@
 //! ciplink's calls as they are, for timing: nothing is turned into the C interface's numbers and bytes.
 
-use super::side::config;
+use super::forms::config;
 use super::state::{Origin, State};
 use super::wire::{self, ForwardOpen};
 use std::net::{Ipv4Addr, SocketAddrV4};

@@ -110,7 +110,7 @@ fn main() -> ExitCode {
         let (calls_end, single) = (o.calls, o.run.is_some());
         let (runs, so_far) = (runner.runs, start);
         let mut go_on = |calls: u64| {
-            if calls % 4096 == 0 && told.elapsed() > Duration::from_secs(2) {
+            if calls.is_multiple_of(4096) && told.elapsed() > Duration::from_secs(2) {
                 told = Instant::now();
                 let spent = so_far.elapsed().as_secs_f64();
                 say!(

@@ -80,6 +80,7 @@
 
 mod adapter;
 mod answer;
+mod opening;
 mod records;
 mod routing;
 mod setup;
@@ -87,8 +88,9 @@ mod setup;
 pub mod sys;
 mod words;
 
-pub use adapter::{Adapter, MAX_PACKETS, Opened, Origin, Service, Session, open_refusal};
+pub use adapter::{Adapter, MAX_PACKETS, Session};
 pub use answer::{No, OpenError, Refusal};
+pub use opening::{Opened, Origin, Service, open_refusal};
 pub use records::{Connection, ConnectionKind, Event, OtId, Output, Packet, Packets, Stats, ToId};
 pub use routing::{ConnectionPath, Key, Request, read_path, read_request};
 pub use setup::{Assembly, AssemblyKind, BLOCK_SIZE, Setup, SetupError};

@@ -41,7 +41,7 @@ fn used_state(serials: u8) -> Vec<u8> {
 
 fn open(serial: u8) -> Vec<u8> {
     let (point, size) = if serial == 0 { (150, 8) } else { (238, 2) };
-    let net = if serial % 2 == 0 { 0x40 } else { 0x20 };
+    let net = if serial.is_multiple_of(2) { 0x40 } else { 0x20 };
     let mut out = vec![0x0A, 0x0E, 0, 0, 0, 0, 0x11, 0x22, 0x33, 0x44, serial, 0, 2, 0, 3, 0, 0, 0, 0, 0, 0, 0];
     out.extend([0x10, 0x27, 0, 0, size, 0x40, 0x10, 0x27, 0, 0, 6, net, 0x01, 3, 0x20, 4, 0x2C, point, 0x2C, 100]);
     out

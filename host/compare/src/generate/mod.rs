@@ -2,6 +2,7 @@
 //! connection's due and timeout and one to each side, sequences at the wrap, T→O ids that collide, full tables,
 //! events unread for thousands of calls, damaged copies of good bytes).
 
+mod drafts;
 mod frames;
 mod messages;
 mod opens;
