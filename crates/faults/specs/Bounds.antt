@@ -1,13 +1,13 @@
 -- A refused call leaves the whole state equal; the table never holds more than 32 connections, nor the event list more than 1,024 events;
 -- the removal of a point-to-point connection changes no other connection.
-use mathlib.Core.Path.{_≡_, refl, sym, _∙_, ap, subst}
-use mathlib.Core.List.{List, [], _∷_, _++_, map}
+use mathlib.Core.Path.{_≡_, refl}
+use mathlib.Core.List.{List, [], _∷_}
 use mathlib.Core.Option.{Option, none, some}
-use mathlib.Core.Bool.{Bool, true, false, cond, not, _&&_, _||_}
-use Prim.Native.Nat.{ℕ, zero, suc, _+_, _-_, _%_, _≤_, _<_}
+use mathlib.Core.Bool.{Bool, true, false}
+use Prim.Native.Nat.{ℕ, zero, suc, _-_, _≤_, _<_}
 use native.Mathlib.Omega.{arith}
 use lib.Dec.{ltb}
-use lib.ListN.{length, drop, length-append, length-drop, length-map}
+use lib.ListN.{length, length-append, length-drop, length-map}
 use borrow.Author.Tests.{ltb-true, ltb-false}
 use Rattle.wire_items.specs.Frames.{ioOf}
 use Rattle.wire_opens.specs.Requests.{closeOf}
@@ -17,7 +17,7 @@ use Rattle.rules.specs.declared.Verdict.the-variants.{Stopped, Planned}
 use Rattle.rules.specs.declared.Event.the-variants.{Closed, TimedOut}
 use Rattle.rules.specs.Lists.{find, withoutFirst, maybe, repeat}
 use Rattle.rules.specs.ListLaws
-use Rattle.rules.specs.ListLaws.{by-cases, clash, either-way}
+use Rattle.rules.specs.ListLaws.{by-cases, either-way}
 use Rattle.rules.specs.State.{Setup, Events, State, fixeds, isInput, isOutput}
 use Rattle.rules.specs.Answers.{Answer, isYes, settled}
 use Rattle.rules.specs.Setup.{fresh}

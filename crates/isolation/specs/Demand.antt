@@ -2,34 +2,34 @@
 -- address are altered, added or dropped at will. If every expiry call removes the same connections in both runs, then all connections of
 -- other addresses are equal in every field, and so are the answers to opens and closes, the packets produced, and every assembly which
 -- that address never owned.
-use mathlib.Core.Path.{_≡_, refl, sym, _∙_, ap, ap₂, subst}
+use mathlib.Core.Path.{_≡_, refl, sym, _∙_, ap, subst}
 use mathlib.Core.List.{List, [], _∷_, map}
 use mathlib.Core.Option.{Option, none, some}
-use mathlib.Core.Bool.{Bool, true, false, cond, not, _&&_, _||_}
+use mathlib.Core.Bool.{Bool, true, false, not, _&&_}
 use Prim.Native.Nat.{ℕ}
 use lib.Dec.{eqb}
-use lib.ListN.{length, getD}
+use lib.ListN.{getD}
 use borrow.Author.Tests.{eq-eqb}
-use Rattle.rules.specs.Lists.{find, any, keep, maybe, joined}
+use Rattle.rules.specs.Lists.{any, keep, maybe, joined}
 use Rattle.rules.specs.ListLaws
-use Rattle.rules.specs.ListLaws.{by-cases, clash, either-way, All, and-left, and-right, eqb-true}
-use Rattle.rules.specs.State.{Setup, shapeAt, Content, noContent, State, fixeds, isInput, isOutput, isOwner}
+use Rattle.rules.specs.ListLaws.{by-cases, clash, either-way, All}
+use Rattle.rules.specs.State.{Setup, shapeAt, Content, noContent, State, isOutput, isOwner}
 use Rattle.rules.specs.Answers.{Answer, isYes, settled, fitting, Wrote, timely}
 use Rattle.rules.specs.Setup.{fresh}
 use Rattle.rules.specs.Events.{infoOf, infoRecord}
 use Rattle.rules.specs.Checks.{owns, placeOf}
-use Rattle.rules.specs.Opening.{openAnswer, openEffect, openCall}
-use Rattle.rules.specs.Removal.{closeAnswer, closeEffect, closeCall, expireAnswer, expireEffect, expireCall}
-use Rattle.rules.specs.Receiving.{receiveAnswer, receiveEffect, receiveCall}
-use Rattle.rules.specs.Producing.{produceAnswer, produceEffect, produceCall}
-use Rattle.rules.specs.Host.{read, outputBytes, outputAt, statsBytes, setInputAnswer, setInputEffect, setInputCall, outputRead, outputAnswer, outputEffect, outputCall, nextEventAnswer, nextEventEffect, nextEventCall, connectionBytes, connectionsAnswer, statsAnswer}
+use Rattle.rules.specs.Opening.{openCall}
+use Rattle.rules.specs.Removal.{closeCall, expireAnswer, expireCall}
+use Rattle.rules.specs.Receiving.{receiveAnswer, receiveCall}
+use Rattle.rules.specs.Producing.{produceCall}
+use Rattle.rules.specs.Host.{read, outputBytes, outputAt, statsBytes, setInputCall, outputRead, outputAnswer, outputEffect, outputCall, nextEventAnswer, nextEventCall, connectionBytes, connectionsAnswer, statsAnswer}
 use Rattle.rules.specs.Calls
 use Rattle.rules.specs.Calls.{Call, answer, next, run}
-use Rattle.isolation.specs.Names.{Triad, Fixed, Conn}
-use Rattle.isolation.specs.Contents.{cover, change-alike, change-unseen, content-alike}
+use Rattle.isolation.specs.Names.{Triad, Conn}
+use Rattle.isolation.specs.Contents.{change-alike, change-unseen, content-alike}
 use Rattle.isolation.specs.Survive.{in-table}
 use Rattle.isolation.specs.Seen
-use Rattle.isolation.specs.Seen.{Alike, Covers, Sparing, Feeding, stray, hide, hide-bare, itself, join, back, settled-alike, settled-unseen, map-map}
+use Rattle.isolation.specs.Seen.{Alike, Covers, Sparing, Feeding, stray, hide, hide-bare, itself, join, back, settled-alike, settled-unseen}
 use Rattle.isolation.specs.Expiry.{expire-alike, expire-says-alike}
 use Rattle.isolation.specs.Sound.{Sound, sound, fresh-sound, Owning}
 

@@ -1,10 +1,10 @@
 -- Demand 3 on examples: the premise is met in the subtle case, and without it the conclusion fails.
 use mathlib.Core.Path.{_≡_, refl, sym, _∙_, ap, ap₂}
 use mathlib.Core.List.{List, [], _∷_, _++_, map}
-use mathlib.Core.Option.{Option, none, some}
-use mathlib.Core.Bool.{Bool, true, false, not, _&&_}
-use Prim.Native.Nat.{ℕ, _+_, _*_, _/_, _^_}
-use lib.ListN.{length, getD, set}
+use mathlib.Core.Option.{some}
+use mathlib.Core.Bool.{true, not, _&&_}
+use Prim.Native.Nat.{ℕ, _+_}
+use lib.ListN.{length, getD}
 use Rattle.cells.specs.Numbers.{le, leOf, bytesLe}
 use Rattle.cells.specs.BigEndian.{bytesBe}
 use Rattle.wire_items.specs.Items.{startOf, stepAt, itemsFrom, itemsOf}
@@ -15,8 +15,7 @@ use Rattle.wire_paths.specs.ConnectionPath.{gather, last, connectionPath, pathO
 use Rattle.wire_paths.specs.ConnectionPath
 use Rattle.wire_opens.specs.Params.{paramsAt}
 use Rattle.wire_opens.specs.Requests.{triadAt, wayAt, placeAt, fieldsOf, openWith, widthOf, openOf, closeOf}
-use Rattle.rules.specs.Answers
-use Rattle.rules.specs.Answers.{Answer, Done, Wrote, Gone, Refused, Failed, NoRoom, NothingThere, answerNumber}
+use Rattle.rules.specs.Answers.{answerNumber}
 use Rattle.rules.specs.Setup.{setupOk, fresh}
 use Rattle.rules.specs.Events.{infoOf, infoRecord, eventRecord, oldestGone, appended, pushed, pushedAll}
 use Rattle.rules.specs.Replies.{openReply, refusalReply, closeReply}
@@ -26,14 +25,14 @@ use Rattle.rules.specs.Removal.{removed, closed, closeAnswer, closeEffect, clos
 use Rattle.rules.specs.Receiving.{newer, recorded, hear, taken, changes, deliver, received, receiveAnswer, receiveEffect, receiveCall}
 use Rattle.rules.specs.Producing.{sent, frameOf, packet, packets, counters, produceAnswer, produceEffect, produceCall}
 use Rattle.rules.specs.Host.{setInputAnswer, setInputEffect, setInputCall, outputAnswer, outputEffect, outputCall, nextEventAnswer, nextEventEffect, nextEventCall}
-use Rattle.rules.specs.Calls.{Call, answer, next, run}
+use Rattle.rules.specs.Calls.{Call, next, run}
 use Rattle.rules.specs.Lists.{any, keep}
 use Rattle.rules.specs.ListLaws.{any-map}
 use Rattle.rules.specs.Examples.{setup, start, ask, from, points, ending}
 use Rattle.rules.specs.State.{State, triadIs}
 use Rattle.isolation.specs.Names.{Triad, Conn}
 use Rattle.isolation.specs.Survive.{triad-of, in-table}
-use Rattle.isolation.specs.Demand.{removes, Paired, end, both, first-only, second-only, Same-expiries, other, Independent, demand-3}
+use Rattle.isolation.specs.Demand.{removes, Paired, end, both, second-only, Same-expiries, other, Independent, demand-3}
 
 -- an open of serial number n at a point, multicast, with an O→T RPI that decides the timeout
 abbrev opening : ℕ → ℕ → ℕ → ℕ → Call

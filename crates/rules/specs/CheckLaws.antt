@@ -1,17 +1,17 @@
 -- What an open that is accepted has passed, and what its plan names.
-use mathlib.Core.Path.{_≡_, refl, sym, _∙_, ap}
+use mathlib.Core.Path.{_≡_, refl, sym, _∙_}
 use mathlib.Core.List.{List, [], _∷_}
 use mathlib.Core.Option.{Option, none, some}
-use mathlib.Core.Bool.{Bool, true, false, cond, not, _&&_, _||_}
-use Prim.Native.Nat.{ℕ, zero, suc}
+use mathlib.Core.Bool.{Bool, true, false, not, _||_}
+use Prim.Native.Nat.{ℕ, suc}
 use lib.Dec.{eqb}
-use lib.ListN.{length, getD}
+use lib.ListN.{getD}
 use Rattle.wire_opens.specs.declared.ForwardOpen.{ForwardOpen}
 use Rattle.wire_paths.specs.declared.ConnectionPath.{ConnectionPath}
 use Rattle.wire_paths.specs.declared.PathAnswer.{PathAnswer}
 use Rattle.rules.specs.Lists.{place, any, maybe, isSome}
-use Rattle.rules.specs.ListLaws.{by-cases, clash, and-left, and-right, All}
-use Rattle.rules.specs.State.{AssemblyKind, isInput, isOutput, isConfig, Kind, isOwner, isListener, Fixed, Identity, Shape, noShape, Setup, shapeAt, Stop, Stream, Plan, Verdict, Stopped, Planned}
+use Rattle.rules.specs.ListLaws.{by-cases, clash, and-left, All}
+use Rattle.rules.specs.State.{AssemblyKind, isInput, isOutput, isOwner, Fixed, noShape, Setup, shapeAt, Stop, Plan, Stopped, Planned}
 use Rattle.rules.specs.Checks
 
 pub must-none : (b : Bool) (s : Stop) → Checks.must b s ≡ none → b ≡ true

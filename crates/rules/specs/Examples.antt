@@ -1,9 +1,9 @@
 -- The definition computes. First document 01's fixed examples; then one short day: a controller (address 8) owns output 150 and starts
 -- a multicast stream of input 101, a display (address 7) listens, a frame brings data and run, packets leave, the controller falls
 -- silent, and expiry takes both; then what earlier versions got wrong; then each check's refusal, and which of two comes first.
-use mathlib.Core.Path.{_≡_, refl}
+use mathlib.Core.Path.{refl}
 use mathlib.Core.List.{List, [], _∷_, _++_, map}
-use mathlib.Core.Option.{Option, none, some}
+use mathlib.Core.Option.{none, some}
 use mathlib.Core.Bool.{Bool, true, false}
 use Prim.Native.Nat.{ℕ, _+_, _*_, _/_, _^_}
 use lib.ListN.{length, getD, set, replicate}
@@ -19,13 +19,13 @@ use Rattle.wire_opens.specs.Examples.{Example, _is_, Hold, address}
 use Rattle.wire_opens.specs.Params.{smallParams, paramsAt}
 use Rattle.wire_opens.specs.Timeout.{timeoutOf}
 use Rattle.wire_opens.specs.Group.{groupOfHost}
-use Rattle.wire_opens.specs.declared.NetType.the-variants.{Null, Multicast, PointToPoint, Reserved}
+use Rattle.wire_opens.specs.declared.NetType.the-variants.{Null, Multicast}
 use Rattle.wire_paths.specs.declared.Seg.the-variants.{Class, Instance, Point}
 use Rattle.wire_opens.specs.Requests.{triadAt, wayAt, placeAt, fieldsOf, openWith, widthOf, openOf, closeOf}
 use Rattle.rules.specs.State
-use Rattle.rules.specs.State.{Input, Output, Config, Kind, Due, Never, At, Conn, Shape, Setup, Content, State, Origin, Fixed, Events, Event, OutputChanged}
+use Rattle.rules.specs.State.{Input, Output, Config, Due, Never, At, Conn, Setup, Content, State, Origin, Fixed, Events, OutputChanged}
 use Rattle.rules.specs.Answers
-use Rattle.rules.specs.Answers.{Answer, Done, Wrote, Gone, Refused, Failed, NoRoom, NothingThere, answerNumber}
+use Rattle.rules.specs.Answers.{Answer, Wrote, Gone, Refused, Failed, NoRoom, NothingThere, answerNumber}
 use Rattle.rules.specs.Setup.{setupOk, fresh}
 use Rattle.rules.specs.Events.{infoOf, infoRecord, eventRecord, oldestGone, appended, pushed, pushedAll}
 use Rattle.rules.specs.Replies.{openReply, refusalReply, closeReply}
@@ -35,7 +35,7 @@ use Rattle.rules.specs.Removal.{removed, closed, closeAnswer, closeEffec
 use Rattle.rules.specs.Receiving.{newer, recorded, hear, taken, changes, deliver, received, receiveAnswer, receiveEffect, receiveCall}
 use Rattle.rules.specs.Producing.{sent, frameOf, packet, packets, counters, produceAnswer, produceEffect, produceCall}
 use Rattle.rules.specs.Host.{setInputAnswer, setInputEffect, setInputCall, outputAnswer, outputEffect, outputCall, nextEventAnswer, nextEventEffect, nextEventCall}
-use Rattle.rules.specs.Calls.{Call, answer, next, run}
+use Rattle.rules.specs.Calls.{Call, run}
 
 -- ---- document 01's fixed examples
 
