@@ -12,7 +12,7 @@ use lib.ListN.{getD}
 use borrow.Author.Tests.{eq-eqb}
 use Rattle.rules.specs.Lists.{any, keep, maybe, joined}
 use Rattle.rules.specs.ListLaws
-use Rattle.rules.specs.ListLaws.{by-cases, clash, either-way, All}
+use Rattle.rules.specs.ListLaws.{by-cases, clash, either-way, All, and-left, and-right, eqb-true}
 use Rattle.rules.specs.State.{Setup, shapeAt, Content, noContent, State, isOutput, isOwner}
 use Rattle.rules.specs.Answers.{Answer, isYes, settled, fitting, Wrote, timely}
 use Rattle.rules.specs.Setup.{fresh}
@@ -284,3 +284,23 @@ from-sound A u s h {cs} {ds} p e =
 -- DEMAND 3
 pub demand-3 : (A : ℕ) (u : Setup) (seed : ℕ) {cs ds : List Call} (p : Paired A cs ds) → Same-expiries p (fresh u seed) (fresh u seed) → Independent p (fresh u seed)
 demand-3 A u seed p e = from-sound A u (fresh u seed) (fresh-sound u seed) p e
+
+-- an assembly that is no output is never owned: inputs and configuration are equal in both runs
+no-owner : (u : Setup) (A i : ℕ) → isOutput (shapeAt u i .kind) ≡ false → (c : Conn) → Owning u c → owned-by A i c ≡ false
+no-owner u A i n c w =
+    by-cases (owns i (c .fixed))
+    (λ y. let o = w (and-left (isOwner (c .fixed .kind)) (eqb (c .fixed .output) i) y) in
+    let k = eqb-true (c .fixed .output) i (and-right (isOwner (c .fixed .kind)) (eqb (c .fixed .output) i) y) in
+    clash (isOutput (shapeAt u (c .fixed .output) .kind)) o (ap (λ j. isOutput (shapeAt u j .kind)) k ∙ n))
+    (λ y. by-cases (eqb (c .fixed .originator) A) (λ z. cc) (λ z. cc))
+
+no-owners : (u : Setup) (A i : ℕ) → isOutput (shapeAt u i .kind) ≡ false → (l : List Conn) → All (Owning u) l → any (owned-by A i) l ≡ false
+no-owners u A i n l w = ListLaws.none-is (owned-by A i) l (ListLaws.all-to (Owning u) (λ c. owned-by A i c ≡ false) (no-owner u A i n) l w)
+
+never-owned : (u : Setup) (A i : ℕ) → isOutput (shapeAt u i .kind) ≡ false → (cs : List Call) (s : State) → Sound u s → Never-owned A i cs s
+never-owned u A i n [] s h = no-owners u A i n (s .table) (h .outputs)
+never-owned u A i n (c ∷ cs) s h = (no-owners u A i n (s .table) (h .outputs), never-owned u A i n cs (next c s) (sound u c s h))
+
+pub inputs-equal : (A : ℕ) (u : Setup) (seed : ℕ) {cs ds : List Call} (p : Paired A cs ds) → Same-expiries p (fresh u seed) (fresh u seed) →
+    (i : ℕ) → isOutput (shapeAt u i .kind) ≡ false → getD (run cs (fresh u seed) .contents) i noContent ≡ getD (run ds (fresh u seed) .contents) i noContent
+inputs-equal A u seed {cs} p e i n = (demand-3 A u seed p e) .assemblies i (never-owned u A i n cs (fresh u seed) (fresh-sound u seed))
