@@ -15,3 +15,11 @@ pub mod Examples
 pub mod ListLaws
 pub mod CheckLaws
 pub mod ExpiryLaws
+pub mod Attributes
+pub mod Upload
+pub mod Objects
+pub mod Message
+pub mod UploadLaws
+pub mod UploadMessages
+pub mod ReplyLaws
+pub mod ObjectExamples

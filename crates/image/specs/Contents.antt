@@ -1,0 +1,105 @@
+-- What assemblies hold, as marks and slots: what is written is read back, what was read is written again.
+use Prim.Native.Nat.{ℕ, zero, suc, _+_, _-_, _*_, _/_, _%_, _≤_, _<_}
+use mathlib.Core.List.{List, [], _∷_, _++_, map}
+use mathlib.Core.Path.{_≡_, refl, ap, ap₂, _∙_}
+use native.Mathlib.Omega.{arith}
+use lib.ListN.{length, getD, take, drop, length-append, length-drop, take-append-drop, replicate, length-replicate}
+use lib.Seq.{length-take-le, take-at, drop-at}
+use Rattle.cells.specs.Records.{toBool, ofBool, to-of}
+use Rattle.cells.specs.Back.{of-to}
+use Rattle.tables.specs.Slots.{storeSlots, fill-own, length-fill}
+use Rattle.rules.specs.State.{Shape, Content, noShape, noContent}
+use Rattle.layout.specs.RowLaws.{bit-small}
+use Rattle.image.specs.Image.{runIn, notifiedIn, contentsOf, record32, markOf, bytesOf}
+use Rattle.image.specs.Fits.{Records32, none, one}
+
+-- ---- marks are numbers
+
+pub run-of-mark : (c : Content) → runIn (markOf c) ≡ c .run
+run-of-mark c = let a = bit-small (c .run) in let e : markOf c % 2 ≡ ofBool (c .run) = omega arith in ap toBool e ∙ to-of (c .run)
+
+pub notified-of-mark : (c : Content) → notifiedIn (markOf c) ≡ c .notified
+notified-of-mark c =
+    let a = bit-small (c .run) in let b = bit-small (c .notified) in
+    let e : markOf c / 2 % 2 ≡ ofBool (c .notified) = omega arith in ap toBool e ∙ to-of (c .notified)
+
+pub of-to-mark : (n : ℕ) → n ≤ 3 → ofBool (runIn n) + 2 * ofBool (notifiedIn n) ≡ n
+of-to-mark n h =
+    let a : ofBool (runIn n) ≡ n % 2 = of-to (n % 2) (omega arith) in
+    let b : ofBool (notifiedIn n) ≡ n / 2 % 2 = of-to (n / 2 % 2) (omega arith) in
+    (λ i. a i + 2 * b i) ∙ omega arith
+
+pub mark-small : (c : Content) → markOf c ≤ 3
+mark-small c = let a = bit-small (c .run) in let b = bit-small (c .notified) in omega arith
+
+-- ---- lists of contents
+
+pub length-contentsOf : (ss : List Shape) (m d : List ℕ) → length (contentsOf ss m d) ≡ length ss
+unfolding contentsOf
+length-contentsOf [] m d = refl
+length-contentsOf (a ∷ ss) m d = ap suc (length-contentsOf ss (drop 1 m) (drop 512 d))
+
+-- the marks of what was read are those that were read
+pub marks-back : (ss : List Shape) (m d : List ℕ) → ((i : ℕ) → i < length ss → getD m i 0 ≤ 3) → length ss ≤ length m
+    → map markOf (contentsOf ss m d) ≡ take (length ss) m
+unfolding contentsOf
+marks-back [] m d h g = refl
+marks-back (a ∷ ss) [] d h g = absurd (omega arith)
+marks-back (a ∷ ss) (x ∷ m) d h g =
+    ap₂ _∷_ (of-to-mark x (h 0 (omega arith))) (marks-back ss m (drop 512 d) (λ i p. h (suc i) (omega arith)) (omega arith))
+
+pub data-back : (ss : List Shape) (m d : List ℕ) → storeSlots (map bytesOf (contentsOf ss m d)) d ≡ d
+unfolding contentsOf storeSlots
+data-back [] m d = refl
+data-back (a ∷ ss) m d = ap₂ _++_ (fill-own (a .size) (take 512 d)) (data-back ss (drop 1 m) (drop 512 d)) ∙ take-append-drop 512 d
+
+-- each is as long as its shape says
+pub sized-back : (ss : List Shape) (m d : List ℕ) → ((i : ℕ) → getD ss i noShape .size ≤ 512) → length ss * 512 ≤ length d
+    → (i : ℕ) → length (getD (contentsOf ss m d) i noContent .bytes) ≡ getD ss i noShape .size
+unfolding contentsOf
+sized-back [] m d h g i = refl
+sized-back (a ∷ ss) m d h g zero =
+    let k = h 0 in let e : length (take 512 d) ≡ 512 = length-take-le 512 d (omega arith) in length-take-le (a .size) (take 512 d) (omega arith)
+sized-back (a ∷ ss) m d h g (suc i) =
+    let e : length (drop 512 d) ≡ length d - 512 = length-drop 512 d in
+    sized-back ss (drop 1 m) (drop 512 d) (λ j. h (suc j)) (omega arith) i
+
+-- what was written is read back
+pub contents-back : (ss : List Shape) (cs : List Content) (m d : List ℕ) → length cs ≡ length ss
+    → ((i : ℕ) → length (getD cs i noContent .bytes) ≡ getD ss i noShape .size) → ((i : ℕ) → getD ss i noShape .size ≤ 512)
+    → length ss * 512 ≤ length d
+    → contentsOf ss (map markOf cs ++ m) (storeSlots (map bytesOf cs) d) ≡ cs
+unfolding contentsOf storeSlots
+contents-back [] [] m d e z h g = refl
+contents-back [] (c ∷ cs) m d e z h g = absurd (omega arith)
+contents-back (a ∷ ss) [] m d e z h g = absurd (omega arith)
+contents-back (a ∷ ss) (c ∷ cs) m d e z h g =
+    let x : List ℕ = c .bytes in
+    let s : List ℕ = drop (length x) (take 512 d) in
+    let rest : List ℕ = storeSlots (map bytesOf cs) (drop 512 d) in
+    let k = h 0 in
+    let z0 : length x ≡ a .size = z 0 in
+    let t : length (take 512 d) ≡ 512 = length-take-le 512 d (omega arith) in
+    let n : length (x ++ s) ≡ 512 = length-fill x (take 512 d) (omega arith) ∙ t in
+    let b : take (a .size) (take 512 ((x ++ s) ++ rest)) ≡ x =
+    ap (take (a .size)) (take-at (x ++ s) rest 512 n) ∙ take-at x s (a .size) z0 in
+    let l′ : length (drop 512 d) ≡ length d - 512 = length-drop 512 d in
+    ap₂ _∷_ (λ i. record { bytes = b i; run = run-of-mark c i; notified = notified-of-mark c i })
+    (ap (contentsOf ss (map markOf cs ++ m)) (drop-at (x ++ s) rest 512 n)
+    ∙ contents-back ss cs m (drop 512 d) (omega arith) (λ i. z (suc i)) (λ i. h (suc i)) (omega arith))
+
+-- ---- records of 32 bytes
+
+pub length-record32 : (e : List ℕ) → length (record32 e) ≡ 32
+unfolding record32
+length-record32 e =
+    let n = length-replicate {A = ℕ} 32 0 in
+    length-take-le 32 (e ++ replicate 32 0) (let a = length-append e (replicate 32 0) in omega arith)
+
+pub record32-own : (e : List ℕ) → length e ≡ 32 → record32 e ≡ e
+unfolding record32
+record32-own e h = take-at e (replicate 32 0) 32 h
+
+pub records-back : (es : List (List ℕ)) → Records32 es → map (λ e. record32 e) es ≡ es
+records-back [] none = refl
+records-back (e ∷ es) (one h r) = ap₂ _∷_ (record32-own e h) (records-back es r)

@@ -1,0 +1,15 @@
+pub mod Image
+pub mod Fits
+pub mod Contents
+pub mod StoreLaws
+pub mod ViewLaws
+pub mod TestLaws
+pub mod Passes
+pub mod Updates
+pub mod Writes
+pub mod Taken
+pub mod Holds
+pub mod Kept
+pub mod Changes
+pub mod Lift
+pub mod Searches

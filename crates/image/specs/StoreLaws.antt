@@ -1,0 +1,183 @@
+-- A stored state: the sizes of its regions, its regions, and its numbers.
+use Prim.Native.Nat.{ℕ, _+_, _*_, _-_, _≤_}
+use mathlib.Core.List.{List, [], _++_, append-assoc, map}
+use mathlib.Core.Path.{_≡_, ap, ap₂, sym, _∙_}
+use native.Mathlib.Omega.{arith}
+use lib.Dec.{T}
+use lib.ListN.{length, getD, take, drop, length-append, length-drop, length-map, List·getD-map}
+use lib.Seq.{length-take-le}
+use borrow.Rule.Slice.PartMut.{midOf}
+use Rattle.cells.specs.Numbers.{le}
+use Rattle.cells.specs.Records.{encFields, decFields, ofBool, sum, Laid, dec-enc, length-encFields}
+use Rattle.tables.specs.Store.{length-storeRows}
+use Rattle.tables.specs.Ring.{length-ring}
+use Rattle.tables.specs.Slots.{Short, length-storeSlots, length-fill}
+use Rattle.tables.specs.Regions.{joined, Sized, none, one, start, length-joined, region-at}
+use Rattle.rules.specs.State.{Setup, State, noContent, shapeAt, contentAt}
+use Rattle.layout.specs.Places.{widths, setupIn, headIn, wHead, marksIn, tableIn, ringIn, dataIn, edsIn}
+use Rattle.layout.specs.Setups.{setupOf, setupFrom}
+use Rattle.layout.specs.Rows.{encConn}
+use Rattle.layout.specs.RowLaws.{length-encConn}
+use Rattle.image.specs.Image.{listHead, markOf, bytesOf, record32, headOf, marksOf, tableOf, eventsOf, dataOf, regionsOf, store}
+use Rattle.image.specs.Fits.{Suits, few-assemblies, length-assemblies, size-short}
+
+-- a region of a buffer that is long enough
+pub mid-long : (a k : ℕ) (l : List ℕ) → a + k ≤ length l → length (midOf a k l) ≡ k
+mid-long a k l h = length-take-le k (drop a l) (rw length-drop (omega arith))
+
+-- the regions of a buffer of the whole size
+module _ (l : List ℕ) (long : length l ≡ 109056) where
+  pub length-setupIn : length (setupIn l) ≡ 192
+  length-setupIn = mid-long 0 192 l (omega arith)
+
+  pub length-headIn : length (headIn l) ≡ 48
+  length-headIn = mid-long 192 48 l (omega arith)
+
+  pub length-marksIn : length (marksIn l) ≡ 16
+  length-marksIn = mid-long 240 16 l (omega arith)
+
+  pub length-tableIn : length (tableIn l) ≡ 2304
+  length-tableIn = mid-long 256 2304 l (omega arith)
+
+  pub length-ringIn : length (ringIn l) ≡ 32768
+  length-ringIn = mid-long 2560 32768 l (omega arith)
+
+  pub length-dataIn : length (dataIn l) ≡ 8192
+  length-dataIn = mid-long 35328 8192 l (omega arith)
+
+  pub length-edsIn : length (edsIn l) ≡ 65536
+  length-edsIn = mid-long 43520 65536 l (omega arith)
+
+-- any numbers in the head
+pub length-head : (vs l : List ℕ) → length l ≡ 109056 → T (Laid wHead vs) → length (encFields wHead vs ++ drop 36 (headIn l)) ≡ 48
+unfolding sum
+length-head vs l long t =
+    let a = length-headIn l long in
+    let b : length (drop 36 (headIn l)) ≡ 12 = length-drop 36 (headIn l) ∙ omega arith in
+    let c : length (encFields wHead vs) ≡ 36 = length-encFields wHead vs t in
+    length-append (encFields wHead vs) (drop 36 (headIn l)) ∙ omega arith
+
+-- a slot of a region
+pub slot-long : (r : List ℕ) (i size : ℕ) → i * size + size ≤ length r → length (take size (drop (i * size) r)) ≡ size
+slot-long r i size h = length-take-le size (drop (i * size) r) (rw (length-drop (i * size) r) (omega arith))
+
+module _ (st : State) (l : List ℕ) (w : Suits st l) where
+  -- at most 16 assemblies, each in its slot
+  pub few-contents : length (st .contents) ≤ 16
+  few-contents =
+      let a : length (st .setup .assemblies) ≡ le 1 (setupIn l) 0 = ap (λ (u : Setup). length (u .assemblies)) (w .setup) ∙ length-assemblies l in
+      let b = few-assemblies (setupIn l) (w .lent .sound) in let c = w .fits .contents in omega arith
+
+  pub content-short : (i : ℕ) → length (contentAt st i .bytes) ≤ 512
+  content-short i =
+      let a : shapeAt (st .setup) i .size ≡ shapeAt (setupOf l) i .size = ap (λ (u : Setup). shapeAt u i .size) (w .setup) in
+      let b = size-short l (w .lent .shapes) i in let c = w .fits .sized i in omega arith
+
+  pub short-bytes : Short (map bytesOf (st .contents))
+  short-bytes i = rw (List·getD-map bytesOf (st .contents) i noContent) (content-short i)
+
+  pub room : length (map bytesOf (st .contents)) * 512 ≤ length (dataIn l)
+  room = let m = length-map (st .contents) bytesOf in let n = length-dataIn l (w .lent .long) in let a = few-contents in omega arith
+
+  -- ---- sizes
+  pub length-headOf : length (headOf st l) ≡ 48
+  unfolding headOf
+  length-headOf = length-head (listHead st) l (w .lent .long) tt
+
+  pub length-marksOf : length (marksOf st l) ≡ 16
+  unfolding marksOf
+  length-marksOf =
+      let a = length-marksIn l (w .lent .long) in let m = length-map (st .contents) markOf in let b = few-contents in
+      length-fill (map markOf (st .contents)) (marksIn l) (omega arith) ∙ a
+
+  pub length-tableOf : length (tableOf st l) ≡ 2304
+  unfolding tableOf
+  length-tableOf =
+      let n = length-tableIn l (w .lent .long) in let a = w .fits .table in let b = w .lent .conns in
+      length-storeRows 70 encConn length-encConn (le 2 l 224) (st .table) (tableIn l) (omega arith) (omega arith) ∙ n
+
+  pub length-eventsOf : length (eventsOf st l) ≡ 32768
+  unfolding eventsOf
+  length-eventsOf = length-ring 32 record32 (st .events .gone) (st .events .waiting) (ringIn l) ∙ length-ringIn l (w .lent .long)
+
+  pub length-dataOf : length (dataOf st l) ≡ 8192
+  unfolding dataOf
+  length-dataOf = length-storeSlots (map bytesOf (st .contents)) (dataIn l) short-bytes room ∙ length-dataIn l (w .lent .long)
+
+  pub sized : Sized widths (regionsOf st l)
+  sized =
+      let n = w .lent .long in
+      one (length-setupIn l n) (one length-headOf (one length-marksOf (one length-tableOf (one length-eventsOf (one length-dataOf (one (length-edsIn l n) none))))))
+
+  pub length-store : length (store st l) ≡ 109056
+  unfolding store sum
+  length-store = length-joined sized
+
+  -- ---- the regions
+  pub setup-of-store : setupIn (store st l) ≡ setupIn l
+  unfolding store start
+  setup-of-store = region-at 0 sized (omega arith)
+
+  pub marks-of-store : marksIn (store st l) ≡ marksOf st l
+  unfolding store start
+  marks-of-store = region-at 2 sized (omega arith)
+
+  pub table-of-store : tableIn (store st l) ≡ tableOf st l
+  unfolding store start
+  table-of-store = region-at 3 sized (omega arith)
+
+  pub ring-of-store : ringIn (store st l) ≡ eventsOf st l
+  unfolding store start
+  ring-of-store = region-at 4 sized (omega arith)
+
+  pub data-of-store : dataIn (store st l) ≡ dataOf st l
+  unfolding store start
+  data-of-store = region-at 5 sized (omega arith)
+
+  pub eds-of-store : edsIn (store st l) ≡ edsIn l
+  unfolding store start
+  eds-of-store = region-at 6 sized (omega arith)
+
+  -- what was set up stays
+  pub setup-kept : setupOf (store st l) ≡ setupOf l
+  unfolding setupOf
+  setup-kept = ap₂ setupFrom setup-of-store eds-of-store
+
+  -- ---- the head's numbers
+  pub head-of-store : decFields wHead (store st l) 192 ≡ listHead st
+  unfolding store joined headOf
+  head-of-store =
+      let e : List ℕ = encFields wHead (listHead st) in
+      let p : List ℕ = drop 36 (headIn l) in
+      let q : List ℕ = marksOf st l ++ (tableOf st l ++ (eventsOf st l ++ (dataOf st l ++ (edsIn l ++ [])))) in
+      ap (λ (z : List ℕ). decFields wHead (setupIn l ++ z) 192) (append-assoc e p q)
+      ∙ dec-enc wHead (listHead st) tt (setupIn l) (p ++ q) 192 (length-setupIn l (w .lent .long))
+
+  pub produced-is : le 8 (store st l) 192 ≡ st .counters .produced
+  produced-is = ap (λ (vs : List ℕ). getD vs 0 0) head-of-store
+
+  pub late-is : le 8 (store st l) 200 ≡ st .counters .late
+  late-is = ap (λ (vs : List ℕ). getD vs 1 0) head-of-store
+
+  pub maxLate-is : le 8 (store st l) 208 ≡ st .counters .maxLate
+  maxLate-is = ap (λ (vs : List ℕ). getD vs 2 0) head-of-store
+
+  pub nextId-is : le 4 (store st l) 216 ≡ st .nextId
+  nextId-is = ap (λ (vs : List ℕ). getD vs 3 0) head-of-store
+
+  pub gone-is : le 2 (store st l) 220 ≡ st .events .gone
+  gone-is = ap (λ (vs : List ℕ). getD vs 4 0) head-of-store
+
+  pub waiting-is : le 2 (store st l) 222 ≡ length (st .events .waiting)
+  waiting-is = ap (λ (vs : List ℕ). getD vs 5 0) head-of-store
+
+  pub conns-is : le 2 (store st l) 224 ≡ length (st .table)
+  conns-is = ap (λ (vs : List ℕ). getD vs 6 0) head-of-store
+
+  pub fault-is : le 2 (store st l) 226 ≡ ofBool (st .fault)
+  fault-is = ap (λ (vs : List ℕ). getD vs 7 0) head-of-store
+
+  pub assemblies-is : le 1 (setupIn (store st l)) 0 ≡ length (st .contents)
+  assemblies-is =
+      ap (λ (r : List ℕ). le 1 r 0) setup-of-store
+      ∙ sym (w .fits .contents ∙ ap (λ (u : Setup). length (u .assemblies)) (w .setup) ∙ length-assemblies l)

@@ -1,0 +1,6 @@
+pub mod Places
+pub mod Setups
+pub mod Rows
+pub mod RowLaws
+pub mod Cut
+pub mod SetupLaws

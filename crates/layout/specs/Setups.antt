@@ -1,0 +1,77 @@
+-- What the setup region and the EDS say. No call but setup writes them, so their bytes are read and never written back.
+use Prim.Native.Nat.{ℕ, _-_, _*_}
+use mathlib.Core.Bool.{Bool, cond}
+use mathlib.Core.List.{List, [], _∷_}
+use mathlib.Core.Option.{Option, none, some}
+use lib.Dec.{eqb, leb, ltb}
+use lib.ListN.{take, drop}
+use Rattle.cells.specs.Numbers.{le}
+use Rattle.cells.specs.Back.{all}
+use Rattle.tables.specs.Tables.{rows}
+use Rattle.rules.specs.declared.AssemblyKind.{AssemblyKind}
+use Rattle.rules.specs.declared.AssemblyKind.the-variants.{Input, Output, Config}
+use Rattle.rules.specs.State.{Identity, Shape, Setup}
+use Rattle.layout.specs.Places.{setupIn, edsIn}
+
+-- a shape, 5 bytes: instance 2 at 0, size 2 at 2, kind 1 at 4 (2 output, 3 configuration, else input)
+abbrev pub kindOf : ℕ → AssemblyKind
+kindOf n = cond (eqb n 2) Output (cond (eqb n 3) Config Input)
+
+unfoldable pub decShape : List ℕ → Shape
+decShape b = record { instance = le 2 b 0; kind = kindOf (le 1 b 4); size = le 2 b 2 }
+
+-- the shape at a place of a setup region, of which there are 16
+abbrev pub shapeIn : List ℕ → ℕ → Shape
+shapeIn r i = decShape (take 5 (drop (i * 5) (drop 110 r)))
+
+-- vendor 2 at 8, device type 2 at 10, product code 2 at 12, major 1 at 14, minor 1 at 15, serial 4 at 16, name at 46, its length 1 at 2
+abbrev pub identityOf : List ℕ → Identity
+identityOf r =
+    record {
+      vendor = le 2 r 8;
+      device = le 2 r 10;
+      product = le 2 r 12;
+      major = le 1 r 14;
+      minor = le 1 r 15;
+      serial = le 4 r 16;
+      name = take (le 1 r 2) (drop 46 r);
+    }
+
+-- the EDS mark is 0 for no EDS, else its length and one
+abbrev pub edsOf : ℕ → List ℕ → Option (List ℕ)
+edsOf mark e = cond (eqb mark 0) none (some (take (mark - 1) e))
+
+-- number of assemblies 1 at 0, transfer limit 1 at 1, EDS name's length 1 at 3, EDS mark 4 at 4, input-only heartbeat 4 at 20,
+-- listen-only 4 at 24, least RPI 4 at 28, greatest 4 at 32, late limit 4 at 36, MAC 6 at 40, EDS name at 78, shapes from 110
+abbrev pub setupFrom : List ℕ → List ℕ → Setup
+setupFrom r e =
+    record {
+      identity = identityOf r;
+      inputOnly = le 4 r 20;
+      listenOnly = le 4 r 24;
+      rpiMin = le 4 r 28;
+      rpiMax = le 4 r 32;
+      lateLimit = le 4 r 36;
+      transferLimit = le 1 r 1;
+      mac = take 6 (drop 40 r);
+      eds = edsOf (le 4 r 4) e;
+      edsName = take (le 1 r 3) (drop 78 r);
+      assemblies = rows 5 decShape (le 1 r 0) (drop 110 r);
+    }
+
+unfoldable pub setupOf : List ℕ → Setup
+setupOf l = setupFrom (setupIn l) (edsIn l)
+
+-- what the state test asks of it: at most 16 assemblies, a transfer limit of at least 1, names of at most 32 bytes, an EDS of at
+-- most 65,535 bytes; and no assembly of more than 512 bytes
+abbrev pub testsSetup : List ℕ → List Bool
+testsSetup r = leb (le 1 r 0) 16 ∷ ltb 0 (le 1 r 1) ∷ leb (le 1 r 2) 32 ∷ leb (le 1 r 3) 32 ∷ leb (le 4 r 4) 65536 ∷ []
+
+unfoldable pub goodSetup : List ℕ → Bool
+goodSetup r = all (testsSetup r)
+
+unfoldable pub goodShape : List ℕ → Bool
+goodShape b = leb (le 2 b 2) 512
+
+unfoldable pub goodShapes : List ℕ → Bool
+goodShapes r = all (rows 5 goodShape (le 1 r 0) (drop 110 r))
