@@ -185,7 +185,7 @@ owned u (Calls.ReadAssembly kind n room) s q h = h
 owned u (Calls.NextEvent room) s q h = either-way Owned (isYes (nextEventAnswer room s)) h h
 owned u (Calls.Connections room) s q h = h
 owned u (Calls.Stats room) s q h = h
-owned u (Calls.Message local mask message room) s q h = h
+owned u (Calls.Message local mask message room position) s q h = h
 
 run-owned : (u : Setup) (cs : List Call) (s : State) → Sound u s → Owned s → Owned (run cs s)
 run-owned u [] s q h = h

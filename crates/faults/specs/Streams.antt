@@ -364,7 +364,7 @@ stays-fed (Calls.ReadAssembly kind n room) s h = h
 stays-fed (Calls.NextEvent room) s h = either-way Kept (isYes (nextEventAnswer room s)) h h
 stays-fed (Calls.Connections room) s h = h
 stays-fed (Calls.Stats room) s h = h
-stays-fed (Calls.Message local mask message room) s h = h
+stays-fed (Calls.Message local mask message room position) s h = h
 
 run-fed : (cs : List Call) (s : State) → Kept s → Kept (run cs s)
 run-fed [] s a = a

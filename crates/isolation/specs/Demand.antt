@@ -58,7 +58,7 @@ Removes-alike (Calls.ReadAssembly kind n room) s r = Unit {0}
 Removes-alike (Calls.NextEvent room) s r = Unit {0}
 Removes-alike (Calls.Connections room) s r = Unit {0}
 Removes-alike (Calls.Stats room) s r = Unit {0}
-Removes-alike (Calls.Message local mask message room) s r = Unit {0}
+Removes-alike (Calls.Message local mask message room position) s r = Unit {0}
 
 abbrev pub Same-expiries : {A : ℕ} {cs ds : List Call} → Paired A cs ds → State → State → Type 0
 Same-expiries end s r = Unit {0}
@@ -81,7 +81,7 @@ Answered-alike (Calls.ReadAssembly kind n room) s r = Unit {0}
 Answered-alike (Calls.NextEvent room) s r = Unit {0}
 Answered-alike (Calls.Connections room) s r = answer (Calls.Connections room) s ≡ answer (Calls.Connections room) r
 Answered-alike (Calls.Stats room) s r = answer (Calls.Stats room) s ≡ answer (Calls.Stats room) r
-Answered-alike (Calls.Message local mask message room) s r = Unit {0}
+Answered-alike (Calls.Message local mask message room position) s r = Unit {0}
 
 abbrev pub All-answered-alike : {A : ℕ} {cs ds : List Call} → Paired A cs ds → State → State → Type 0
 All-answered-alike end s r = Unit {0}
@@ -164,7 +164,7 @@ module _ (A : ℕ) (o : ℕ → Bool) (u : Setup) (sparing : Sparing o u) where
   expire-call t s r a hs hr c e =
       by-cases (timely t)
       (λ y. let q = expire-alike A o t s r a (hs .distinct) (hr .distinct) c (covers-too s r a c) (rw y at e) in
-      (ap some (expire-says-alike A o t s r a q), rw y q))
+      (expire-says-alike A o t s r a q, rw y q))
       (λ n. (rw n refl, rw n a))
 
   connections-say : (s r : State) → Alike A o s r → connectionBytes s ≡ connectionBytes r
@@ -180,29 +180,29 @@ module _ (A : ℕ) (o : ℕ → Bool) (u : Setup) (sparing : Sparing o u) where
   unfolding openCall closeCall receiveCall produceCall setInputCall nextEventCall connectionsAnswer statsAnswer
   one-call (Calls.Open t service request g room) s r a hs hr c e =
       let x = Seen.open-says-alike A o s r a t service request g room in
-      (ap some x, settled-alike _ _ x (Seen.open-alike A o s r a t service request g) a)
+      (x, settled-alike _ _ x (Seen.open-alike A o s r a t service request g) a)
   one-call (Calls.OpenRefusal service request room) s r a hs hr c e = (refl, a)
   one-call (Calls.Close request room) s r a hs hr c e =
       let x = Seen.close-says-alike A o s r a request room in
-      (ap some x, settled-alike _ _ x (Seen.close-alike A o s r a request) a)
+      (x, settled-alike _ _ x (Seen.close-alike A o s r a request) a)
   one-call (Calls.Receive t from frame) s r a hs hr c e = (refl, receive-call t from frame s r a c)
   one-call (Calls.Produce t room) s r a hs hr c e =
       let x = Seen.produce-says-alike A o s r a (subst (Sparing o) (sym (hs .setup)) sparing) (subst (λ v. All (Feeding v) (s .table)) (sym (hs .setup)) (hs .inputs)) t room in
-      (ap some x, settled-alike _ _ x (Seen.produce-alike A o s r a t) a)
+      (x, settled-alike _ _ x (Seen.produce-alike A o s r a t) a)
   one-call (Calls.Expire t) s r a hs hr c e = expire-call t s r a hs hr c e
   one-call (Calls.Deadline room) s r a hs hr c e = (tt, a)
   one-call (Calls.SetInput n bytes) s r a hs hr c e =
       let x = Seen.set-input-says-alike A o s r a n bytes in
-      (ap some x, settled-alike _ _ x (Seen.set-input-alike A o s r a n bytes) a)
+      (x, settled-alike _ _ x (Seen.set-input-alike A o s r a n bytes) a)
   one-call (Calls.ReadOutput n room) s r a hs hr c e = (tt, read-call n room s r a)
   one-call (Calls.ReadAssembly kind n room) s r a hs hr c e = (tt, a)
   one-call (Calls.NextEvent room) s r a hs hr c e = (
     tt,
     join (settled-unseen (nextEventAnswer room s) (Seen.event-unseen A o s)) (join a (back (settled-unseen (nextEventAnswer room r) (Seen.event-unseen A o r)))),
   )
-  one-call (Calls.Connections room) s r a hs hr c e = (ap (λ b. some (fitting room b (Wrote b))) (connections-say s r a), a)
-  one-call (Calls.Stats room) s r a hs hr c e = (ap (λ n. some (fitting room (statsBytes n) (Wrote (statsBytes n)))) (a .counters), a)
-  one-call (Calls.Message local mask message room) s r a hs hr c e = (tt, a)
+  one-call (Calls.Connections room) s r a hs hr c e = (ap (λ b. fitting room b (Wrote b)) (connections-say s r a), a)
+  one-call (Calls.Stats room) s r a hs hr c e = (ap (λ n. fitting room (statsBytes n) (Wrote (statsBytes n))) (a .counters), a)
+  one-call (Calls.Message local mask message room position) s r a hs hr c e = (tt, a)
 
   -- THE INDUCTION
   independent : {cs ds : List Call} (p : Paired A cs ds) (s r : State) → Alike A o s r → Sound u s → Sound u r → Covered A o cs s → Same-expiries p s r →

@@ -205,7 +205,7 @@ module _ (u : Setup) where
       either-way (Sound u) (isYes (nextEventAnswer room s)) (record { setup = h .setup; distinct = h .distinct; inputs = h .inputs; outputs = h .outputs }) h
   sound (Calls.Connections room) s h = h
   sound (Calls.Stats room) s h = h
-  sound (Calls.Message local mask message room) s h = h
+  sound (Calls.Message local mask message room position) s h = h
 
   pub fresh-sound : (seed : ℕ) → Sound u (fresh u seed)
   unfolding fresh

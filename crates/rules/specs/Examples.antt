@@ -9,6 +9,7 @@ use Prim.Native.Nat.{ℕ, _+_, _*_, _/_, _^_}
 use lib.ListN.{length, getD, set, replicate}
 use Rattle.cells.specs.Numbers.{le, leOf, bytesLe}
 use Rattle.cells.specs.BigEndian.{bytesBe}
+use Rattle.cells.specs.Records.{encFields}
 use Rattle.wire_items.specs.Items.{startOf, stepAt, itemsFrom, itemsOf}
 use Rattle.wire_items.specs.Frames.{ioOf, ioFrame}
 use Rattle.wire_paths.specs.Segments.{portAt, logicalAt, keyOf, keyAt, dataAt, segAt, segsFrom, segsOf}
@@ -28,7 +29,7 @@ use Rattle.rules.specs.Answers
 use Rattle.rules.specs.Answers.{Answer, Wrote, Gone, Refused, Failed, NoRoom, NothingThere, answerNumber}
 use Rattle.rules.specs.Setup.{setupOk, fresh}
 use Rattle.rules.specs.Events.{infoOf, infoRecord, eventRecord, oldestGone, appended, pushed, pushedAll}
-use Rattle.rules.specs.Replies.{openReply, refusalReply, closeReply}
+use Rattle.wire_replies.specs.Replies.{openReply, triadReply}
 use Rattle.rules.specs.Checks.{must, andThen, transportCheck, pathCheck, revisionOk, keyStop, keyCheck, kindOf, placeOf, pointsCheck, rolesOf, configCheck, rpiCheck, typeCheck, otSizeCheck, toSizeCheck, triadCheck, ownerCheck, streamOf, streamCheck, roomCheck, planOf, verdict}
 use Rattle.rules.specs.Opening.{afterId, pointDest, groupDest, sideOf, newFixed, newHeard, newConn, opened, verdictOf, replyOf, openAnswer, openEffect, openCall}
 use Rattle.rules.specs.Removal.{removed, closed, closeAnswer, closeEffect, closeCall, expiredFirst, expireEffect, expireAnswer, expireCall, deadlineAnswer}
@@ -60,7 +61,7 @@ fixedExamples =
     []
 
 pub fixed-examples : Hold fixedExamples
-unfolding fresh setupOk answerNumber le leOf bytesLe bytesBe startOf stepAt itemsFrom itemsOf ioOf ioFrame portAt logicalAt keyOf keyAt dataAt segAt Segments.between Segments.stepAt segsFrom segsOf gather ConnectionPath.some last connectionPath pathOf paramsAt triadAt wayAt placeAt fieldsOf openWith widthOf openOf closeOf infoOf infoRecord eventRecord oldestGone appended pushed pushedAll openReply refusalReply closeReply must andThen transportCheck pathCheck revisionOk keyStop keyCheck kindOf placeOf pointsCheck rolesOf configCheck rpiCheck typeCheck otSizeCheck toSizeCheck triadCheck ownerCheck streamOf streamCheck roomCheck planOf verdict afterId pointDest groupDest sideOf newFixed newHeard newConn opened verdictOf replyOf openAnswer openEffect openCall removed closed closeAnswer closeEffect closeCall expiredFirst expireEffect expireAnswer expireCall deadlineAnswer newer recorded hear taken changes deliver received receiveAnswer receiveEffect receiveCall sent frameOf packet packets counters produceAnswer produceEffect produceCall setInputAnswer setInputEffect setInputCall outputAnswer outputEffect outputCall nextEventAnswer nextEventEffect nextEventCall
+unfolding fresh setupOk answerNumber le leOf bytesLe bytesBe startOf stepAt itemsFrom itemsOf ioOf ioFrame portAt logicalAt keyOf keyAt dataAt segAt Segments.between Segments.stepAt segsFrom segsOf gather ConnectionPath.some last connectionPath pathOf paramsAt triadAt wayAt placeAt fieldsOf openWith widthOf openOf closeOf infoOf infoRecord eventRecord oldestGone appended pushed pushedAll openReply triadReply encFields must andThen transportCheck pathCheck revisionOk keyStop keyCheck kindOf placeOf pointsCheck rolesOf configCheck rpiCheck typeCheck otSizeCheck toSizeCheck triadCheck ownerCheck streamOf streamCheck roomCheck planOf verdict afterId pointDest groupDest sideOf newFixed newHeard newConn opened verdictOf replyOf openAnswer openEffect openCall removed closed closeAnswer closeEffect closeCall expiredFirst expireEffect expireAnswer expireCall deadlineAnswer newer recorded hear taken changes deliver received receiveAnswer receiveEffect receiveCall sent frameOf packet packets counters produceAnswer produceEffect produceCall setInputAnswer setInputEffect setInputCall outputAnswer outputEffect outputCall nextEventAnswer nextEventEffect nextEventCall
 fixed-examples = (refl, (refl, (refl, (refl, (refl, (refl, (refl, (refl, (refl, (refl, (refl, (refl, tt))))))))))))
 
 -- ---- a day
@@ -171,7 +172,7 @@ theDay =
     []
 
 pub the-day : Hold theDay
-unfolding fresh setupOk answerNumber le leOf bytesLe bytesBe startOf stepAt itemsFrom itemsOf ioOf ioFrame portAt logicalAt keyOf keyAt dataAt segAt Segments.between Segments.stepAt segsFrom segsOf gather ConnectionPath.some last connectionPath pathOf paramsAt triadAt wayAt placeAt fieldsOf openWith widthOf openOf closeOf infoOf infoRecord eventRecord oldestGone appended pushed pushedAll openReply refusalReply closeReply must andThen transportCheck pathCheck revisionOk keyStop keyCheck kindOf placeOf pointsCheck rolesOf configCheck rpiCheck typeCheck otSizeCheck toSizeCheck triadCheck ownerCheck streamOf streamCheck roomCheck planOf verdict afterId pointDest groupDest sideOf newFixed newHeard newConn opened verdictOf replyOf openAnswer openEffect openCall removed closed closeAnswer closeEffect closeCall expiredFirst expireEffect expireAnswer expireCall deadlineAnswer newer recorded hear taken changes deliver received receiveAnswer receiveEffect receiveCall sent frameOf packet packets counters produceAnswer produceEffect produceCall setInputAnswer setInputEffect setInputCall outputAnswer outputEffect outputCall nextEventAnswer nextEventEffect nextEventCall
+unfolding fresh setupOk answerNumber le leOf bytesLe bytesBe startOf stepAt itemsFrom itemsOf ioOf ioFrame portAt logicalAt keyOf keyAt dataAt segAt Segments.between Segments.stepAt segsFrom segsOf gather ConnectionPath.some last connectionPath pathOf paramsAt triadAt wayAt placeAt fieldsOf openWith widthOf openOf closeOf infoOf infoRecord eventRecord oldestGone appended pushed pushedAll openReply triadReply encFields must andThen transportCheck pathCheck revisionOk keyStop keyCheck kindOf placeOf pointsCheck rolesOf configCheck rpiCheck typeCheck otSizeCheck toSizeCheck triadCheck ownerCheck streamOf streamCheck roomCheck planOf verdict afterId pointDest groupDest sideOf newFixed newHeard newConn opened verdictOf replyOf openAnswer openEffect openCall removed closed closeAnswer closeEffect closeCall expiredFirst expireEffect expireAnswer expireCall deadlineAnswer newer recorded hear taken changes deliver received receiveAnswer receiveEffect receiveCall sent frameOf packet packets counters produceAnswer produceEffect produceCall setInputAnswer setInputEffect setInputCall outputAnswer outputEffect outputCall nextEventAnswer nextEventEffect nextEventCall
 the-day = (refl, (refl, (refl, (refl, (refl, (refl, (refl, (refl, (refl, (refl, (refl, (refl, (refl, (refl, (refl, (refl, tt))))))))))))))))
 
 -- ---- easy slips
@@ -238,7 +239,7 @@ slips =
     []
 
 pub no-slips : Hold slips
-unfolding fresh setupOk answerNumber le leOf bytesLe bytesBe startOf stepAt itemsFrom itemsOf ioOf ioFrame portAt logicalAt keyOf keyAt dataAt segAt Segments.between Segments.stepAt segsFrom segsOf gather ConnectionPath.some last connectionPath pathOf paramsAt triadAt wayAt placeAt fieldsOf openWith widthOf openOf closeOf infoOf infoRecord eventRecord oldestGone appended pushed pushedAll openReply refusalReply closeReply must andThen transportCheck pathCheck revisionOk keyStop keyCheck kindOf placeOf pointsCheck rolesOf configCheck rpiCheck typeCheck otSizeCheck toSizeCheck triadCheck ownerCheck streamOf streamCheck roomCheck planOf verdict afterId pointDest groupDest sideOf newFixed newHeard newConn opened verdictOf replyOf openAnswer openEffect openCall removed closed closeAnswer closeEffect closeCall expiredFirst expireEffect expireAnswer expireCall deadlineAnswer newer recorded hear taken changes deliver received receiveAnswer receiveEffect receiveCall sent frameOf packet packets counters produceAnswer produceEffect produceCall setInputAnswer setInputEffect setInputCall outputAnswer outputEffect outputCall nextEventAnswer nextEventEffect nextEventCall
+unfolding fresh setupOk answerNumber le leOf bytesLe bytesBe startOf stepAt itemsFrom itemsOf ioOf ioFrame portAt logicalAt keyOf keyAt dataAt segAt Segments.between Segments.stepAt segsFrom segsOf gather ConnectionPath.some last connectionPath pathOf paramsAt triadAt wayAt placeAt fieldsOf openWith widthOf openOf closeOf infoOf infoRecord eventRecord oldestGone appended pushed pushedAll openReply triadReply encFields must andThen transportCheck pathCheck revisionOk keyStop keyCheck kindOf placeOf pointsCheck rolesOf configCheck rpiCheck typeCheck otSizeCheck toSizeCheck triadCheck ownerCheck streamOf streamCheck roomCheck planOf verdict afterId pointDest groupDest sideOf newFixed newHeard newConn opened verdictOf replyOf openAnswer openEffect openCall removed closed closeAnswer closeEffect closeCall expiredFirst expireEffect expireAnswer expireCall deadlineAnswer newer recorded hear taken changes deliver received receiveAnswer receiveEffect receiveCall sent frameOf packet packets counters produceAnswer produceEffect produceCall setInputAnswer setInputEffect setInputCall outputAnswer outputEffect outputCall nextEventAnswer nextEventEffect nextEventCall
 no-slips = (refl, (refl, (refl, (refl, (refl, (refl, (refl, (refl, (refl, (refl, (refl, (refl, (refl, (refl, (refl, tt)))))))))))))))
 
 -- ---- the checks
@@ -302,7 +303,7 @@ theChecks =
     []
 
 pub the-checks : Hold theChecks
-unfolding fresh setupOk answerNumber le leOf bytesLe bytesBe startOf stepAt itemsFrom itemsOf ioOf ioFrame portAt logicalAt keyOf keyAt dataAt segAt Segments.between Segments.stepAt segsFrom segsOf gather ConnectionPath.some last connectionPath pathOf paramsAt triadAt wayAt placeAt fieldsOf openWith widthOf openOf closeOf infoOf infoRecord eventRecord oldestGone appended pushed pushedAll openReply refusalReply closeReply must andThen transportCheck pathCheck revisionOk keyStop keyCheck kindOf placeOf pointsCheck rolesOf configCheck rpiCheck typeCheck otSizeCheck toSizeCheck triadCheck ownerCheck streamOf streamCheck roomCheck planOf verdict afterId pointDest groupDest sideOf newFixed newHeard newConn opened verdictOf replyOf openAnswer openEffect openCall removed closed closeAnswer closeEffect closeCall expiredFirst expireEffect expireAnswer expireCall deadlineAnswer newer recorded hear taken changes deliver received receiveAnswer receiveEffect receiveCall sent frameOf packet packets counters produceAnswer produceEffect produceCall setInputAnswer setInputEffect setInputCall outputAnswer outputEffect outputCall nextEventAnswer nextEventEffect nextEventCall
+unfolding fresh setupOk answerNumber le leOf bytesLe bytesBe startOf stepAt itemsFrom itemsOf ioOf ioFrame portAt logicalAt keyOf keyAt dataAt segAt Segments.between Segments.stepAt segsFrom segsOf gather ConnectionPath.some last connectionPath pathOf paramsAt triadAt wayAt placeAt fieldsOf openWith widthOf openOf closeOf infoOf infoRecord eventRecord oldestGone appended pushed pushedAll openReply triadReply encFields must andThen transportCheck pathCheck revisionOk keyStop keyCheck kindOf placeOf pointsCheck rolesOf configCheck rpiCheck typeCheck otSizeCheck toSizeCheck triadCheck ownerCheck streamOf streamCheck roomCheck planOf verdict afterId pointDest groupDest sideOf newFixed newHeard newConn opened verdictOf replyOf openAnswer openEffect openCall removed closed closeAnswer closeEffect closeCall expiredFirst expireEffect expireAnswer expireCall deadlineAnswer newer recorded hear taken changes deliver received receiveAnswer receiveEffect receiveCall sent frameOf packet packets counters produceAnswer produceEffect produceCall setInputAnswer setInputEffect setInputCall outputAnswer outputEffect outputCall nextEventAnswer nextEventEffect nextEventCall
 the-checks = (refl, (refl, (refl, (refl, (refl, (refl, (refl, (refl, (refl, (refl, (refl, (refl, (refl, (refl, (refl, (refl, (refl, (refl, (refl, (refl, (refl, (refl, (refl, (refl, (refl, (refl, (refl, (refl, (refl, (refl, (refl, (refl, (refl, tt)))))))))))))))))))))))))))))))))
 
 -- the words, by check
@@ -322,7 +323,7 @@ words =
     []
 
 pub the-words : Hold words
-unfolding fresh setupOk answerNumber le leOf bytesLe bytesBe startOf stepAt itemsFrom itemsOf ioOf ioFrame portAt logicalAt keyOf keyAt dataAt segAt Segments.between Segments.stepAt segsFrom segsOf gather ConnectionPath.some last connectionPath pathOf paramsAt triadAt wayAt placeAt fieldsOf openWith widthOf openOf closeOf infoOf infoRecord eventRecord oldestGone appended pushed pushedAll openReply refusalReply closeReply must andThen transportCheck pathCheck revisionOk keyStop keyCheck kindOf placeOf pointsCheck rolesOf configCheck rpiCheck typeCheck otSizeCheck toSizeCheck triadCheck ownerCheck streamOf streamCheck roomCheck planOf verdict afterId pointDest groupDest sideOf newFixed newHeard newConn opened verdictOf replyOf openAnswer openEffect openCall removed closed closeAnswer closeEffect closeCall expiredFirst expireEffect expireAnswer expireCall deadlineAnswer newer recorded hear taken changes deliver received receiveAnswer receiveEffect receiveCall sent frameOf packet packets counters produceAnswer produceEffect produceCall setInputAnswer setInputEffect setInputCall outputAnswer outputEffect outputCall nextEventAnswer nextEventEffect nextEventCall
+unfolding fresh setupOk answerNumber le leOf bytesLe bytesBe startOf stepAt itemsFrom itemsOf ioOf ioFrame portAt logicalAt keyOf keyAt dataAt segAt Segments.between Segments.stepAt segsFrom segsOf gather ConnectionPath.some last connectionPath pathOf paramsAt triadAt wayAt placeAt fieldsOf openWith widthOf openOf closeOf infoOf infoRecord eventRecord oldestGone appended pushed pushedAll openReply triadReply encFields must andThen transportCheck pathCheck revisionOk keyStop keyCheck kindOf placeOf pointsCheck rolesOf configCheck rpiCheck typeCheck otSizeCheck toSizeCheck triadCheck ownerCheck streamOf streamCheck roomCheck planOf verdict afterId pointDest groupDest sideOf newFixed newHeard newConn opened verdictOf replyOf openAnswer openEffect openCall removed closed closeAnswer closeEffect closeCall expiredFirst expireEffect expireAnswer expireCall deadlineAnswer newer recorded hear taken changes deliver received receiveAnswer receiveEffect receiveCall sent frameOf packet packets counters produceAnswer produceEffect produceCall setInputAnswer setInputEffect setInputCall outputAnswer outputEffect outputCall nextEventAnswer nextEventEffect nextEventCall
 the-words = (refl, (refl, (refl, (refl, (refl, (refl, tt))))))
 
 -- of two checks that do not hold, the one that is named first in document 01 is answered
@@ -343,5 +344,5 @@ theOrder =
     []
 
 pub the-order : Hold theOrder
-unfolding fresh setupOk answerNumber le leOf bytesLe bytesBe startOf stepAt itemsFrom itemsOf ioOf ioFrame portAt logicalAt keyOf keyAt dataAt segAt Segments.between Segments.stepAt segsFrom segsOf gather ConnectionPath.some last connectionPath pathOf paramsAt triadAt wayAt placeAt fieldsOf openWith widthOf openOf closeOf infoOf infoRecord eventRecord oldestGone appended pushed pushedAll openReply refusalReply closeReply must andThen transportCheck pathCheck revisionOk keyStop keyCheck kindOf placeOf pointsCheck rolesOf configCheck rpiCheck typeCheck otSizeCheck toSizeCheck triadCheck ownerCheck streamOf streamCheck roomCheck planOf verdict afterId pointDest groupDest sideOf newFixed newHeard newConn opened verdictOf replyOf openAnswer openEffect openCall removed closed closeAnswer closeEffect closeCall expiredFirst expireEffect expireAnswer expireCall deadlineAnswer newer recorded hear taken changes deliver received receiveAnswer receiveEffect receiveCall sent frameOf packet packets counters produceAnswer produceEffect produceCall setInputAnswer setInputEffect setInputCall outputAnswer outputEffect outputCall nextEventAnswer nextEventEffect nextEventCall
+unfolding fresh setupOk answerNumber le leOf bytesLe bytesBe startOf stepAt itemsFrom itemsOf ioOf ioFrame portAt logicalAt keyOf keyAt dataAt segAt Segments.between Segments.stepAt segsFrom segsOf gather ConnectionPath.some last connectionPath pathOf paramsAt triadAt wayAt placeAt fieldsOf openWith widthOf openOf closeOf infoOf infoRecord eventRecord oldestGone appended pushed pushedAll openReply triadReply encFields must andThen transportCheck pathCheck revisionOk keyStop keyCheck kindOf placeOf pointsCheck rolesOf configCheck rpiCheck typeCheck otSizeCheck toSizeCheck triadCheck ownerCheck streamOf streamCheck roomCheck planOf verdict afterId pointDest groupDest sideOf newFixed newHeard newConn opened verdictOf replyOf openAnswer openEffect openCall removed closed closeAnswer closeEffect closeCall expiredFirst expireEffect expireAnswer expireCall deadlineAnswer newer recorded hear taken changes deliver received receiveAnswer receiveEffect receiveCall sent frameOf packet packets counters produceAnswer produceEffect produceCall setInputAnswer setInputEffect setInputCall outputAnswer outputEffect outputCall nextEventAnswer nextEventEffect nextEventCall
 the-order = (refl, (refl, (refl, (refl, (refl, (refl, (refl, (refl, (refl, (refl, (refl, (refl, tt))))))))))))

@@ -12,7 +12,7 @@ use Rattle.wire_opens.specs.Timeout.{timeoutOf}
 use Rattle.wire_opens.specs.Group.{groupOf}
 use Rattle.wire_paths.specs.declared.PathAnswer.{PathAnswer}
 use Rattle.wire_paths.specs.ConnectionPath.{pathOf}
-use Rattle.rules.specs.Replies.{openReply, refusalReply}
+use Rattle.wire_replies.specs.Replies.{openReply, openRefusal}
 use Rattle.rules.specs.Lists.{changeAt}
 use Rattle.rules.specs.State.{ToId, Socket, Fixed, Heard, Never, At, Sent, Conn, Event, Opened, Configured, Origin, Setup, shapeAt, Content, State, fixeds, Stream, Joins, Own, Stores, Nothing, Into, Plan, Verdict, Stopped, Planned}
 use Rattle.rules.specs.Answers.{Answer, Accepted, Wrote, Refused, Failed, NotParsed, fitting, atTime, settled}
@@ -163,7 +163,7 @@ openCall t service request g room st = settled (openAnswer t service request g r
 -- OPEN_REFUSAL: the data of a refused open's reply. No. 4, 8
 abbrev pub refusalFor : ℕ → OpenAnswer → Answer
 refusalFor room NoOpen = Refused NotParsed
-refusalFor room (Open o) = fitting room (refusalReply (o .triad)) (Wrote (refusalReply (o .triad)))
+refusalFor room (Open o) = fitting room (openRefusal (o .triad)) (Wrote (openRefusal (o .triad)))
 
 unfoldable pub refusalAnswer : ℕ → List ℕ → ℕ → Answer
 refusalAnswer service request room = refusalFor room (requestOf service request)
