@@ -291,7 +291,6 @@ module _ (u : Conn → Conn) (same : (c : Conn) → (u c) .fixed ≡ c .fixed) (
       ListLaws.all-change (Fed m) p u (fed-same m m (λ j. refl) (λ j. refl)) l
       (ListLaws.all-to (Fed l) (Fed m) (λ x k. record { joined = k .joined; feeder = λ y. sym (f (x .fixed .toid)) ∙ k .feeder y; sender = λ y. sym (g (x .fixed .toid)) ∙ k .sender y }) l a)
 
-
 abbrev Kept : State → Type 0
 Kept s = All-fed (s .table)
 

@@ -105,10 +105,27 @@ after-second = refl
 
 -- the same connections are gone, so the premise is met
 pub premise-met : Same-expiries pair start start
-premise-met =
-    (tt, (tt, (tt, (tt, (tt, ((λ d.
-    removes-all 50000 (run calls start) (triad 2 ∷ triad 3 ∷ []) before-first after-first d ∙
-    sym (removes-all 50000 (run (calls ++ (Call.Receive 30000 7 heartbeat ∷ [])) start) (triad 2 ∷ triad 3 ∷ []) before-second after-second d)), tt))))))
+premise-met = (
+  tt,
+  (
+    tt,
+    (
+      tt,
+      (
+        tt,
+        (
+          tt,
+          (
+            (λ d.
+                removes-all 50000 (run calls start) (triad 2 ∷ triad 3 ∷ []) before-first after-first d ∙
+                sym (removes-all 50000 (run (calls ++ (Call.Receive 30000 7 heartbeat ∷ [])) start) (triad 2 ∷ triad 3 ∷ []) before-second after-second d)),
+            tt,
+          ),
+        ),
+      ),
+    ),
+  ),
+)
 
 pub holds : Independent pair start
 holds = demand-3 7 setup 4 pair premise-met

@@ -55,22 +55,24 @@ pub passed : (u : Setup) (table : List Fixed) (o : ForwardOpen) (answer : PathAn
 unfolding Checks.verdict
 passed u table o answer p e =
     let x = planned-is (Checks.firstStop (Checks.checks u table o answer)) (Checks.planOf u table o (Checks.pathIn answer)) p e in
-    let a = first-none (Checks.checks u table o answer) (x .0) in
-    (record {
-      transport = a .0;
-      path = a .1 .0;
-      key = a .1 .1 .0;
-      points = a .1 .1 .1 .0;
-      config = a .1 .1 .1 .1 .0;
-      rpi = a .1 .1 .1 .1 .1 .0;
-      type = a .1 .1 .1 .1 .1 .1 .0;
-      ot-size = a .1 .1 .1 .1 .1 .1 .1 .0;
-      to-size = a .1 .1 .1 .1 .1 .1 .1 .1 .0;
-      triad = a .1 .1 .1 .1 .1 .1 .1 .1 .1 .0;
-      owner = a .1 .1 .1 .1 .1 .1 .1 .1 .1 .1 .0;
-      stream = a .1 .1 .1 .1 .1 .1 .1 .1 .1 .1 .1 .0;
-      room = a .1 .1 .1 .1 .1 .1 .1 .1 .1 .1 .1 .1 .0;
-    }, x .1)
+    let a = first-none (Checks.checks u table o answer) (x .0) in (
+      record {
+        transport = a .0;
+        path = a .1 .0;
+        key = a .1 .1 .0;
+        points = a .1 .1 .1 .0;
+        config = a .1 .1 .1 .1 .0;
+        rpi = a .1 .1 .1 .1 .1 .0;
+        type = a .1 .1 .1 .1 .1 .1 .0;
+        ot-size = a .1 .1 .1 .1 .1 .1 .1 .0;
+        to-size = a .1 .1 .1 .1 .1 .1 .1 .1 .0;
+        triad = a .1 .1 .1 .1 .1 .1 .1 .1 .1 .0;
+        owner = a .1 .1 .1 .1 .1 .1 .1 .1 .1 .1 .0;
+        stream = a .1 .1 .1 .1 .1 .1 .1 .1 .1 .1 .1 .0;
+        room = a .1 .1 .1 .1 .1 .1 .1 .1 .1 .1 .1 .1 .0;
+      },
+      x .1,
+    )
 
 -- what is at the place that was found
 place-next : (x : Option ℕ) → isSome (maybe none (λ i. some (suc i)) x) ≡ isSome x

@@ -9,7 +9,7 @@ use Prim.Native.Nat.{ℕ, _+_, _*_, _/_, _^_}
 use lib.ListN.{length, getD, set, replicate}
 use Rattle.cells.specs.Numbers.{le, leOf, bytesLe}
 use Rattle.cells.specs.BigEndian.{bytesBe}
-use Rattle.cells.specs.Records.{encFields}
+use Rattle.cells.specs.Records.{sum, encFields}
 use Rattle.wire_items.specs.Items.{startOf, stepAt, itemsFrom, itemsOf}
 use Rattle.wire_items.specs.Frames.{ioOf, ioFrame}
 use Rattle.wire_paths.specs.Segments.{portAt, logicalAt, keyOf, keyAt, dataAt, segAt, segsFrom, segsOf}
@@ -36,6 +36,7 @@ use Rattle.rules.specs.Removal.{removed, closed, closeAnswer, closeEffec
 use Rattle.rules.specs.Receiving.{newer, recorded, hear, taken, changes, deliver, received, receiveAnswer, receiveEffect, receiveCall}
 use Rattle.rules.specs.Producing.{sent, frameOf, packet, packets, counters, produceAnswer, produceEffect, produceCall}
 use Rattle.rules.specs.Host.{setInputAnswer, setInputEffect, setInputCall, outputAnswer, outputEffect, outputCall, nextEventAnswer, nextEventEffect, nextEventCall}
+use Rattle.rules.specs.Upload.{checksum}
 use Rattle.rules.specs.Calls.{Call, run}
 
 -- ---- document 01's fixed examples
@@ -58,11 +59,12 @@ fixedExamples =
     (segsOf (0x20 ∷ 0x04 ∷ 0x24 ∷ 0x05 ∷ 0x2C ∷ 0x64 ∷ 0x2C ∷ 0x65 ∷ []) is Segments.segs (Class 4 ∷ Instance 5 ∷ Point 100 ∷ Point 101 ∷ [])) ∷
     (segsOf (0x20 ∷ []) is Segments.broken 0) ∷
     (smallParams 0x2A26 is record { size = 38; variable = true; net = Multicast }) ∷
+    (checksum (0x01 ∷ 0x02 ∷ 0x03 ∷ []) is 0xFFFA) ∷
     []
 
 pub fixed-examples : Hold fixedExamples
-unfolding fresh setupOk answerNumber le leOf bytesLe bytesBe startOf stepAt itemsFrom itemsOf ioOf ioFrame portAt logicalAt keyOf keyAt dataAt segAt Segments.between Segments.stepAt segsFrom segsOf gather ConnectionPath.some last connectionPath pathOf paramsAt triadAt wayAt placeAt fieldsOf openWith widthOf openOf closeOf infoOf infoRecord eventRecord oldestGone appended pushed pushedAll openReply triadReply encFields must andThen transportCheck pathCheck revisionOk keyStop keyCheck kindOf placeOf pointsCheck rolesOf configCheck rpiCheck typeCheck otSizeCheck toSizeCheck triadCheck ownerCheck streamOf streamCheck roomCheck planOf verdict afterId pointDest groupDest sideOf newFixed newHeard newConn opened verdictOf replyOf openAnswer openEffect openCall removed closed closeAnswer closeEffect closeCall expiredFirst expireEffect expireAnswer expireCall deadlineAnswer newer recorded hear taken changes deliver received receiveAnswer receiveEffect receiveCall sent frameOf packet packets counters produceAnswer produceEffect produceCall setInputAnswer setInputEffect setInputCall outputAnswer outputEffect outputCall nextEventAnswer nextEventEffect nextEventCall
-fixed-examples = (refl, (refl, (refl, (refl, (refl, (refl, (refl, (refl, (refl, (refl, (refl, (refl, tt))))))))))))
+unfolding fresh setupOk answerNumber le leOf bytesLe bytesBe startOf stepAt itemsFrom itemsOf ioOf ioFrame portAt logicalAt keyOf keyAt dataAt segAt Segments.between Segments.stepAt segsFrom segsOf gather ConnectionPath.some last connectionPath pathOf paramsAt triadAt wayAt placeAt fieldsOf openWith widthOf openOf closeOf infoOf infoRecord eventRecord oldestGone appended pushed pushedAll openReply triadReply encFields must andThen transportCheck pathCheck revisionOk keyStop keyCheck kindOf placeOf pointsCheck rolesOf configCheck rpiCheck typeCheck otSizeCheck toSizeCheck triadCheck ownerCheck streamOf streamCheck roomCheck planOf verdict afterId pointDest groupDest sideOf newFixed newHeard newConn opened verdictOf replyOf openAnswer openEffect openCall removed closed closeAnswer closeEffect closeCall expiredFirst expireEffect expireAnswer expireCall deadlineAnswer newer recorded hear taken changes deliver received receiveAnswer receiveEffect receiveCall sent frameOf packet packets counters produceAnswer produceEffect produceCall setInputAnswer setInputEffect setInputCall outputAnswer outputEffect outputCall nextEventAnswer nextEventEffect nextEventCall checksum sum
+fixed-examples = (refl, (refl, (refl, (refl, (refl, (refl, (refl, (refl, (refl, (refl, (refl, (refl, (refl, tt)))))))))))))
 
 -- ---- a day
 abbrev pub setup : Setup
@@ -201,8 +203,19 @@ full n = record { gone = 0; waiting = replicate n [] }
 abbrev pub anyone : Fixed
 anyone =
     record {
-      kind = State.InputOnly; triad = record { serial = 1; vendor = 1; originator = 1 }; originator = 8; otid = record { 0 = 5 }; toid = record { 0 = 6 }; otrpi = 10000;
-      multiplier = 0; torpi = 10000; input = 1; output = 0; dest = record { address = 0; port = 0 }; multicast = true; local = 0;
+      kind = State.InputOnly;
+      triad = record { serial = 1; vendor = 1; originator = 1 };
+      originator = 8;
+      otid = record { 0 = 5 };
+      toid = record { 0 = 6 };
+      otrpi = 10000;
+      multiplier = 0;
+      torpi = 10000;
+      input = 1;
+      output = 0;
+      dest = record { address = 0; port = 0 };
+      multicast = true;
+      local = 0;
     }
 
 abbrev pub slips : List Example
@@ -227,7 +240,7 @@ slips =
     (openCall 1000 0x54 owner (from 8) 25 start is (Refused NoRoom, start)) ∷
     -- an open at another T→O RPI starts a stream of its own
     (map brief (run (opens ++ (Call.Open 2000 0x54 (ask 4 0 0 10000 0x4000 20000 0x2003 (points 198)) (from 9) 26 ∷ [])) start .table) is
-        (5, 6, 41000, At 1000, 0) ∷ (7, 6, 201000, Never, 0) ∷ (8, 9, 42000, At 2000, 0) ∷ []) ∷
+    (5, 6, 41000, At 1000, 0) ∷ (7, 6, 201000, Never, 0) ∷ (8, 9, 42000, At 2000, 0) ∷ []) ∷
     -- a 1,024th event is kept with all before, a 1,025th drops the oldest
     (events (pushed (OutputChanged 150) (full 1023)) is (0, 1024)) ∷
     (events (pushed (OutputChanged 150) (full 1024)) is (1, 1024)) ∷
