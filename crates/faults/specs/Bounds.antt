@@ -1,13 +1,13 @@
 -- A refused call leaves the whole state equal; the table never holds more than 32 connections, nor the event list more than 1,024 events;
 -- the removal of a point-to-point connection changes no other connection.
-use mathlib.Core.Path.{_≡_, refl, sym, _∙_, ap, subst}
-use mathlib.Core.List.{List, [], _∷_, _++_, map}
+use mathlib.Core.Path.{_≡_, refl}
+use mathlib.Core.List.{List, [], _∷_}
 use mathlib.Core.Option.{Option, none, some}
-use mathlib.Core.Bool.{Bool, true, false, cond, not, _&&_, _||_}
-use Prim.Native.Nat.{ℕ, zero, suc, _+_, _-_, _%_, _≤_, _<_}
+use mathlib.Core.Bool.{Bool, true, false}
+use Prim.Native.Nat.{ℕ, zero, suc, _-_, _≤_, _<_}
 use native.Mathlib.Omega.{arith}
 use lib.Dec.{ltb}
-use lib.ListN.{length, drop, length-append, length-drop, length-map}
+use lib.ListN.{length, length-append, length-drop, length-map}
 use borrow.Author.Tests.{ltb-true, ltb-false}
 use Rattle.wire_items.specs.Frames.{ioOf}
 use Rattle.wire_opens.specs.Requests.{closeOf}
@@ -17,7 +17,7 @@ use Rattle.rules.specs.declared.Verdict.the-variants.{Stopped, Planned}
 use Rattle.rules.specs.declared.Event.the-variants.{Closed, TimedOut}
 use Rattle.rules.specs.Lists.{find, withoutFirst, maybe, repeat}
 use Rattle.rules.specs.ListLaws
-use Rattle.rules.specs.ListLaws.{by-cases, clash, either-way}
+use Rattle.rules.specs.ListLaws.{by-cases, either-way}
 use Rattle.rules.specs.State.{Setup, Events, State, fixeds, isInput, isOutput}
 use Rattle.rules.specs.Answers.{Answer, isYes, settled}
 use Rattle.rules.specs.Setup.{fresh}
@@ -35,10 +35,10 @@ use Rattle.isolation.specs.Ends.{length-removal}
 use Rattle.faults.specs.Names.{ForwardOpen, OpenAnswer, CloseAnswer, Origin, Conn, Info, Event, Plan, Verdict}
 
 -- A REFUSED CALL LEAVES THE WHOLE STATE EQUAL
-no-settles : (s′ s : State) (a b : Answer) → some a ≡ some b → isYes b ≡ false → settled a s′ s .1 ≡ s
+no-settles : (s′ s : State) (a b : Answer) → a ≡ b → isYes b ≡ false → settled a s′ s .1 ≡ s
 no-settles s′ s a b e n = let k : isYes a ≡ false = cc in rw k refl
 
-pub refused-leaves : (c : Call) (s : State) (a : Answer) → answer c s ≡ some a → isYes a ≡ false → next c s ≡ s
+pub refused-leaves : (c : Call) (s : State) (a : Answer) → answer c s ≡ a → isYes a ≡ false → next c s ≡ s
 unfolding openCall closeCall receiveCall produceCall expireCall setInputCall outputCall nextEventCall
 refused-leaves (Calls.Open t service request g room) s a e n = no-settles (openEffect t service request g s) s (openAnswer t service request g room s) a e n
 refused-leaves (Calls.OpenRefusal service request room) s a e n = refl
@@ -53,7 +53,7 @@ refused-leaves (Calls.ReadAssembly kind i room) s a e n = refl
 refused-leaves (Calls.NextEvent room) s a e n = no-settles (nextEventEffect s) s (nextEventAnswer room s) a e n
 refused-leaves (Calls.Connections room) s a e n = refl
 refused-leaves (Calls.Stats room) s a e n = refl
-refused-leaves (Calls.Message local mask message room) s a e n = refl
+refused-leaves (Calls.Message local mask message room position) s a e n = refl
 
 -- NO REWINDING: the removal of a point-to-point connection changes no other connection in any field
 point-to-point-alone : (c : Conn) (l : List Conn) → c .fixed .multicast ≡ false → afterRemoval c l ≡ l
@@ -159,7 +159,7 @@ bound (Calls.NextEvent room) s h =
     either-way Bounded (isYes (nextEventAnswer room s)) (record { connections = h .connections; events = read-bound (s .events) (h .events) }) h
 bound (Calls.Connections room) s h = h
 bound (Calls.Stats room) s h = h
-bound (Calls.Message local mask message room) s h = h
+bound (Calls.Message local mask message room position) s h = h
 
 run-bound : (cs : List Call) (s : State) → Bounded s → Bounded (run cs s)
 run-bound [] s h = h

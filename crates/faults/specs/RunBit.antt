@@ -3,12 +3,12 @@
 use mathlib.Core.Path.{_≡_, refl, sym, _∙_, ap, subst}
 use mathlib.Core.List.{List, [], _∷_, _++_, map}
 use mathlib.Core.Option.{Option, none, some}
-use mathlib.Core.Bool.{Bool, true, false, cond, not, _&&_, _||_}
-use Prim.Native.Nat.{ℕ, zero, suc, _≤_}
+use mathlib.Core.Bool.{Bool, true, false, not, _&&_, _||_}
+use Prim.Native.Nat.{ℕ, zero, suc}
 use native.Mathlib.Omega.{arith}
 use lib.Dec.{eqb}
 use lib.ListN.{length, getD}
-use borrow.Author.Tests.{eq-eqb, ltb-false}
+use borrow.Author.Tests.{eq-eqb}
 use Rattle.wire_items.specs.Frames.{ioOf}
 use Rattle.wire_opens.specs.Requests.{closeOf}
 use Rattle.wire_opens.specs.declared.OpenAnswer.the-variants.{Open, NoOpen}
@@ -20,11 +20,11 @@ use Rattle.rules.specs.Lists.{find, any, changeFirst, withoutFirst, changeAt, m
 use Rattle.rules.specs.ListLaws
 use Rattle.rules.specs.ListLaws.{by-cases, clash, either-way, All, and-left, and-right, eqb-true}
 use Rattle.rules.specs.State.{Setup, Shape, shapeAt, Content, noContent, State, isInput, isOutput, isOwner, isListener}
-use Rattle.rules.specs.Answers.{Answer, isYes, settled, timely}
+use Rattle.rules.specs.Answers.{isYes, timely}
 use Rattle.rules.specs.Setup.{blank, fresh}
 use Rattle.rules.specs.Checks.{owns, placeOf}
 use Rattle.rules.specs.Opening.{holding, stored, newConn, opened, verdictOf, planEffect, requestEffect, requestOf, configBytes, openAnswer, openEffect, openCall}
-use Rattle.rules.specs.Removal.{afterRemoval, removeFirst, connTriad, idle, runLost, removed, removedIf, closed, closeBy, closeAnswer, closeEffect, closeCall, expired, expiredFirst, expireAnswer, expireEffect, expireCall}
+use Rattle.rules.specs.Removal.{afterRemoval, connTriad, idle, runLost, removed, removedIf, closed, closeBy, closeAnswer, closeEffect, closeCall, expired, expiredFirst, expireAnswer, expireEffect, expireCall}
 use Rattle.rules.specs.Receiving.{Frame, meantFor, hear, taken, changes, deliver, delivered, received, frameOf, receiveAnswer, receiveEffect, receiveCall}
 use Rattle.rules.specs.Producing.{sends, produceAnswer, produceEffect, produceCall}
 use Rattle.rules.specs.Host.{filled, read, inputSet, setInputAnswer, setInputEffect, setInputCall, outputRead, outputAnswer, outputEffect, outputCall, nextEventAnswer, nextEventEffect, nextEventCall}
@@ -35,7 +35,7 @@ use Rattle.isolation.specs.Survive.{none-left}
 use Rattle.isolation.specs.Seen.{hear-fixed, send-fixed, taken-owner}
 use Rattle.isolation.specs.Expiry.{owns-not, expire-table}
 use Rattle.isolation.specs.Sound.{Sound, sound, fresh-sound, run-sound, Owning}
-use Rattle.faults.specs.Names.{ForwardOpen, OpenAnswer, CloseAnswer, Origin, Stores, Fixed, Conn, Info, Event, Plan, Verdict}
+use Rattle.faults.specs.Names.{ForwardOpen, OpenAnswer, CloseAnswer, Origin, Stores, Fixed, Conn, Info, Event, Verdict}
 
 -- a connection that owns the output at a place
 abbrev pub ownerOf : ℕ → Conn → Bool
@@ -185,7 +185,7 @@ owned u (Calls.ReadAssembly kind n room) s q h = h
 owned u (Calls.NextEvent room) s q h = either-way Owned (isYes (nextEventAnswer room s)) h h
 owned u (Calls.Connections room) s q h = h
 owned u (Calls.Stats room) s q h = h
-owned u (Calls.Message local mask message room) s q h = h
+owned u (Calls.Message local mask message room position) s q h = h
 
 run-owned : (u : Setup) (cs : List Call) (s : State) → Sound u s → Owned s → Owned (run cs s)
 run-owned u [] s q h = h

@@ -5,18 +5,17 @@ use mathlib.Core.List.{List, [], _∷_, _++_, map}
 use mathlib.Core.Option.{Option, none, some}
 use mathlib.Core.Bool.{Bool, true, false, cond, not, _&&_, _||_}
 use Prim.Native.Nat.{ℕ, zero, suc}
-use lib.Dec.{T, eqb, eqb-refl}
+use lib.Dec.{eqb, eqb-refl}
 use lib.ListN.{length}
 use borrow.Author.Tests.{eq-eqb}
 use Rattle.wire_items.specs.Frames.{ioOf}
-use Rattle.wire_opens.specs.declared.Way.{Way}
 use Rattle.wire_opens.specs.Requests.{closeOf}
 use Rattle.wire_opens.specs.declared.OpenAnswer.the-variants.{Open, NoOpen}
 use Rattle.wire_opens.specs.declared.CloseAnswer.the-variants.{Close, NoClose}
 use Rattle.rules.specs.declared.Stream.the-variants.{Joins, Own}
 use Rattle.rules.specs.declared.Verdict.the-variants.{Stopped, Planned}
 use Rattle.rules.specs.declared.Event.the-variants.{Closed, TimedOut}
-use Rattle.rules.specs.Lists.{find, any, keep, changeFirst, withoutFirst, maybe, repeat}
+use Rattle.rules.specs.Lists.{find, any, changeFirst, withoutFirst, maybe, repeat}
 use Rattle.rules.specs.ListLaws
 use Rattle.rules.specs.ListLaws.{T-true, by-cases, clash, either-way, All, and-left, and-right}
 use Rattle.rules.specs.State.{Setup, State, withSent, produces, fixeds, isListener, isInput, isOutput}
@@ -33,7 +32,7 @@ use Rattle.rules.specs.Calls
 use Rattle.rules.specs.Calls.{Call, next, run}
 use Rattle.isolation.specs.Ends.{all-removal, to-id-is, in-stream-is}
 use Rattle.isolation.specs.Seen.{hear-fixed, send-fixed}
-use Rattle.faults.specs.Names.{ToId, Socket, ForwardOpen, OpenAnswer, CloseAnswer, Origin, Fixed, Due, Sent, Conn, Info, Event, Stream, Plan, Verdict}
+use Rattle.faults.specs.Names.{ToId, Socket, ForwardOpen, OpenAnswer, CloseAnswer, Origin, Fixed, Due, Conn, Info, Event, Stream, Plan, Verdict}
 
 -- it sends the stream of that id
 abbrev pub source : ToId → Conn → Bool
@@ -292,7 +291,6 @@ module _ (u : Conn → Conn) (same : (c : Conn) → (u c) .fixed ≡ c .fixed) (
       ListLaws.all-change (Fed m) p u (fed-same m m (λ j. refl) (λ j. refl)) l
       (ListLaws.all-to (Fed l) (Fed m) (λ x k. record { joined = k .joined; feeder = λ y. sym (f (x .fixed .toid)) ∙ k .feeder y; sender = λ y. sym (g (x .fixed .toid)) ∙ k .sender y }) l a)
 
-
 abbrev Kept : State → Type 0
 Kept s = All-fed (s .table)
 
@@ -365,7 +363,7 @@ stays-fed (Calls.ReadAssembly kind n room) s h = h
 stays-fed (Calls.NextEvent room) s h = either-way Kept (isYes (nextEventAnswer room s)) h h
 stays-fed (Calls.Connections room) s h = h
 stays-fed (Calls.Stats room) s h = h
-stays-fed (Calls.Message local mask message room) s h = h
+stays-fed (Calls.Message local mask message room position) s h = h
 
 run-fed : (cs : List Call) (s : State) → Kept s → Kept (run cs s)
 run-fed [] s a = a

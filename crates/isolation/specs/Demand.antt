@@ -2,34 +2,34 @@
 -- address are altered, added or dropped at will. If every expiry call removes the same connections in both runs, then all connections of
 -- other addresses are equal in every field, and so are the answers to opens and closes, the packets produced, and every assembly which
 -- that address never owned.
-use mathlib.Core.Path.{_≡_, refl, sym, _∙_, ap, ap₂, subst}
+use mathlib.Core.Path.{_≡_, refl, sym, _∙_, ap, subst}
 use mathlib.Core.List.{List, [], _∷_, map}
 use mathlib.Core.Option.{Option, none, some}
-use mathlib.Core.Bool.{Bool, true, false, cond, not, _&&_, _||_}
+use mathlib.Core.Bool.{Bool, true, false, not, _&&_}
 use Prim.Native.Nat.{ℕ}
 use lib.Dec.{eqb}
-use lib.ListN.{length, getD}
+use lib.ListN.{getD}
 use borrow.Author.Tests.{eq-eqb}
-use Rattle.rules.specs.Lists.{find, any, keep, maybe, joined}
+use Rattle.rules.specs.Lists.{any, keep, maybe, joined}
 use Rattle.rules.specs.ListLaws
 use Rattle.rules.specs.ListLaws.{by-cases, clash, either-way, All, and-left, and-right, eqb-true}
-use Rattle.rules.specs.State.{Setup, shapeAt, Content, noContent, State, fixeds, isInput, isOutput, isOwner}
+use Rattle.rules.specs.State.{Setup, shapeAt, Content, noContent, State, isOutput, isOwner}
 use Rattle.rules.specs.Answers.{Answer, isYes, settled, fitting, Wrote, timely}
 use Rattle.rules.specs.Setup.{fresh}
 use Rattle.rules.specs.Events.{infoOf, infoRecord}
 use Rattle.rules.specs.Checks.{owns, placeOf}
-use Rattle.rules.specs.Opening.{openAnswer, openEffect, openCall}
-use Rattle.rules.specs.Removal.{closeAnswer, closeEffect, closeCall, expireAnswer, expireEffect, expireCall}
-use Rattle.rules.specs.Receiving.{receiveAnswer, receiveEffect, receiveCall}
-use Rattle.rules.specs.Producing.{produceAnswer, produceEffect, produceCall}
-use Rattle.rules.specs.Host.{read, outputBytes, outputAt, statsBytes, setInputAnswer, setInputEffect, setInputCall, outputRead, outputAnswer, outputEffect, outputCall, nextEventAnswer, nextEventEffect, nextEventCall, connectionBytes, connectionsAnswer, statsAnswer}
+use Rattle.rules.specs.Opening.{openCall}
+use Rattle.rules.specs.Removal.{closeCall, expireAnswer, expireCall}
+use Rattle.rules.specs.Receiving.{receiveAnswer, receiveCall}
+use Rattle.rules.specs.Producing.{produceCall}
+use Rattle.rules.specs.Host.{read, outputBytes, outputAt, statsBytes, setInputCall, outputRead, outputAnswer, outputEffect, outputCall, nextEventAnswer, nextEventCall, connectionBytes, connectionsAnswer, statsAnswer}
 use Rattle.rules.specs.Calls
 use Rattle.rules.specs.Calls.{Call, answer, next, run}
-use Rattle.isolation.specs.Names.{Triad, Fixed, Conn}
-use Rattle.isolation.specs.Contents.{cover, change-alike, change-unseen, content-alike}
+use Rattle.isolation.specs.Names.{Triad, Conn}
+use Rattle.isolation.specs.Contents.{change-alike, change-unseen, content-alike}
 use Rattle.isolation.specs.Survive.{in-table}
 use Rattle.isolation.specs.Seen
-use Rattle.isolation.specs.Seen.{Alike, Covers, Sparing, Feeding, stray, hide, hide-bare, itself, join, back, settled-alike, settled-unseen, map-map}
+use Rattle.isolation.specs.Seen.{Alike, Covers, Sparing, Feeding, stray, hide, hide-bare, itself, join, back, settled-alike, settled-unseen}
 use Rattle.isolation.specs.Expiry.{expire-alike, expire-says-alike}
 use Rattle.isolation.specs.Sound.{Sound, sound, fresh-sound, Owning}
 
@@ -58,7 +58,7 @@ Removes-alike (Calls.ReadAssembly kind n room) s r = Unit {0}
 Removes-alike (Calls.NextEvent room) s r = Unit {0}
 Removes-alike (Calls.Connections room) s r = Unit {0}
 Removes-alike (Calls.Stats room) s r = Unit {0}
-Removes-alike (Calls.Message local mask message room) s r = Unit {0}
+Removes-alike (Calls.Message local mask message room position) s r = Unit {0}
 
 abbrev pub Same-expiries : {A : ℕ} {cs ds : List Call} → Paired A cs ds → State → State → Type 0
 Same-expiries end s r = Unit {0}
@@ -81,7 +81,7 @@ Answered-alike (Calls.ReadAssembly kind n room) s r = Unit {0}
 Answered-alike (Calls.NextEvent room) s r = Unit {0}
 Answered-alike (Calls.Connections room) s r = answer (Calls.Connections room) s ≡ answer (Calls.Connections room) r
 Answered-alike (Calls.Stats room) s r = answer (Calls.Stats room) s ≡ answer (Calls.Stats room) r
-Answered-alike (Calls.Message local mask message room) s r = Unit {0}
+Answered-alike (Calls.Message local mask message room position) s r = Unit {0}
 
 abbrev pub All-answered-alike : {A : ℕ} {cs ds : List Call} → Paired A cs ds → State → State → Type 0
 All-answered-alike end s r = Unit {0}
@@ -164,7 +164,7 @@ module _ (A : ℕ) (o : ℕ → Bool) (u : Setup) (sparing : Sparing o u) where
   expire-call t s r a hs hr c e =
       by-cases (timely t)
       (λ y. let q = expire-alike A o t s r a (hs .distinct) (hr .distinct) c (covers-too s r a c) (rw y at e) in
-      (ap some (expire-says-alike A o t s r a q), rw y q))
+      (expire-says-alike A o t s r a q, rw y q))
       (λ n. (rw n refl, rw n a))
 
   connections-say : (s r : State) → Alike A o s r → connectionBytes s ≡ connectionBytes r
@@ -180,29 +180,29 @@ module _ (A : ℕ) (o : ℕ → Bool) (u : Setup) (sparing : Sparing o u) where
   unfolding openCall closeCall receiveCall produceCall setInputCall nextEventCall connectionsAnswer statsAnswer
   one-call (Calls.Open t service request g room) s r a hs hr c e =
       let x = Seen.open-says-alike A o s r a t service request g room in
-      (ap some x, settled-alike _ _ x (Seen.open-alike A o s r a t service request g) a)
+      (x, settled-alike _ _ x (Seen.open-alike A o s r a t service request g) a)
   one-call (Calls.OpenRefusal service request room) s r a hs hr c e = (refl, a)
   one-call (Calls.Close request room) s r a hs hr c e =
       let x = Seen.close-says-alike A o s r a request room in
-      (ap some x, settled-alike _ _ x (Seen.close-alike A o s r a request) a)
+      (x, settled-alike _ _ x (Seen.close-alike A o s r a request) a)
   one-call (Calls.Receive t from frame) s r a hs hr c e = (refl, receive-call t from frame s r a c)
   one-call (Calls.Produce t room) s r a hs hr c e =
       let x = Seen.produce-says-alike A o s r a (subst (Sparing o) (sym (hs .setup)) sparing) (subst (λ v. All (Feeding v) (s .table)) (sym (hs .setup)) (hs .inputs)) t room in
-      (ap some x, settled-alike _ _ x (Seen.produce-alike A o s r a t) a)
+      (x, settled-alike _ _ x (Seen.produce-alike A o s r a t) a)
   one-call (Calls.Expire t) s r a hs hr c e = expire-call t s r a hs hr c e
   one-call (Calls.Deadline room) s r a hs hr c e = (tt, a)
   one-call (Calls.SetInput n bytes) s r a hs hr c e =
       let x = Seen.set-input-says-alike A o s r a n bytes in
-      (ap some x, settled-alike _ _ x (Seen.set-input-alike A o s r a n bytes) a)
+      (x, settled-alike _ _ x (Seen.set-input-alike A o s r a n bytes) a)
   one-call (Calls.ReadOutput n room) s r a hs hr c e = (tt, read-call n room s r a)
   one-call (Calls.ReadAssembly kind n room) s r a hs hr c e = (tt, a)
   one-call (Calls.NextEvent room) s r a hs hr c e = (
     tt,
     join (settled-unseen (nextEventAnswer room s) (Seen.event-unseen A o s)) (join a (back (settled-unseen (nextEventAnswer room r) (Seen.event-unseen A o r)))),
   )
-  one-call (Calls.Connections room) s r a hs hr c e = (ap (λ b. some (fitting room b (Wrote b))) (connections-say s r a), a)
-  one-call (Calls.Stats room) s r a hs hr c e = (ap (λ n. some (fitting room (statsBytes n) (Wrote (statsBytes n)))) (a .counters), a)
-  one-call (Calls.Message local mask message room) s r a hs hr c e = (tt, a)
+  one-call (Calls.Connections room) s r a hs hr c e = (ap (λ b. fitting room b (Wrote b)) (connections-say s r a), a)
+  one-call (Calls.Stats room) s r a hs hr c e = (ap (λ n. fitting room (statsBytes n) (Wrote (statsBytes n))) (a .counters), a)
+  one-call (Calls.Message local mask message room position) s r a hs hr c e = (tt, a)
 
   -- THE INDUCTION
   independent : {cs ds : List Call} (p : Paired A cs ds) (s r : State) → Alike A o s r → Sound u s → Sound u r → Covered A o cs s → Same-expiries p s r →
@@ -284,3 +284,23 @@ from-sound A u s h {cs} {ds} p e =
 -- DEMAND 3
 pub demand-3 : (A : ℕ) (u : Setup) (seed : ℕ) {cs ds : List Call} (p : Paired A cs ds) → Same-expiries p (fresh u seed) (fresh u seed) → Independent p (fresh u seed)
 demand-3 A u seed p e = from-sound A u (fresh u seed) (fresh-sound u seed) p e
+
+-- an assembly that is no output is never owned: inputs and configuration are equal in both runs
+no-owner : (u : Setup) (A i : ℕ) → isOutput (shapeAt u i .kind) ≡ false → (c : Conn) → Owning u c → owned-by A i c ≡ false
+no-owner u A i n c w =
+    by-cases (owns i (c .fixed))
+    (λ y. let o = w (and-left (isOwner (c .fixed .kind)) (eqb (c .fixed .output) i) y) in
+    let k = eqb-true (c .fixed .output) i (and-right (isOwner (c .fixed .kind)) (eqb (c .fixed .output) i) y) in
+    clash (isOutput (shapeAt u (c .fixed .output) .kind)) o (ap (λ j. isOutput (shapeAt u j .kind)) k ∙ n))
+    (λ y. by-cases (eqb (c .fixed .originator) A) (λ z. cc) (λ z. cc))
+
+no-owners : (u : Setup) (A i : ℕ) → isOutput (shapeAt u i .kind) ≡ false → (l : List Conn) → All (Owning u) l → any (owned-by A i) l ≡ false
+no-owners u A i n l w = ListLaws.none-is (owned-by A i) l (ListLaws.all-to (Owning u) (λ c. owned-by A i c ≡ false) (no-owner u A i n) l w)
+
+never-owned : (u : Setup) (A i : ℕ) → isOutput (shapeAt u i .kind) ≡ false → (cs : List Call) (s : State) → Sound u s → Never-owned A i cs s
+never-owned u A i n [] s h = no-owners u A i n (s .table) (h .outputs)
+never-owned u A i n (c ∷ cs) s h = (no-owners u A i n (s .table) (h .outputs), never-owned u A i n cs (next c s) (sound u c s h))
+
+pub inputs-equal : (A : ℕ) (u : Setup) (seed : ℕ) {cs ds : List Call} (p : Paired A cs ds) → Same-expiries p (fresh u seed) (fresh u seed) →
+    (i : ℕ) → isOutput (shapeAt u i .kind) ≡ false → getD (run cs (fresh u seed) .contents) i noContent ≡ getD (run ds (fresh u seed) .contents) i noContent
+inputs-equal A u seed {cs} p e i n = (demand-3 A u seed p e) .assemblies i (never-owned u A i n cs (fresh u seed) (fresh-sound u seed))

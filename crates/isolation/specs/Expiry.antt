@@ -1,23 +1,23 @@
 -- Expiry on the whole state: its table is the repeated removal's, and the outputs that lose run are those of the expired owners.
-use mathlib.Core.Path.{_≡_, refl, sym, _∙_, ap, ap₂, subst}
-use mathlib.Core.List.{List, [], _∷_, map}
+use mathlib.Core.Path.{_≡_, refl, sym, _∙_, ap, ap₂}
+use mathlib.Core.List.{List, map}
 use mathlib.Core.Option.{Option, none, some}
-use mathlib.Core.Bool.{Bool, true, false, cond, not, _&&_, _||_}
-use Prim.Native.Nat.{ℕ, zero, suc, _+_, _-_, _≤_, _<_}
+use mathlib.Core.Bool.{Bool, true, false, not, _&&_, _||_}
+use Prim.Native.Nat.{ℕ, zero, suc, _-_, _≤_}
 use native.Mathlib.Omega.{arith}
 use lib.Dec.{eqb}
 use lib.ListN.{length}
 use Rattle.rules.specs.declared.Kind.the-variants.{Owner, InputOnly, ListenOnly}
 use Rattle.rules.specs.declared.Event.the-variants.{TimedOut}
-use Rattle.rules.specs.Lists.{find, any, keep, withoutFirst, maybe, repeat}
+use Rattle.rules.specs.Lists.{find, any, withoutFirst, maybe, repeat}
 use Rattle.rules.specs.ListLaws
-use Rattle.rules.specs.ListLaws.{by-cases, clash, either-way, All, and-left, and-right, eqb-true}
-use Rattle.rules.specs.State.{Setup, Content, State, isOwner, isListener}
+use Rattle.rules.specs.ListLaws.{by-cases, clash, and-left, and-right, eqb-true}
+use Rattle.rules.specs.State.{State, isOwner, isListener}
 use Rattle.rules.specs.Answers.{Gone, atTime}
 use Rattle.rules.specs.Checks.{owns}
-use Rattle.rules.specs.Removal.{inStream, feeds, afterRemoval, removeFirst, connTriad, expired, runLost, removed, removedIf, expiredFirst, expireEffect, expireAnswer}
-use Rattle.isolation.specs.Names.{Triad, Kind, Fixed, Sent, Conn}
-use Rattle.isolation.specs.Ends.{Ends, reaches, rehear, all-removal, any-removal, all-ends, length-removal, empty}
+use Rattle.rules.specs.Removal.{afterRemoval, removeFirst, connTriad, expired, removed, removedIf, expiredFirst, expireEffect, expireAnswer}
+use Rattle.isolation.specs.Names.{Triad, Kind, Conn}
+use Rattle.isolation.specs.Ends.{reaches, any-removal, all-ends, length-removal, empty}
 use Rattle.isolation.specs.Survive.{Distinct, in-table, same-left}
 use Rattle.isolation.specs.Contents.{cover, idleBy, idle-none, idle-two, idles-alike, run-lost}
 use Rattle.isolation.specs.Seen.{deaf, hide, hide-bare, stray, Covers, blind-alike, length-alike, Alike}

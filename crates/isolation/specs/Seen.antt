@@ -3,11 +3,10 @@
 use mathlib.Core.Path.{_≡_, refl, sym, _∙_, ap, ap₂, subst}
 use mathlib.Core.List.{List, [], _∷_, _++_, map}
 use mathlib.Core.Option.{Option, none, some}
-use mathlib.Core.Bool.{Bool, true, false, cond, not, _&&_, _||_}
-use Prim.Native.Nat.{ℕ, zero, suc, _+_}
-use native.Mathlib.Omega.{arith}
-use lib.Dec.{T, eqb, leb}
-use lib.ListN.{length, getD, length-map}
+use mathlib.Core.Bool.{Bool, true, false, cond, not, _&&_}
+use Prim.Native.Nat.{ℕ, _+_}
+use lib.Dec.{eqb, leb}
+use lib.ListN.{length, length-map}
 use Rattle.wire_opens.specs.declared.OpenAnswer.the-variants.{Open, NoOpen}
 use Rattle.wire_opens.specs.declared.CloseAnswer.the-variants.{Close, NoClose}
 use Rattle.wire_items.specs.Frames.{ioOf}
@@ -19,19 +18,18 @@ use Rattle.rules.specs.declared.Event.the-variants.{Closed}
 use Rattle.rules.specs.Lists.{find, any, keep, changeFirst, withoutFirst, changeAt, maybe, joined}
 use Rattle.rules.specs.ListLaws
 use Rattle.rules.specs.ListLaws.{by-cases, clash, either-way, of-cond, option-map, All, and-left, and-right, eqb-true}
-use Rattle.rules.specs.State.{Shape, Setup, shapeAt, Content, noContent, Counters, Events, State, withContents, withEvents, fixeds, withSent, isInput, isOutput, isOwner}
-use Rattle.rules.specs.Answers.{Answer, isYes, settled, fitting, atTime, Wrote, Done, Refused}
-use Rattle.rules.specs.Checks.{owns, placeOf, verdict}
-use Rattle.rules.specs.Opening.{stored, opened, newConn, newFixed, newHeard, firstDue, sideAt, verdictOf, planAnswer, planEffect, requestAnswer, requestEffect, requestOf, configBytes, openAnswer, openEffect}
-use Rattle.rules.specs.Removal.{afterRemoval, connTriad, runLost, removed, removedIf, closed, closeFor, closeBy, closeAnswer, closeEffect}
-use Rattle.rules.specs.Receiving.{Frame, meantFor, newer, hasCip, repeats, rightSize, recorded, hear, taken, deliver, delivered, received, frameOf, receiveEffect}
+use Rattle.rules.specs.State.{Setup, shapeAt, Content, State, withContents, fixeds, isInput, isOutput, isOwner}
+use Rattle.rules.specs.Answers.{Answer, isYes, settled, fitting, atTime, Wrote}
+use Rattle.rules.specs.Checks.{owns, placeOf}
+use Rattle.rules.specs.Opening.{stored, opened, newConn, sideAt, verdictOf, planAnswer, planEffect, requestAnswer, requestEffect, requestOf, configBytes, openAnswer, openEffect}
+use Rattle.rules.specs.Removal.{afterRemoval, connTriad, removed, removedIf, closed, closeFor, closeBy, closeAnswer, closeEffect}
+use Rattle.rules.specs.Receiving.{Frame, meantFor, newer, hasCip, repeats, rightSize, hear, taken, deliver, delivered, received, frameOf, receiveEffect}
 use Rattle.rules.specs.Producing
-use Rattle.rules.specs.Producing.{due, dueBy, lateBy, delays, sent, sends, packet, packets, inputBytes, counters, produceAnswer, produceEffect}
-use Rattle.rules.specs.Host.{filled, read, setInputAt, inputSet, setInputAnswer, setInputEffect, outputRead, outputEffect, nextEventEffect, connectionBytes}
-use Rattle.rules.specs.Events.{infoOf, infoRecord}
-use Rattle.isolation.specs.Names.{AssemblyKind, Triad, ForwardOpen, OpenAnswer, CloseAnswer, Origin, Fixed, Heard, Sent, Conn, Info, Event, Stores, Plan, Verdict}
+use Rattle.rules.specs.Producing.{due, lateBy, delays, sent, sends, packet, packets, inputBytes, counters, produceAnswer, produceEffect}
+use Rattle.rules.specs.Host.{filled, inputSet, setInputAnswer, setInputEffect, nextEventEffect}
+use Rattle.isolation.specs.Names.{AssemblyKind, ForwardOpen, OpenAnswer, CloseAnswer, Origin, Fixed, Heard, Conn, Info, Event, Stores, Plan, Verdict}
 use Rattle.isolation.specs.Ends.{rehear, removal-rehear}
-use Rattle.isolation.specs.Contents.{cover, change-alike, change-unseen, content-alike, idleBy, idles-alike, run-lost}
+use Rattle.isolation.specs.Contents.{cover, change-alike, change-unseen, content-alike, idles-alike, run-lost}
 
 -- maps and joins
 pub map-map : {A B C : Type 0} (f : A → B) (g : B → C) (h : A → C) → ((x : A) → g (f x) ≡ h x) → (l : List A) → map g (map f l) ≡ map h l

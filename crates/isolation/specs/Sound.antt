@@ -1,10 +1,9 @@
 -- What every state that the calls reach has: its setup, no triad twice, inputs that are inputs and outputs that are outputs.
-use mathlib.Core.Path.{_≡_, refl, sym, _∙_, ap, ap₂, subst}
+use mathlib.Core.Path.{_≡_, refl, sym, _∙_, ap, subst}
 use mathlib.Core.List.{List, [], _∷_, _++_, map}
 use mathlib.Core.Option.{Option, none, some}
-use mathlib.Core.Bool.{Bool, true, false, cond, not, _&&_, _||_}
+use mathlib.Core.Bool.{Bool, true, false, not}
 use Prim.Native.Nat.{ℕ, zero, suc}
-use lib.Dec.{eqb}
 use lib.ListN.{length}
 use Rattle.wire_items.specs.Frames.{ioOf}
 use Rattle.wire_opens.specs.Requests.{closeOf}
@@ -14,11 +13,11 @@ use Rattle.rules.specs.declared.Verdict.the-variants.{Stopped, Planned}
 use Rattle.rules.specs.declared.Event.the-variants.{Closed, TimedOut}
 use Rattle.rules.specs.Lists.{find, any, keep, changeFirst, withoutFirst, maybe, repeat}
 use Rattle.rules.specs.ListLaws
-use Rattle.rules.specs.ListLaws.{by-cases, clash, either-way, All, and-left, and-right}
-use Rattle.rules.specs.State.{Setup, shapeAt, State, triadIs, fixeds, withSent, isInput, isOutput, isOwner, isListener}
-use Rattle.rules.specs.Answers.{Answer, isYes, settled}
+use Rattle.rules.specs.ListLaws.{by-cases, either-way, All}
+use Rattle.rules.specs.State.{Setup, shapeAt, State, triadIs, fixeds, withSent, isInput, isOutput, isOwner}
+use Rattle.rules.specs.Answers.{isYes}
 use Rattle.rules.specs.Setup.{fresh}
-use Rattle.rules.specs.Checks.{hasTriad, placeOf, planOf, verdict, pathIn}
+use Rattle.rules.specs.Checks.{hasTriad, placeOf, planOf}
 use Rattle.rules.specs.CheckLaws
 use Rattle.rules.specs.Opening.{newConn, newFixed, opened, askedPath, verdictOf, planEffect, requestEffect, requestOf, configBytes, openAnswer, openEffect, openCall}
 use Rattle.rules.specs.Removal.{inStream, handsOn, handedOver, endsStream, afterRemoval, connTriad, removed, removedIf, closed, closeBy, closeAnswer, closeEffect, closeCall, expired, expiredFirst, expireAnswer, expireEffect, expireCall}
@@ -27,7 +26,7 @@ use Rattle.rules.specs.Producing.{sends, produceAnswer, produceEffect, produceC
 use Rattle.rules.specs.Host.{inputSet, setInputAnswer, setInputEffect, setInputCall, outputRead, outputAnswer, outputEffect, outputCall, nextEventAnswer, nextEventEffect, nextEventCall}
 use Rattle.rules.specs.Calls.{Call, next, run}
 use Rattle.rules.specs.Calls
-use Rattle.isolation.specs.Names.{Triad, ForwardOpen, OpenAnswer, CloseAnswer, Origin, Fixed, Sent, Conn, Info, Event, Plan, Verdict}
+use Rattle.isolation.specs.Names.{Triad, ForwardOpen, OpenAnswer, CloseAnswer, Origin, Fixed, Conn, Info, Event, Plan, Verdict}
 use Rattle.isolation.specs.Ends.{all-removal}
 use Rattle.isolation.specs.Survive.{Distinct, triad-of, triad-is-sym}
 use Rattle.isolation.specs.Seen.{Feeding, hear-fixed, send-fixed}
@@ -206,7 +205,7 @@ module _ (u : Setup) where
       either-way (Sound u) (isYes (nextEventAnswer room s)) (record { setup = h .setup; distinct = h .distinct; inputs = h .inputs; outputs = h .outputs }) h
   sound (Calls.Connections room) s h = h
   sound (Calls.Stats room) s h = h
-  sound (Calls.Message local mask message room) s h = h
+  sound (Calls.Message local mask message room position) s h = h
 
   pub fresh-sound : (seed : ℕ) → Sound u (fresh u seed)
   unfolding fresh

@@ -1,17 +1,17 @@
 -- What an open that is accepted has passed, and what its plan names.
-use mathlib.Core.Path.{_≡_, refl, sym, _∙_, ap}
+use mathlib.Core.Path.{_≡_, refl, sym, _∙_}
 use mathlib.Core.List.{List, [], _∷_}
 use mathlib.Core.Option.{Option, none, some}
-use mathlib.Core.Bool.{Bool, true, false, cond, not, _&&_, _||_}
-use Prim.Native.Nat.{ℕ, zero, suc}
+use mathlib.Core.Bool.{Bool, true, false, not, _||_}
+use Prim.Native.Nat.{ℕ, suc}
 use lib.Dec.{eqb}
-use lib.ListN.{length, getD}
+use lib.ListN.{getD}
 use Rattle.wire_opens.specs.declared.ForwardOpen.{ForwardOpen}
 use Rattle.wire_paths.specs.declared.ConnectionPath.{ConnectionPath}
 use Rattle.wire_paths.specs.declared.PathAnswer.{PathAnswer}
 use Rattle.rules.specs.Lists.{place, any, maybe, isSome}
-use Rattle.rules.specs.ListLaws.{by-cases, clash, and-left, and-right, All}
-use Rattle.rules.specs.State.{AssemblyKind, isInput, isOutput, isConfig, Kind, isOwner, isListener, Fixed, Identity, Shape, noShape, Setup, shapeAt, Stop, Stream, Plan, Verdict, Stopped, Planned}
+use Rattle.rules.specs.ListLaws.{by-cases, clash, and-left, All}
+use Rattle.rules.specs.State.{AssemblyKind, isInput, isOutput, isOwner, Fixed, noShape, Setup, shapeAt, Stop, Plan, Stopped, Planned}
 use Rattle.rules.specs.Checks
 
 pub must-none : (b : Bool) (s : Stop) → Checks.must b s ≡ none → b ≡ true
@@ -55,22 +55,24 @@ pub passed : (u : Setup) (table : List Fixed) (o : ForwardOpen) (answer : PathAn
 unfolding Checks.verdict
 passed u table o answer p e =
     let x = planned-is (Checks.firstStop (Checks.checks u table o answer)) (Checks.planOf u table o (Checks.pathIn answer)) p e in
-    let a = first-none (Checks.checks u table o answer) (x .0) in
-    (record {
-      transport = a .0;
-      path = a .1 .0;
-      key = a .1 .1 .0;
-      points = a .1 .1 .1 .0;
-      config = a .1 .1 .1 .1 .0;
-      rpi = a .1 .1 .1 .1 .1 .0;
-      type = a .1 .1 .1 .1 .1 .1 .0;
-      ot-size = a .1 .1 .1 .1 .1 .1 .1 .0;
-      to-size = a .1 .1 .1 .1 .1 .1 .1 .1 .0;
-      triad = a .1 .1 .1 .1 .1 .1 .1 .1 .1 .0;
-      owner = a .1 .1 .1 .1 .1 .1 .1 .1 .1 .1 .0;
-      stream = a .1 .1 .1 .1 .1 .1 .1 .1 .1 .1 .1 .0;
-      room = a .1 .1 .1 .1 .1 .1 .1 .1 .1 .1 .1 .1 .0;
-    }, x .1)
+    let a = first-none (Checks.checks u table o answer) (x .0) in (
+      record {
+        transport = a .0;
+        path = a .1 .0;
+        key = a .1 .1 .0;
+        points = a .1 .1 .1 .0;
+        config = a .1 .1 .1 .1 .0;
+        rpi = a .1 .1 .1 .1 .1 .0;
+        type = a .1 .1 .1 .1 .1 .1 .0;
+        ot-size = a .1 .1 .1 .1 .1 .1 .1 .0;
+        to-size = a .1 .1 .1 .1 .1 .1 .1 .1 .0;
+        triad = a .1 .1 .1 .1 .1 .1 .1 .1 .1 .0;
+        owner = a .1 .1 .1 .1 .1 .1 .1 .1 .1 .1 .0;
+        stream = a .1 .1 .1 .1 .1 .1 .1 .1 .1 .1 .1 .0;
+        room = a .1 .1 .1 .1 .1 .1 .1 .1 .1 .1 .1 .1 .0;
+      },
+      x .1,
+    )
 
 -- what is at the place that was found
 place-next : (x : Option ℕ) → isSome (maybe none (λ i. some (suc i)) x) ≡ isSome x

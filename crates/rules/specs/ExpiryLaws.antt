@@ -1,16 +1,15 @@
 -- Expiry in document 01's own words, and that the kept time says the same.
-use mathlib.Core.Path.{_≡_, refl, sym, _∙_, ap}
-use mathlib.Core.Bool.{Bool, true, false}
-use Prim.Native.Nat.{ℕ, _+_, _-_, _≤_, _<_}
+use mathlib.Core.Path.{_≡_, sym, _∙_}
+use mathlib.Core.Bool.{Bool, true}
+use Prim.Native.Nat.{ℕ, _+_, _-_}
 use native.Mathlib.Omega.{arith}
 use lib.Dec.{ltb}
 use borrow.Author.Tests.{ltb-true, ltb-false, lt-ltb, le-ltb}
 use Rattle.wire_opens.specs.declared.ForwardOpen.{ForwardOpen}
-use Rattle.wire_opens.specs.declared.Way.{Way}
 use Rattle.wire_opens.specs.Timeout.{timeoutOf}
 use Rattle.rules.specs.ListLaws.{by-cases}
-use Rattle.rules.specs.State.{Fixed, Heard, Conn, Origin, Plan}
-use Rattle.rules.specs.Opening.{newFixed, newHeard, newConn}
+use Rattle.rules.specs.State.{Conn, Origin, Plan}
+use Rattle.rules.specs.Opening.{newHeard, newConn}
 use Rattle.rules.specs.Removal.{expired}
 use Rattle.rules.specs.Receiving.{Frame, newer, recorded, hear}
 

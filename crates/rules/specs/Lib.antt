@@ -3,7 +3,6 @@ pub mod State
 pub mod Answers
 pub mod Setup
 pub mod Events
-pub mod Replies
 pub mod Checks
 pub mod Opening
 pub mod Removal
