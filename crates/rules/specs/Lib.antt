@@ -9,6 +9,7 @@ pub mod Removal
 pub mod Receiving
 pub mod Producing
 pub mod Host
+pub mod Routing
 pub mod Calls
 pub mod Examples
 pub mod ListLaws
@@ -22,3 +23,4 @@ pub mod UploadLaws
 pub mod UploadMessages
 pub mod ReplyLaws
 pub mod ObjectExamples
+pub mod RoutingExamples
