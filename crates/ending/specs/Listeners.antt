@@ -188,6 +188,12 @@ fewer-dropped r s₀ s s′ a d = record { ready = d .ready; fewer = let p = a .
 abbrev pub feeder : Kind → Bool → Bool
 feeder k multicast = multicast && not (isListener k)
 
+pub feeder-not : (k : Kind) (multicast : Bool) → multicast ≡ false → false ≡ feeder k multicast
+feeder-not k multicast e = ap (λ (m : Bool). m && not (isListener k)) (sym e)
+
+pub feeder-is : (k k′ : Kind) (multicast : Bool) → multicast ≡ true → k ≡ k′ → not (isListener k′) ≡ feeder k multicast
+feeder-is k k′ multicast em ek = λ j. sym em j && not (isListener (sym ek j))
+
 abbrev pub endsFor : Kind → Bool → ToId → List Conn → Bool
 endsFor k multicast id rest = ((multicast && eqb (id .0) (id .0)) && not (isListener k)) && not (any (feeds id) rest)
 

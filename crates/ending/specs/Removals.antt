@@ -22,6 +22,7 @@ use Rattle.layout.specs.Places.{tableIn}
 use Rattle.layout.specs.Rows.{decConn, decFixed, decSent}
 use Rattle.image.specs.Updates.{noConn}
 use Rattle.image.specs.Holds.{Held}
+use Rattle.image.specs.Kept.{Kept}
 use Rattle.image.specs.Changes.{rowGone}
 use Rattle.image.specs.Searches.{find-at, without-at}
 use Rattle.ending.specs.declared.Found.{Found}
@@ -34,6 +35,19 @@ use Rattle.ending.specs.Listeners.{ended}
 -- what follows when a connection's row has gone: f and x are what it said
 abbrev pub without-it : ℕ → Fixed → Sent → State → State
 without-it what f x st = told what f (idled (f .kind) (f .output) (ended (f .kind) (f .multicast) (f .toid) (handed (f .multicast) (f .toid) x st)))
+
+module _ (s s₁ s₂ s₃ s₄ : List ℕ) where
+  pub follows : (what : ℕ) (f : Fixed) (x : Sent) → Turns s s₁ (handed (f .multicast) (f .toid) x) → Turns s₁ s₂ (ended (f .kind) (f .multicast) (f .toid))
+      → Turns s₂ s₃ (idled (f .kind) (f .output)) → Turns s₃ s₄ (told what f) → Turns s s₄ (without-it what f x)
+  follows what f x a b c d st l o =
+      let st₁ : State = handed (f .multicast) (f .toid) x st in
+      let st₂ : State = ended (f .kind) (f .multicast) (f .toid) st₁ in
+      d (idled (f .kind) (f .output) st₂) l (c st₂ l (b st₁ l (a st l o)))
+
+  pub fewer-follows : Kept (le 2 s 224) s s₁ → Fewer s₁ s₂ → Kept (le 2 s₂ 224) s₂ s₃ → Kept (le 2 s₃ 224) s₃ s₄ → Fewer s s₄
+  fewer-follows a b c d =
+      let p = a .conns in let q = b .fewer in let r = c .conns in let u = d .conns in
+      record { ready = d .ready; fewer = omega arith }
 
 -- the connection at a place removed, and told as `what`
 abbrev pub goneAt : ℕ → ℕ → State → State

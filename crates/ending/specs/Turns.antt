@@ -20,6 +20,8 @@ use Rattle.layout.specs.Setups.{setupFrom}
 use Rattle.layout.specs.Rows.{decConn}
 use Rattle.image.specs.Image.{store}
 use Rattle.image.specs.Fits.{Suits}
+use Rattle.image.specs.StoreLaws.{length-setupIn}
+use Rattle.image.specs.TestLaws.{assemblies-in}
 use Rattle.image.specs.Updates.{noConn}
 use Rattle.image.specs.Holds.{Holds, Held, Ready, Becomes, BecomesHeld, conns-held, setup-held, table-held, conn-held}
 use Rattle.image.specs.Kept.{Kept, length-without, suits-removed}
@@ -87,6 +89,12 @@ sets-whole l bs e =
     sets-eq bs l 0 (omega arith)
     ∙ ap (λ (z : List ℕ). bs ++ z) (drop-of-length-le l {i = 0 + length bs} (omega arith))
     ∙ append-nil bs
+
+-- what the record's writer asks of the setup's region
+pub setup-ready : (s : List ℕ) → Ready s → (le 1 (setupIn s) 0 ≤ 16) × (192 ≤ length (setupIn s))
+setup-ready s r =
+    let e = assemblies-in s in let a = r .assemblies in let n = length-setupIn s (r .long) in
+    (omega arith, omega arith)
 
 pub turn-told : (s s′ e : List ℕ) (what : ℕ) (f : Fixed) (i : Info) → i ≡ infoOf (setupFrom (setupIn s) []) f → e ≡ infoRecord what i
     → Becomes s s′ (eventPushed e) → Turns s s′ (told what f)
