@@ -1,1 +1,4 @@
 pub mod Names
+pub mod Bounds
+pub mod RunBit
+pub mod Streams

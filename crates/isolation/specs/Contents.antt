@@ -1,13 +1,13 @@
 -- What the assemblies hold, with those at some places covered, and with those at some places idle.
 use mathlib.Core.Path.{_≡_, refl, sym, _∙_, ap, ap₂}
 use mathlib.Core.List.{List, [], _∷_}
-use mathlib.Core.Bool.{Bool, true, false, cond, _&&_, _||_}
+use mathlib.Core.Bool.{Bool, true, false, cond, _||_}
 use Prim.Native.Nat.{ℕ, zero, suc}
 use lib.Dec.{eqb, eqb·zero-suc, eqb·suc-zero, eqb·suc-suc}
 use lib.ListN.{getD}
 use borrow.Author.Tests.{eq-eqb}
 use Rattle.rules.specs.Lists.{changeAt}
-use Rattle.rules.specs.ListLaws.{by-cases, clash}
+use Rattle.rules.specs.ListLaws.{by-cases}
 use Rattle.rules.specs.State.{Content, noContent, isOwner}
 use Rattle.rules.specs.Checks.{owns}
 use Rattle.rules.specs.Removal.{idle, runLost}

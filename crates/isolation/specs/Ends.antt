@@ -1,13 +1,13 @@
 -- Removal repeated until none is left that passes a test, as a relation, and its laws.
-use mathlib.Core.Path.{_≡_, refl, sym, _∙_, ap, subst}
-use mathlib.Core.List.{List, [], _∷_, _++_, map}
+use mathlib.Core.Path.{_≡_, refl, sym, _∙_, ap}
+use mathlib.Core.List.{List, [], _∷_, map}
 use mathlib.Core.Option.{Option, none, some}
-use mathlib.Core.Bool.{Bool, true, false, cond, not, _&&_, _||_}
-use Prim.Native.Nat.{ℕ, zero, suc, _≤_, _<_}
+use mathlib.Core.Bool.{Bool, true, false, not, _&&_, _||_}
+use Prim.Native.Nat.{ℕ, zero, suc, _≤_}
 use native.Mathlib.Omega.{arith}
 use lib.Dec.{eqb}
 use lib.ListN.{length}
-use Rattle.rules.specs.Lists.{find, any, keep, changeFirst, withoutFirst, maybe, repeat}
+use Rattle.rules.specs.Lists.{find, any, keep, withoutFirst, repeat}
 use Rattle.rules.specs.ListLaws
 use Rattle.rules.specs.ListLaws.{by-cases, clash, either-way, of-cond, All, and-left, and-right, eqb-true}
 use Rattle.rules.specs.State.{withSent, isListener}

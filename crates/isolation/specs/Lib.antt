@@ -3,3 +3,7 @@ pub mod Ends
 pub mod Survive
 pub mod Contents
 pub mod Seen
+pub mod Expiry
+pub mod Sound
+pub mod Demand
+pub mod Examples

@@ -3,34 +3,33 @@
 use mathlib.Core.Path.{_≡_, refl, sym, _∙_, ap, ap₂, subst}
 use mathlib.Core.List.{List, [], _∷_, _++_, map}
 use mathlib.Core.Option.{Option, none, some}
-use mathlib.Core.Bool.{Bool, true, false, cond, not, _&&_, _||_}
-use Prim.Native.Nat.{ℕ, zero, suc, _+_}
-use native.Mathlib.Omega.{arith}
-use lib.Dec.{T, eqb, leb}
-use lib.ListN.{length, getD, length-map}
+use mathlib.Core.Bool.{Bool, true, false, cond, not, _&&_}
+use Prim.Native.Nat.{ℕ, _+_}
+use lib.Dec.{eqb, leb}
+use lib.ListN.{length, length-map}
 use Rattle.wire_opens.specs.declared.OpenAnswer.the-variants.{Open, NoOpen}
 use Rattle.wire_opens.specs.declared.CloseAnswer.the-variants.{Close, NoClose}
 use Rattle.wire_items.specs.Frames.{ioOf}
 use Rattle.wire_opens.specs.Requests.{closeOf}
+use Rattle.rules.specs.declared.AssemblyKind.the-variants.{Input, Output, Config}
 use Rattle.rules.specs.declared.Stores.the-variants.{Nothing, Into}
 use Rattle.rules.specs.declared.Verdict.the-variants.{Stopped, Planned}
 use Rattle.rules.specs.declared.Event.the-variants.{Closed}
 use Rattle.rules.specs.Lists.{find, any, keep, changeFirst, withoutFirst, changeAt, maybe, joined}
 use Rattle.rules.specs.ListLaws
 use Rattle.rules.specs.ListLaws.{by-cases, clash, either-way, of-cond, option-map, All, and-left, and-right, eqb-true}
-use Rattle.rules.specs.State.{Shape, Setup, shapeAt, Content, noContent, Counters, Events, State, withContents, withEvents, fixeds, withSent, isInput, isOutput, isOwner}
-use Rattle.rules.specs.Answers.{Answer, isYes, settled, fitting, atTime, Wrote, Done, Refused}
-use Rattle.rules.specs.Checks.{owns, placeOf, verdict}
-use Rattle.rules.specs.Opening.{stored, opened, newConn, newFixed, newHeard, firstDue, sideAt, verdictOf, planAnswer, planEffect, requestAnswer, requestEffect, requestOf, configBytes, openAnswer, openEffect}
-use Rattle.rules.specs.Removal.{afterRemoval, connTriad, runLost, removed, removedIf, closed, closeFor, closeBy, closeAnswer, closeEffect}
-use Rattle.rules.specs.Receiving.{Frame, meantFor, newer, hasCip, repeats, rightSize, recorded, hear, taken, deliver, delivered, received, frameOf, receiveEffect}
+use Rattle.rules.specs.State.{Setup, shapeAt, Content, State, withContents, fixeds, isInput, isOutput, isOwner}
+use Rattle.rules.specs.Answers.{Answer, isYes, settled, fitting, atTime, Wrote}
+use Rattle.rules.specs.Checks.{owns, placeOf}
+use Rattle.rules.specs.Opening.{stored, opened, newConn, sideAt, verdictOf, planAnswer, planEffect, requestAnswer, requestEffect, requestOf, configBytes, openAnswer, openEffect}
+use Rattle.rules.specs.Removal.{afterRemoval, connTriad, removed, removedIf, closed, closeFor, closeBy, closeAnswer, closeEffect}
+use Rattle.rules.specs.Receiving.{Frame, meantFor, newer, hasCip, repeats, rightSize, hear, taken, deliver, delivered, received, frameOf, receiveEffect}
 use Rattle.rules.specs.Producing
-use Rattle.rules.specs.Producing.{due, dueBy, lateBy, delays, sent, sends, packet, packets, inputBytes, counters, produceAnswer, produceEffect}
-use Rattle.rules.specs.Host.{filled, read, setInputAt, inputSet, setInputAnswer, setInputEffect, outputRead, outputEffect, nextEventEffect, connectionBytes}
-use Rattle.rules.specs.Events.{infoOf, infoRecord}
-use Rattle.isolation.specs.Names.{Triad, ForwardOpen, OpenAnswer, CloseAnswer, Origin, Fixed, Heard, Sent, Conn, Info, Event, Stores, Plan, Verdict}
+use Rattle.rules.specs.Producing.{due, lateBy, delays, sent, sends, packet, packets, inputBytes, counters, produceAnswer, produceEffect}
+use Rattle.rules.specs.Host.{filled, inputSet, setInputAnswer, setInputEffect, nextEventEffect}
+use Rattle.isolation.specs.Names.{AssemblyKind, ForwardOpen, OpenAnswer, CloseAnswer, Origin, Fixed, Heard, Conn, Info, Event, Stores, Plan, Verdict}
 use Rattle.isolation.specs.Ends.{rehear, removal-rehear}
-use Rattle.isolation.specs.Contents.{cover, change-alike, change-unseen, content-alike, idleBy, idles-alike, run-lost}
+use Rattle.isolation.specs.Contents.{cover, change-alike, change-unseen, content-alike, idles-alike, run-lost}
 
 -- maps and joins
 pub map-map : {A B C : Type 0} (f : A → B) (g : B → C) (h : A → C) → ((x : A) → g (f x) ≡ h x) → (l : List A) → map g (map f l) ≡ map h l
@@ -45,7 +44,7 @@ joined-same : {A B : Type 0} (f g : A → List B) (l : List A) → All (λ x. f 
 joined-same f g [] a = refl
 joined-same f g (x ∷ xs) a = cc (a .0, joined-same f g xs (a .1))
 
-joined-map : {A B : Type 0} (h : A → A) (f : A → List B) → ((x : A) → f (h x) ≡ f x) → (l : List A) → joined f (map h l) ≡ joined f l
+pub joined-map : {A B : Type 0} (h : A → A) (f : A → List B) → ((x : A) → f (h x) ≡ f x) → (l : List A) → joined f (map h l) ≡ joined f l
 joined-map h f e [] = refl
 joined-map h f e (x ∷ xs) = cc (e x, joined-map h f e xs)
 
@@ -121,6 +120,17 @@ back a = record { setup = sym (a .setup); contents = sym (a .contents); table = 
 -- what is left by calls that answer alike
 pub settled-alike : {A : ℕ} {o : ℕ → Bool} {s t s′ t′ : State} (a b : Answer) → a ≡ b → Alike A o s′ t′ → Alike A o s t → Alike A o (settled a s′ s .1) (settled b t′ t .1)
 settled-alike a b e r q = by-cases (isYes b) (λ y. let x : isYes a ≡ true = ap isYes e ∙ y in rw (x, y) r) (λ y. let x : isYes a ≡ false = ap isYes e ∙ y in rw (x, y) q)
+
+-- an input is no output
+pub input-no-output : (k : AssemblyKind) → isInput k ≡ true → isOutput k ≡ false
+input-no-output Input e = refl
+input-no-output Output e = sym e
+input-no-output Config e = refl
+
+-- an event that is read is not seen
+pub event-unseen : (A : ℕ) (o : ℕ → Bool) (s : State) → Alike A o (nextEventEffect s) s
+unfolding nextEventEffect
+event-unseen A o s = record { setup = refl; contents = refl; table = refl; nextId = refl; counters = refl }
 
 -- what is left by a call that changes nothing to be seen
 pub settled-unseen : {A : ℕ} {o : ℕ → Bool} {s s′ : State} (a : Answer) → Alike A o s′ s → Alike A o (settled a s′ s .1) s
@@ -283,10 +293,6 @@ module _ (A : ℕ) (o : ℕ → Bool) (s t : State) (r : Alike A o s t) where
       subst (λ x. Alike A o (inputSet bytes s x) (inputSet bytes t (placeOf isInput (t .setup) n))) (sym (ap (λ u. placeOf isInput u n) (r .setup)))
       (input-set-alike bytes (placeOf isInput (t .setup) n))
 
-  pub event-alike : Alike A o (nextEventEffect s) (nextEventEffect t)
-  unfolding nextEventEffect
-  event-alike = record { setup = r .setup; contents = r .contents; table = r .table; nextId = r .nextId; counters = r .counters }
-
   -- RECEIVE, from another address
   module _ (now from : ℕ) (f : Frame) (other : eqb from A ≡ false) where
     meant-other : (c : Conn) → meantFor from f c ≡ true → eqb (c .fixed .originator) A ≡ false
@@ -332,6 +338,14 @@ module _ (A : ℕ) (o : ℕ → Bool) (s t : State) (r : Alike A o s t) where
   unfolding receiveEffect
   receive-alike now from bytes n = frame-alike now from n (frameOf bytes (ioOf bytes))
 
+-- a frame's data is taken of an owner only
+pub taken-owner : (u : Setup) (f : Frame) (c : Conn) → taken u f c ≡ true → isOwner (c .fixed .kind) ≡ true
+unfolding taken
+taken-owner u f c e =
+    let a = and-left (newer (c .heard) (f .sequence) && hasCip f c && not (repeats f (c .heard))) (rightSize u f (c .fixed)) e in
+    let b = and-right (newer (c .heard) (f .sequence)) (hasCip f c) (and-left (newer (c .heard) (f .sequence) && hasCip f c) (not (repeats f (c .heard))) a) in
+    and-left (isOwner (c .fixed .kind)) (leb 2 (length (f .payload))) b
+
 -- RECEIVE, from that address: nothing to be seen
 module _ (A : ℕ) (o : ℕ → Bool) (now from : ℕ) (that : eqb from A ≡ true) (s : State) (covers : Covers A o (s .table)) where
   module _ (f : Frame) where
@@ -342,18 +356,11 @@ module _ (A : ℕ) (o : ℕ → Bool) (now from : ℕ) (that : eqb from A ≡ tr
     unfolding hear
     hear-unseen c e = let m = meant-that c e in either-way (λ x. hide A x ≡ hide A c) (newer (c .heard) (f .sequence)) (rw m refl) refl
 
-    taken-owner : (c : Conn) → taken (s .setup) f c ≡ true → isOwner (c .fixed .kind) ≡ true
-    unfolding taken
-    taken-owner c e =
-        let a = and-left (newer (c .heard) (f .sequence) && hasCip f c && not (repeats f (c .heard))) (rightSize (s .setup) f (c .fixed)) e in
-        let b = and-right (newer (c .heard) (f .sequence)) (hasCip f c) (and-left (newer (c .heard) (f .sequence) && hasCip f c) (not (repeats f (c .heard))) a) in
-        and-left (isOwner (c .fixed .kind)) (leb 2 (length (f .payload))) b
-
     delivered-unseen : (c : Conn) → meantFor from f c ≡ true → stray A o c ≡ false → cover o (delivered (s .setup) f c (s .contents)) ≡ cover o (s .contents)
     delivered-unseen c m n =
         by-cases (taken (s .setup) f c)
         (λ e. let a = meant-that c m in
-        let b = taken-owner c e in
+        let b = taken-owner (s .setup) f c e in
         let k : o (c .fixed .output) ≡ true = by-cases (o (c .fixed .output)) (λ y. y) (λ y. clash true refl (cc)) in
         rw e (change-unseen o (c .fixed .output) (deliver f) (s .contents) k))
         (λ e. rw e refl)

@@ -1,20 +1,16 @@
 -- Which connections are left decides all the rest: an expiry comes to the same table as one that removes exactly the connections
 -- that are not left, among those of the streams that are left.
 use mathlib.Core.Path.{_≡_, refl, sym, _∙_, ap, subst, subst₂, fun-ext}
-use mathlib.Core.List.{List, [], _∷_, _++_, map}
-use mathlib.Core.Option.{Option, none, some}
-use mathlib.Core.Bool.{Bool, true, false, cond, not, _&&_, _||_}
-use Prim.Native.Nat.{ℕ, zero, suc, _≤_, _<_}
-use native.Mathlib.Omega.{arith}
-use lib.Dec.{T, eqb, eqb-refl}
-use lib.ListN.{length}
-use Rattle.rules.specs.Lists.{find, any, keep, changeFirst, withoutFirst, maybe}
+use mathlib.Core.List.{List, [], _∷_, map}
+use mathlib.Core.Bool.{Bool, true, false, not, _&&_}
+use lib.Dec.{eqb, eqb-refl}
+use Rattle.rules.specs.Lists.{find, any, keep, maybe}
 use Rattle.rules.specs.ListLaws
-use Rattle.rules.specs.ListLaws.{by-cases, clash, either-way, of-cond, All, and-left, and-right, eqb-true, T-true}
-use Rattle.rules.specs.State.{triadIs, withSent, isListener}
+use Rattle.rules.specs.ListLaws.{by-cases, clash, All, and-left, and-right, eqb-true, T-true}
+use Rattle.rules.specs.State.{triadIs, withSent}
 use Rattle.isolation.specs.Names.{ToId, Triad, Fixed, Heard, Sent, Conn}
-use Rattle.rules.specs.Removal.{inStream, feeds, handsOn, handedOver, endsStream, withoutListeners, afterRemoval, removeFirst, connTriad}
-use Rattle.isolation.specs.Ends.{Ends, done, step, one-end, Blind, all-removal, all-ends, back-ends, outside, keep-ends, same-test, rehear, ends-rehear}
+use Rattle.rules.specs.Removal.{inStream, connTriad}
+use Rattle.isolation.specs.Ends.{Ends, done, step, one-end, all-ends, back-ends, outside, keep-ends, same-test, rehear, ends-rehear}
 
 pub triad-is-true : (a b : Triad) → triadIs a b ≡ true → a ≡ b
 triad-is-true a b e =

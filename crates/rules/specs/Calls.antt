@@ -1,6 +1,5 @@
 -- The public calls on a state that is set up, and runs of them. A time is in microseconds, `room` the length of the lent output.
 use mathlib.Core.List.{List, [], _∷_}
-use mathlib.Core.Option.{Option, none, some}
 use Prim.Native.Nat.{ℕ}
 use Rattle.rules.specs.State.{Origin, State}
 use Rattle.rules.specs.Answers.{Answer}
@@ -8,6 +7,8 @@ use Rattle.rules.specs.Opening.{openCall, refusalAnswer}
 use Rattle.rules.specs.Removal.{closeCall, expireCall, deadlineAnswer}
 use Rattle.rules.specs.Receiving.{receiveCall}
 use Rattle.rules.specs.Producing.{produceCall}
+use Rattle.rules.specs.Upload.{Upload}
+use Rattle.rules.specs.Message.{messageAnswer}
 use Rattle.rules.specs.Host.{setInputCall, outputCall, assemblyAnswer, nextEventCall, connectionsAnswer, statsAnswer}
 
 pub data Call : Type 0 where
@@ -24,26 +25,26 @@ pub data Call : Type 0 where
   NextEvent : (room : ℕ) → Call
   Connections : (room : ℕ) → Call
   Stats : (room : ℕ) → Call
-  Message : (local mask : ℕ) (message : List ℕ) (room : ℕ) → Call
+  Message : (local mask : ℕ) (message : List ℕ) (room : ℕ) (position : Upload) → Call
 
--- what a call answers; a message is answered by the objects, from the state, the upload position and the message
-abbrev pub answer : Call → State → Option Answer
-answer (Open t service request g room) st = some (openCall t service request g room st .0)
-answer (OpenRefusal service request room) st = some (refusalAnswer service request room)
-answer (Close request room) st = some (closeCall request room st .0)
-answer (Receive t from frame) st = some (receiveCall t from frame st .0)
-answer (Produce t room) st = some (produceCall t room st .0)
-answer (Expire t) st = some (expireCall t st .0)
-answer (Deadline room) st = some (deadlineAnswer room st)
-answer (SetInput n bytes) st = some (setInputCall n bytes st .0)
-answer (ReadOutput n room) st = some (outputCall n room st .0)
-answer (ReadAssembly kind n room) st = some (assemblyAnswer kind n room st)
-answer (NextEvent room) st = some (nextEventCall room st .0)
-answer (Connections room) st = some (connectionsAnswer room st)
-answer (Stats room) st = some (statsAnswer room st)
-answer (Message local mask message room) st = none
+-- what a call answers
+abbrev pub answer : Call → State → Answer
+answer (Open t service request g room) st = openCall t service request g room st .0
+answer (OpenRefusal service request room) st = refusalAnswer service request room
+answer (Close request room) st = closeCall request room st .0
+answer (Receive t from frame) st = receiveCall t from frame st .0
+answer (Produce t room) st = produceCall t room st .0
+answer (Expire t) st = expireCall t st .0
+answer (Deadline room) st = deadlineAnswer room st
+answer (SetInput n bytes) st = setInputCall n bytes st .0
+answer (ReadOutput n room) st = outputCall n room st .0
+answer (ReadAssembly kind n room) st = assemblyAnswer kind n room st
+answer (NextEvent room) st = nextEventCall room st .0
+answer (Connections room) st = connectionsAnswer room st
+answer (Stats room) st = statsAnswer room st
+answer (Message local mask message room position) st = messageAnswer local mask message room st position
 
--- the state that a call leaves; a message leaves the state as it was
+-- the state that a call leaves; a message changes the session's upload position only
 abbrev pub next : Call → State → State
 next (Open t service request g room) st = openCall t service request g room st .1
 next (OpenRefusal service request room) st = st
@@ -58,7 +59,7 @@ next (ReadAssembly kind n room) st = st
 next (NextEvent room) st = nextEventCall room st .1
 next (Connections room) st = st
 next (Stats room) st = st
-next (Message local mask message room) st = st
+next (Message local mask message room position) st = st
 
 -- a day's calls, one after the other
 abbrev pub run : List Call → State → State

@@ -8,7 +8,6 @@ use lib.ListN.{length}
 use Rattle.wire_opens.specs.declared.NetType.{NetType}
 use Rattle.wire_opens.specs.declared.NetType.the-variants.{Null, Multicast, PointToPoint, Reserved}
 use Rattle.wire_opens.specs.declared.NetParams.{NetParams}
-use Rattle.wire_opens.specs.declared.Way.{Way}
 use Rattle.wire_opens.specs.declared.ForwardOpen.{ForwardOpen}
 use Rattle.wire_opens.specs.Transport.{transportOk, compatibleBit, majorOf}
 use Rattle.wire_paths.specs.declared.Key.{Key}
@@ -17,16 +16,16 @@ use Rattle.wire_paths.specs.declared.PathAnswer.{PathAnswer}
 use Rattle.wire_paths.specs.declared.PathAnswer.the-variants.{Parsed, Unparsed}
 use Rattle.wire_paths.specs.ConnectionPath.{noKey}
 use Rattle.rules.specs.Lists.{find, place, any, maybe, isSome}
-use Rattle.rules.specs.State.{AssemblyKind, isInput, isOutput, isConfig, Kind, Owner, InputOnly, ListenOnly, isOwner, isListener, Triad, triadIs, Socket, Fixed, Identity, Shape, Setup, shapeAt, Stop, Stream, Joins, Own, Stores, Nothing, Into, Plan, Verdict, Stopped, Planned}
+use Rattle.rules.specs.State.{AssemblyKind, isInput, isOutput, isConfig, Kind, Owner, InputOnly, ListenOnly, isOwner, isListener, Triad, triadIs, Fixed, Identity, Shape, Setup, shapeAt, Stop, Stream, Joins, Own, Stores, Nothing, Into, Plan, Verdict, Stopped, Planned}
 use Rattle.rules.specs.Answers
 
 -- a check that holds says nothing; one that does not says what stops the open
-abbrev pub must : Bool → Stop → Option Stop
+unfoldable pub must : Bool → Stop → Option Stop
 must true s = none
 must false s = some s
 
 -- the first of two that does not hold
-abbrev pub andThen : Option Stop → Option Stop → Option Stop
+unfoldable pub andThen : Option Stop → Option Stop → Option Stop
 andThen none b = b
 andThen (some s) b = some s
 

@@ -1,12 +1,12 @@
 -- Events: their records, and the list that keeps them.
 use mathlib.Core.List.{List, [], _∷_, _++_}
-use mathlib.Core.Bool.{Bool, true, false, cond}
+use mathlib.Core.Bool.{cond}
 use Prim.Native.Nat.{ℕ, _+_, _%_}
 use lib.Dec.{ltb}
 use lib.ListN.{length, drop, replicate}
 use Rattle.cells.specs.Numbers.{bytesLe}
 use Rattle.cells.specs.Records.{ofBool}
-use Rattle.rules.specs.State.{Kind, Owner, InputOnly, ListenOnly, Fixed, Info, Event, Opened, Closed, TimedOut, Configured, OutputChanged, Setup, Shape, shapeAt, Events, State, isOwner}
+use Rattle.rules.specs.State.{Kind, Owner, InputOnly, ListenOnly, Fixed, Info, Event, Opened, Closed, TimedOut, Configured, OutputChanged, Setup, shapeAt, Events, isOwner}
 
 -- what the host is told of a connection
 unfoldable pub infoOf : Setup → Fixed → Info
@@ -59,6 +59,6 @@ appended e es = record { gone = es .gone; waiting = es .waiting ++ (e ∷ []) }
 unfoldable pub pushed : Event → Events → Events
 pushed e es = appended (eventRecord e) (cond (ltb (length (es .waiting)) maxEvents) es (oldestGone es))
 
-abbrev pub pushedAll : List Event → Events → Events
+unfoldable pub pushedAll : List Event → Events → Events
 pushedAll [] es = es
 pushedAll (e ∷ rest) es = pushedAll rest (pushed e es)

@@ -1,14 +1,15 @@
 -- The definition computes. First document 01's fixed examples; then one short day: a controller (address 8) owns output 150 and starts
 -- a multicast stream of input 101, a display (address 7) listens, a frame brings data and run, packets leave, the controller falls
 -- silent, and expiry takes both; then what earlier versions got wrong; then each check's refusal, and which of two comes first.
-use mathlib.Core.Path.{_≡_, refl}
+use mathlib.Core.Path.{refl}
 use mathlib.Core.List.{List, [], _∷_, _++_, map}
-use mathlib.Core.Option.{Option, none, some}
+use mathlib.Core.Option.{none, some}
 use mathlib.Core.Bool.{Bool, true, false}
 use Prim.Native.Nat.{ℕ, _+_, _*_, _/_, _^_}
-use lib.ListN.{length, getD, set}
+use lib.ListN.{length, getD, set, replicate}
 use Rattle.cells.specs.Numbers.{le, leOf, bytesLe}
 use Rattle.cells.specs.BigEndian.{bytesBe}
+use Rattle.cells.specs.Records.{sum, encFields}
 use Rattle.wire_items.specs.Items.{startOf, stepAt, itemsFrom, itemsOf}
 use Rattle.wire_items.specs.Frames.{ioOf, ioFrame}
 use Rattle.wire_paths.specs.Segments.{portAt, logicalAt, keyOf, keyAt, dataAt, segAt, segsFrom, segsOf}
@@ -19,23 +20,24 @@ use Rattle.wire_opens.specs.Examples.{Example, _is_, Hold, address}
 use Rattle.wire_opens.specs.Params.{smallParams, paramsAt}
 use Rattle.wire_opens.specs.Timeout.{timeoutOf}
 use Rattle.wire_opens.specs.Group.{groupOfHost}
-use Rattle.wire_opens.specs.declared.NetType.the-variants.{Null, Multicast, PointToPoint, Reserved}
+use Rattle.wire_opens.specs.declared.NetType.the-variants.{Null, Multicast}
 use Rattle.wire_paths.specs.declared.Seg.the-variants.{Class, Instance, Point}
 use Rattle.wire_opens.specs.Requests.{triadAt, wayAt, placeAt, fieldsOf, openWith, widthOf, openOf, closeOf}
 use Rattle.rules.specs.State
-use Rattle.rules.specs.State.{Input, Output, Config, Kind, Due, Never, At, Conn, Shape, Setup, Content, State, Origin, Event}
+use Rattle.rules.specs.State.{Input, Output, Config, Due, Never, At, Conn, Setup, Content, State, Origin, Fixed, Events, OutputChanged}
 use Rattle.rules.specs.Answers
-use Rattle.rules.specs.Answers.{Answer, Done, Wrote, Gone, Refused, Failed, NoRoom, NothingThere, answerNumber}
+use Rattle.rules.specs.Answers.{Answer, Wrote, Gone, Refused, Failed, NoRoom, NothingThere, answerNumber}
 use Rattle.rules.specs.Setup.{setupOk, fresh}
-use Rattle.rules.specs.Events.{infoOf, infoRecord, eventRecord, oldestGone, appended, pushed}
-use Rattle.rules.specs.Replies.{openReply, refusalReply, closeReply}
-use Rattle.rules.specs.Checks.{transportCheck, pathCheck, revisionOk, keyStop, keyCheck, kindOf, placeOf, pointsCheck, rolesOf, configCheck, rpiCheck, typeCheck, otSizeCheck, toSizeCheck, triadCheck, ownerCheck, streamOf, streamCheck, roomCheck, planOf, verdict}
+use Rattle.rules.specs.Events.{infoOf, infoRecord, eventRecord, oldestGone, appended, pushed, pushedAll}
+use Rattle.wire_replies.specs.Replies.{openReply, triadReply}
+use Rattle.rules.specs.Checks.{must, andThen, transportCheck, pathCheck, revisionOk, keyStop, keyCheck, kindOf, placeOf, pointsCheck, rolesOf, configCheck, rpiCheck, typeCheck, otSizeCheck, toSizeCheck, triadCheck, ownerCheck, streamOf, streamCheck, roomCheck, planOf, verdict}
 use Rattle.rules.specs.Opening.{afterId, pointDest, groupDest, sideOf, newFixed, newHeard, newConn, opened, verdictOf, replyOf, openAnswer, openEffect, openCall}
 use Rattle.rules.specs.Removal.{removed, closed, closeAnswer, closeEffect, closeCall, expiredFirst, expireEffect, expireAnswer, expireCall, deadlineAnswer}
 use Rattle.rules.specs.Receiving.{newer, recorded, hear, taken, changes, deliver, received, receiveAnswer, receiveEffect, receiveCall}
 use Rattle.rules.specs.Producing.{sent, frameOf, packet, packets, counters, produceAnswer, produceEffect, produceCall}
 use Rattle.rules.specs.Host.{setInputAnswer, setInputEffect, setInputCall, outputAnswer, outputEffect, outputCall, nextEventAnswer, nextEventEffect, nextEventCall}
-use Rattle.rules.specs.Calls.{Call, answer, next, run}
+use Rattle.rules.specs.Upload.{checksum}
+use Rattle.rules.specs.Calls.{Call, run}
 
 -- ---- document 01's fixed examples
 
@@ -57,11 +59,12 @@ fixedExamples =
     (segsOf (0x20 ∷ 0x04 ∷ 0x24 ∷ 0x05 ∷ 0x2C ∷ 0x64 ∷ 0x2C ∷ 0x65 ∷ []) is Segments.segs (Class 4 ∷ Instance 5 ∷ Point 100 ∷ Point 101 ∷ [])) ∷
     (segsOf (0x20 ∷ []) is Segments.broken 0) ∷
     (smallParams 0x2A26 is record { size = 38; variable = true; net = Multicast }) ∷
+    (checksum (0x01 ∷ 0x02 ∷ 0x03 ∷ []) is 0xFFFA) ∷
     []
 
 pub fixed-examples : Hold fixedExamples
-unfolding fresh setupOk answerNumber le leOf bytesLe bytesBe startOf stepAt itemsFrom itemsOf ioOf ioFrame portAt logicalAt keyOf keyAt dataAt segAt Segments.stepAt segsFrom segsOf gather ConnectionPath.some last connectionPath pathOf paramsAt triadAt wayAt placeAt fieldsOf openWith widthOf openOf closeOf infoOf infoRecord eventRecord oldestGone appended pushed openReply refusalReply closeReply transportCheck pathCheck revisionOk keyStop keyCheck kindOf placeOf pointsCheck rolesOf configCheck rpiCheck typeCheck otSizeCheck toSizeCheck triadCheck ownerCheck streamOf streamCheck roomCheck planOf verdict afterId pointDest groupDest sideOf newFixed newHeard newConn opened verdictOf replyOf openAnswer openEffect openCall removed closed closeAnswer closeEffect closeCall expiredFirst expireEffect expireAnswer expireCall deadlineAnswer newer recorded hear taken changes deliver received receiveAnswer receiveEffect receiveCall sent frameOf packet packets counters produceAnswer produceEffect produceCall setInputAnswer setInputEffect setInputCall outputAnswer outputEffect outputCall nextEventAnswer nextEventEffect nextEventCall
-fixed-examples = (refl, (refl, (refl, (refl, (refl, (refl, (refl, (refl, (refl, (refl, (refl, (refl, tt))))))))))))
+unfolding fresh setupOk answerNumber le leOf bytesLe bytesBe startOf stepAt itemsFrom itemsOf ioOf ioFrame portAt logicalAt keyOf keyAt dataAt segAt Segments.between Segments.stepAt segsFrom segsOf gather ConnectionPath.some last connectionPath pathOf paramsAt triadAt wayAt placeAt fieldsOf openWith widthOf openOf closeOf infoOf infoRecord eventRecord oldestGone appended pushed pushedAll openReply triadReply encFields must andThen transportCheck pathCheck revisionOk keyStop keyCheck kindOf placeOf pointsCheck rolesOf configCheck rpiCheck typeCheck otSizeCheck toSizeCheck triadCheck ownerCheck streamOf streamCheck roomCheck planOf verdict afterId pointDest groupDest sideOf newFixed newHeard newConn opened verdictOf replyOf openAnswer openEffect openCall removed closed closeAnswer closeEffect closeCall expiredFirst expireEffect expireAnswer expireCall deadlineAnswer newer recorded hear taken changes deliver received receiveAnswer receiveEffect receiveCall sent frameOf packet packets counters produceAnswer produceEffect produceCall setInputAnswer setInputEffect setInputCall outputAnswer outputEffect outputCall nextEventAnswer nextEventEffect nextEventCall checksum sum
+fixed-examples = (refl, (refl, (refl, (refl, (refl, (refl, (refl, (refl, (refl, (refl, (refl, (refl, (refl, tt)))))))))))))
 
 -- ---- a day
 abbrev pub setup : Setup
@@ -171,7 +174,7 @@ theDay =
     []
 
 pub the-day : Hold theDay
-unfolding fresh setupOk answerNumber le leOf bytesLe bytesBe startOf stepAt itemsFrom itemsOf ioOf ioFrame portAt logicalAt keyOf keyAt dataAt segAt Segments.stepAt segsFrom segsOf gather ConnectionPath.some last connectionPath pathOf paramsAt triadAt wayAt placeAt fieldsOf openWith widthOf openOf closeOf infoOf infoRecord eventRecord oldestGone appended pushed openReply refusalReply closeReply transportCheck pathCheck revisionOk keyStop keyCheck kindOf placeOf pointsCheck rolesOf configCheck rpiCheck typeCheck otSizeCheck toSizeCheck triadCheck ownerCheck streamOf streamCheck roomCheck planOf verdict afterId pointDest groupDest sideOf newFixed newHeard newConn opened verdictOf replyOf openAnswer openEffect openCall removed closed closeAnswer closeEffect closeCall expiredFirst expireEffect expireAnswer expireCall deadlineAnswer newer recorded hear taken changes deliver received receiveAnswer receiveEffect receiveCall sent frameOf packet packets counters produceAnswer produceEffect produceCall setInputAnswer setInputEffect setInputCall outputAnswer outputEffect outputCall nextEventAnswer nextEventEffect nextEventCall
+unfolding fresh setupOk answerNumber le leOf bytesLe bytesBe startOf stepAt itemsFrom itemsOf ioOf ioFrame portAt logicalAt keyOf keyAt dataAt segAt Segments.between Segments.stepAt segsFrom segsOf gather ConnectionPath.some last connectionPath pathOf paramsAt triadAt wayAt placeAt fieldsOf openWith widthOf openOf closeOf infoOf infoRecord eventRecord oldestGone appended pushed pushedAll openReply triadReply encFields must andThen transportCheck pathCheck revisionOk keyStop keyCheck kindOf placeOf pointsCheck rolesOf configCheck rpiCheck typeCheck otSizeCheck toSizeCheck triadCheck ownerCheck streamOf streamCheck roomCheck planOf verdict afterId pointDest groupDest sideOf newFixed newHeard newConn opened verdictOf replyOf openAnswer openEffect openCall removed closed closeAnswer closeEffect closeCall expiredFirst expireEffect expireAnswer expireCall deadlineAnswer newer recorded hear taken changes deliver received receiveAnswer receiveEffect receiveCall sent frameOf packet packets counters produceAnswer produceEffect produceCall setInputAnswer setInputEffect setInputCall outputAnswer outputEffect outputCall nextEventAnswer nextEventEffect nextEventCall
 the-day = (refl, (refl, (refl, (refl, (refl, (refl, (refl, (refl, (refl, (refl, (refl, (refl, (refl, (refl, (refl, (refl, tt))))))))))))))))
 
 -- ---- easy slips
@@ -189,6 +192,31 @@ joiner = ask 4 0 0 10000 0x4000 10000 0x2003 (points 198)
 
 abbrev pub afterFrames : List (List ℕ) → State
 afterFrames fs = run (opens ++ map (Call.Receive 2000 8) fs) start
+
+-- how many events have left the list, and how many are in it
+abbrev pub events : Events → ℕ × ℕ
+events es = (es .gone, length (es .waiting))
+
+abbrev pub full : ℕ → Events
+full n = record { gone = 0; waiting = replicate n [] }
+
+abbrev pub anyone : Fixed
+anyone =
+    record {
+      kind = State.InputOnly;
+      triad = record { serial = 1; vendor = 1; originator = 1 };
+      originator = 8;
+      otid = record { 0 = 5 };
+      toid = record { 0 = 6 };
+      otrpi = 10000;
+      multiplier = 0;
+      torpi = 10000;
+      input = 1;
+      output = 0;
+      dest = record { address = 0; port = 0 };
+      multicast = true;
+      local = 0;
+    }
 
 abbrev pub slips : List Example
 slips =
@@ -210,13 +238,22 @@ slips =
     (told (run (opens ++ (Call.Receive 2000 8 (heard 1 1 1 (1 ∷ 2 ∷ [])) ∷ Call.ReadOutput 150 3 ∷ Call.Receive 2000 8 (heard 2 2 1 (1 ∷ 3 ∷ [])) ∷ [])) start) is 1 ∷ 1 ∷ 5 ∷ 5 ∷ []) ∷
     -- an open with too little room for its reply draws no id
     (openCall 1000 0x54 owner (from 8) 25 start is (Refused NoRoom, start)) ∷
+    -- an open at another T→O RPI starts a stream of its own
+    (map brief (run (opens ++ (Call.Open 2000 0x54 (ask 4 0 0 10000 0x4000 20000 0x2003 (points 198)) (from 9) 26 ∷ [])) start .table) is
+    (5, 6, 41000, At 1000, 0) ∷ (7, 6, 201000, Never, 0) ∷ (8, 9, 42000, At 2000, 0) ∷ []) ∷
+    -- a 1,024th event is kept with all before, a 1,025th drops the oldest
+    (events (pushed (OutputChanged 150) (full 1023)) is (0, 1024)) ∷
+    (events (pushed (OutputChanged 150) (full 1024)) is (1, 1024)) ∷
+    -- a 32nd connection finds room, a 33rd does not
+    (roomCheck (replicate 31 anyone) is none) ∷
+    (roomCheck (replicate 32 anyone) is some Answers.Full) ∷
     -- shorter input data leaves the rest zero
     (getD (run (Call.SetInput 101 (9 ∷ []) ∷ Call.SetInput 101 [] ∷ []) start .contents) 1 State.noContent .bytes is 0 ∷ []) ∷
     []
 
 pub no-slips : Hold slips
-unfolding fresh setupOk answerNumber le leOf bytesLe bytesBe startOf stepAt itemsFrom itemsOf ioOf ioFrame portAt logicalAt keyOf keyAt dataAt segAt Segments.stepAt segsFrom segsOf gather ConnectionPath.some last connectionPath pathOf paramsAt triadAt wayAt placeAt fieldsOf openWith widthOf openOf closeOf infoOf infoRecord eventRecord oldestGone appended pushed openReply refusalReply closeReply transportCheck pathCheck revisionOk keyStop keyCheck kindOf placeOf pointsCheck rolesOf configCheck rpiCheck typeCheck otSizeCheck toSizeCheck triadCheck ownerCheck streamOf streamCheck roomCheck planOf verdict afterId pointDest groupDest sideOf newFixed newHeard newConn opened verdictOf replyOf openAnswer openEffect openCall removed closed closeAnswer closeEffect closeCall expiredFirst expireEffect expireAnswer expireCall deadlineAnswer newer recorded hear taken changes deliver received receiveAnswer receiveEffect receiveCall sent frameOf packet packets counters produceAnswer produceEffect produceCall setInputAnswer setInputEffect setInputCall outputAnswer outputEffect outputCall nextEventAnswer nextEventEffect nextEventCall
-no-slips = (refl, (refl, (refl, (refl, (refl, (refl, (refl, (refl, (refl, (refl, tt))))))))))
+unfolding fresh setupOk answerNumber le leOf bytesLe bytesBe startOf stepAt itemsFrom itemsOf ioOf ioFrame portAt logicalAt keyOf keyAt dataAt segAt Segments.between Segments.stepAt segsFrom segsOf gather ConnectionPath.some last connectionPath pathOf paramsAt triadAt wayAt placeAt fieldsOf openWith widthOf openOf closeOf infoOf infoRecord eventRecord oldestGone appended pushed pushedAll openReply triadReply encFields must andThen transportCheck pathCheck revisionOk keyStop keyCheck kindOf placeOf pointsCheck rolesOf configCheck rpiCheck typeCheck otSizeCheck toSizeCheck triadCheck ownerCheck streamOf streamCheck roomCheck planOf verdict afterId pointDest groupDest sideOf newFixed newHeard newConn opened verdictOf replyOf openAnswer openEffect openCall removed closed closeAnswer closeEffect closeCall expiredFirst expireEffect expireAnswer expireCall deadlineAnswer newer recorded hear taken changes deliver received receiveAnswer receiveEffect receiveCall sent frameOf packet packets counters produceAnswer produceEffect produceCall setInputAnswer setInputEffect setInputCall outputAnswer outputEffect outputCall nextEventAnswer nextEventEffect nextEventCall
+no-slips = (refl, (refl, (refl, (refl, (refl, (refl, (refl, (refl, (refl, (refl, (refl, (refl, (refl, (refl, (refl, tt)))))))))))))))
 
 -- ---- the checks
 
@@ -279,7 +316,7 @@ theChecks =
     []
 
 pub the-checks : Hold theChecks
-unfolding fresh setupOk answerNumber le leOf bytesLe bytesBe startOf stepAt itemsFrom itemsOf ioOf ioFrame portAt logicalAt keyOf keyAt dataAt segAt Segments.stepAt segsFrom segsOf gather ConnectionPath.some last connectionPath pathOf paramsAt triadAt wayAt placeAt fieldsOf openWith widthOf openOf closeOf infoOf infoRecord eventRecord oldestGone appended pushed openReply refusalReply closeReply transportCheck pathCheck revisionOk keyStop keyCheck kindOf placeOf pointsCheck rolesOf configCheck rpiCheck typeCheck otSizeCheck toSizeCheck triadCheck ownerCheck streamOf streamCheck roomCheck planOf verdict afterId pointDest groupDest sideOf newFixed newHeard newConn opened verdictOf replyOf openAnswer openEffect openCall removed closed closeAnswer closeEffect closeCall expiredFirst expireEffect expireAnswer expireCall deadlineAnswer newer recorded hear taken changes deliver received receiveAnswer receiveEffect receiveCall sent frameOf packet packets counters produceAnswer produceEffect produceCall setInputAnswer setInputEffect setInputCall outputAnswer outputEffect outputCall nextEventAnswer nextEventEffect nextEventCall
+unfolding fresh setupOk answerNumber le leOf bytesLe bytesBe startOf stepAt itemsFrom itemsOf ioOf ioFrame portAt logicalAt keyOf keyAt dataAt segAt Segments.between Segments.stepAt segsFrom segsOf gather ConnectionPath.some last connectionPath pathOf paramsAt triadAt wayAt placeAt fieldsOf openWith widthOf openOf closeOf infoOf infoRecord eventRecord oldestGone appended pushed pushedAll openReply triadReply encFields must andThen transportCheck pathCheck revisionOk keyStop keyCheck kindOf placeOf pointsCheck rolesOf configCheck rpiCheck typeCheck otSizeCheck toSizeCheck triadCheck ownerCheck streamOf streamCheck roomCheck planOf verdict afterId pointDest groupDest sideOf newFixed newHeard newConn opened verdictOf replyOf openAnswer openEffect openCall removed closed closeAnswer closeEffect closeCall expiredFirst expireEffect expireAnswer expireCall deadlineAnswer newer recorded hear taken changes deliver received receiveAnswer receiveEffect receiveCall sent frameOf packet packets counters produceAnswer produceEffect produceCall setInputAnswer setInputEffect setInputCall outputAnswer outputEffect outputCall nextEventAnswer nextEventEffect nextEventCall
 the-checks = (refl, (refl, (refl, (refl, (refl, (refl, (refl, (refl, (refl, (refl, (refl, (refl, (refl, (refl, (refl, (refl, (refl, (refl, (refl, (refl, (refl, (refl, (refl, (refl, (refl, (refl, (refl, (refl, (refl, (refl, (refl, (refl, (refl, tt)))))))))))))))))))))))))))))))))
 
 -- the words, by check
@@ -299,7 +336,7 @@ words =
     []
 
 pub the-words : Hold words
-unfolding fresh setupOk answerNumber le leOf bytesLe bytesBe startOf stepAt itemsFrom itemsOf ioOf ioFrame portAt logicalAt keyOf keyAt dataAt segAt Segments.stepAt segsFrom segsOf gather ConnectionPath.some last connectionPath pathOf paramsAt triadAt wayAt placeAt fieldsOf openWith widthOf openOf closeOf infoOf infoRecord eventRecord oldestGone appended pushed openReply refusalReply closeReply transportCheck pathCheck revisionOk keyStop keyCheck kindOf placeOf pointsCheck rolesOf configCheck rpiCheck typeCheck otSizeCheck toSizeCheck triadCheck ownerCheck streamOf streamCheck roomCheck planOf verdict afterId pointDest groupDest sideOf newFixed newHeard newConn opened verdictOf replyOf openAnswer openEffect openCall removed closed closeAnswer closeEffect closeCall expiredFirst expireEffect expireAnswer expireCall deadlineAnswer newer recorded hear taken changes deliver received receiveAnswer receiveEffect receiveCall sent frameOf packet packets counters produceAnswer produceEffect produceCall setInputAnswer setInputEffect setInputCall outputAnswer outputEffect outputCall nextEventAnswer nextEventEffect nextEventCall
+unfolding fresh setupOk answerNumber le leOf bytesLe bytesBe startOf stepAt itemsFrom itemsOf ioOf ioFrame portAt logicalAt keyOf keyAt dataAt segAt Segments.between Segments.stepAt segsFrom segsOf gather ConnectionPath.some last connectionPath pathOf paramsAt triadAt wayAt placeAt fieldsOf openWith widthOf openOf closeOf infoOf infoRecord eventRecord oldestGone appended pushed pushedAll openReply triadReply encFields must andThen transportCheck pathCheck revisionOk keyStop keyCheck kindOf placeOf pointsCheck rolesOf configCheck rpiCheck typeCheck otSizeCheck toSizeCheck triadCheck ownerCheck streamOf streamCheck roomCheck planOf verdict afterId pointDest groupDest sideOf newFixed newHeard newConn opened verdictOf replyOf openAnswer openEffect openCall removed closed closeAnswer closeEffect closeCall expiredFirst expireEffect expireAnswer expireCall deadlineAnswer newer recorded hear taken changes deliver received receiveAnswer receiveEffect receiveCall sent frameOf packet packets counters produceAnswer produceEffect produceCall setInputAnswer setInputEffect setInputCall outputAnswer outputEffect outputCall nextEventAnswer nextEventEffect nextEventCall
 the-words = (refl, (refl, (refl, (refl, (refl, (refl, tt))))))
 
 -- of two checks that do not hold, the one that is named first in document 01 is answered
@@ -320,5 +357,5 @@ theOrder =
     []
 
 pub the-order : Hold theOrder
-unfolding fresh setupOk answerNumber le leOf bytesLe bytesBe startOf stepAt itemsFrom itemsOf ioOf ioFrame portAt logicalAt keyOf keyAt dataAt segAt Segments.stepAt segsFrom segsOf gather ConnectionPath.some last connectionPath pathOf paramsAt triadAt wayAt placeAt fieldsOf openWith widthOf openOf closeOf infoOf infoRecord eventRecord oldestGone appended pushed openReply refusalReply closeReply transportCheck pathCheck revisionOk keyStop keyCheck kindOf placeOf pointsCheck rolesOf configCheck rpiCheck typeCheck otSizeCheck toSizeCheck triadCheck ownerCheck streamOf streamCheck roomCheck planOf verdict afterId pointDest groupDest sideOf newFixed newHeard newConn opened verdictOf replyOf openAnswer openEffect openCall removed closed closeAnswer closeEffect closeCall expiredFirst expireEffect expireAnswer expireCall deadlineAnswer newer recorded hear taken changes deliver received receiveAnswer receiveEffect receiveCall sent frameOf packet packets counters produceAnswer produceEffect produceCall setInputAnswer setInputEffect setInputCall outputAnswer outputEffect outputCall nextEventAnswer nextEventEffect nextEventCall
+unfolding fresh setupOk answerNumber le leOf bytesLe bytesBe startOf stepAt itemsFrom itemsOf ioOf ioFrame portAt logicalAt keyOf keyAt dataAt segAt Segments.between Segments.stepAt segsFrom segsOf gather ConnectionPath.some last connectionPath pathOf paramsAt triadAt wayAt placeAt fieldsOf openWith widthOf openOf closeOf infoOf infoRecord eventRecord oldestGone appended pushed pushedAll openReply triadReply encFields must andThen transportCheck pathCheck revisionOk keyStop keyCheck kindOf placeOf pointsCheck rolesOf configCheck rpiCheck typeCheck otSizeCheck toSizeCheck triadCheck ownerCheck streamOf streamCheck roomCheck planOf verdict afterId pointDest groupDest sideOf newFixed newHeard newConn opened verdictOf replyOf openAnswer openEffect openCall removed closed closeAnswer closeEffect closeCall expiredFirst expireEffect expireAnswer expireCall deadlineAnswer newer recorded hear taken changes deliver received receiveAnswer receiveEffect receiveCall sent frameOf packet packets counters produceAnswer produceEffect produceCall setInputAnswer setInputEffect setInputCall outputAnswer outputEffect outputCall nextEventAnswer nextEventEffect nextEventCall
 the-order = (refl, (refl, (refl, (refl, (refl, (refl, (refl, (refl, (refl, (refl, (refl, (refl, tt))))))))))))

@@ -1,14 +1,14 @@
 -- The host's side: inputs in, outputs and events out, and what it may read.
-use mathlib.Core.List.{List, [], _∷_, _++_, map}
+use mathlib.Core.List.{List, [], _∷_, _++_}
 use mathlib.Core.Option.{Option, none, some}
-use mathlib.Core.Bool.{Bool, true, false, cond}
+use mathlib.Core.Bool.{Bool, false, cond}
 use Prim.Native.Nat.{ℕ, zero, suc, _+_, _-_}
 use lib.Dec.{leb}
 use lib.ListN.{length, replicate}
 use Rattle.cells.specs.Numbers.{bytesLe}
 use Rattle.cells.specs.Records.{ofBool}
-use Rattle.rules.specs.Lists.{changeAt, joined, maybe}
-use Rattle.rules.specs.State.{AssemblyKind, isInput, isOutput, isConfig, Conn, Setup, shapeAt, Content, contentAt, Events, Counters, State, withContents, withEvents}
+use Rattle.rules.specs.Lists.{changeAt, joined}
+use Rattle.rules.specs.State.{AssemblyKind, isInput, isOutput, isConfig, Setup, shapeAt, Content, contentAt, Counters, State, withContents, withEvents}
 use Rattle.rules.specs.Answers.{Answer, Done, Wrote, Refused, NoAssembly, TooLong, NothingThere, fitting, settled}
 use Rattle.rules.specs.Events.{infoOf, infoRecord, oldestGone}
 use Rattle.rules.specs.Checks.{placeOf}

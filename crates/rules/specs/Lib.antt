@@ -3,7 +3,6 @@ pub mod State
 pub mod Answers
 pub mod Setup
 pub mod Events
-pub mod Replies
 pub mod Checks
 pub mod Opening
 pub mod Removal
@@ -13,3 +12,13 @@ pub mod Host
 pub mod Calls
 pub mod Examples
 pub mod ListLaws
+pub mod CheckLaws
+pub mod ExpiryLaws
+pub mod Attributes
+pub mod Upload
+pub mod Objects
+pub mod Message
+pub mod UploadLaws
+pub mod UploadMessages
+pub mod ReplyLaws
+pub mod ObjectExamples

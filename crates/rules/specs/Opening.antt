@@ -1,23 +1,20 @@
 -- An open that passes every check: the EFFECT. Ids, stream, the new connection, events, configuration data, fault mark.
 use mathlib.Core.List.{List, [], _∷_, _++_}
-use mathlib.Core.Bool.{Bool, true, false, cond}
+use mathlib.Core.Bool.{true, false, cond}
 use Prim.Native.Nat.{ℕ, _+_, _-_, _^_}
 use lib.Dec.{eqb}
 use lib.ListN.{length, take, drop}
-use Rattle.wire_opens.specs.declared.Way.{Way}
-use Rattle.wire_opens.specs.declared.Place.{Place}
 use Rattle.wire_opens.specs.declared.ForwardOpen.{ForwardOpen}
 use Rattle.wire_opens.specs.declared.OpenAnswer.{OpenAnswer}
 use Rattle.wire_opens.specs.declared.OpenAnswer.the-variants.{Open, NoOpen}
 use Rattle.wire_opens.specs.Requests.{openOf}
 use Rattle.wire_opens.specs.Timeout.{timeoutOf}
 use Rattle.wire_opens.specs.Group.{groupOf}
-use Rattle.wire_paths.specs.declared.ConnectionPath.{ConnectionPath}
 use Rattle.wire_paths.specs.declared.PathAnswer.{PathAnswer}
 use Rattle.wire_paths.specs.ConnectionPath.{pathOf}
-use Rattle.rules.specs.Replies.{openReply, refusalReply}
+use Rattle.wire_replies.specs.Replies.{openReply, openRefusal}
 use Rattle.rules.specs.Lists.{changeAt}
-use Rattle.rules.specs.State.{OtId, ToId, Kind, Socket, Fixed, Heard, Never, At, Sent, Conn, Event, Opened, Configured, Origin, Setup, shapeAt, Content, State, fixeds, Stream, Joins, Own, Stores, Nothing, Into, Plan, Verdict, Stopped, Planned}
+use Rattle.rules.specs.State.{ToId, Socket, Fixed, Heard, Never, At, Sent, Conn, Event, Opened, Configured, Origin, Setup, shapeAt, Content, State, fixeds, Stream, Joins, Own, Stores, Nothing, Into, Plan, Verdict, Stopped, Planned}
 use Rattle.rules.specs.Answers.{Answer, Accepted, Wrote, Refused, Failed, NotParsed, fitting, atTime, settled}
 use Rattle.rules.specs.Events.{infoOf, pushedAll}
 use Rattle.rules.specs.Checks.{asksMulticast, pathIn, verdict}
@@ -166,7 +163,7 @@ openCall t service request g room st = settled (openAnswer t service request g r
 -- OPEN_REFUSAL: the data of a refused open's reply. No. 4, 8
 abbrev pub refusalFor : ℕ → OpenAnswer → Answer
 refusalFor room NoOpen = Refused NotParsed
-refusalFor room (Open o) = fitting room (refusalReply (o .triad)) (Wrote (refusalReply (o .triad)))
+refusalFor room (Open o) = fitting room (openRefusal (o .triad)) (Wrote (openRefusal (o .triad)))
 
 unfoldable pub refusalAnswer : ℕ → List ℕ → ℕ → Answer
 refusalAnswer service request room = refusalFor room (requestOf service request)

@@ -1,6 +1,6 @@
 -- Packets out.
 use mathlib.Core.List.{List, [], _∷_, _++_, map}
-use mathlib.Core.Bool.{Bool, true, false, cond}
+use mathlib.Core.Bool.{Bool, false, cond}
 use Prim.Native.Nat.{ℕ, _+_, _-_, _%_, _^_, min, max}
 use lib.Dec.{eqb, leb}
 use lib.ListN.{length, getD}
@@ -8,7 +8,7 @@ use Rattle.cells.specs.BigEndian.{bytesBe}
 use Rattle.cells.specs.Records.{ofBool}
 use Rattle.wire_items.specs.Frames.{ioFrame}
 use Rattle.rules.specs.Lists.{keep, joined}
-use Rattle.rules.specs.State.{ToId, Socket, Fixed, Due, Never, At, Sent, Conn, withSent, Setup, Content, noContent, Counters, State}
+use Rattle.rules.specs.State.{Fixed, Due, Never, At, Sent, Conn, withSent, Setup, Content, noContent, Counters, State}
 use Rattle.rules.specs.Answers.{Answer, Wrote, fitting, atTime, settled}
 
 -- a producing connection is due when its due time is not after now

@@ -1,7 +1,7 @@
 -- Frames in.
 use mathlib.Core.List.{List, [], _∷_}
 use mathlib.Core.Option.{Option, none, some}
-use mathlib.Core.Bool.{Bool, true, false, cond, not, _&&_, _||_, Bool·beq}
+use mathlib.Core.Bool.{Bool, true, cond, not, _&&_, _||_, Bool·beq}
 use Prim.Native.Nat.{ℕ, _+_, _-_, _%_, _^_}
 use lib.Dec.{eqb, leb, ltb}
 use lib.ListN.{length, take, drop, getD}
@@ -11,7 +11,7 @@ use Rattle.wire_items.specs.declared.IoFrame.the-variants.{Io, NotIo, Broken}
 use Rattle.wire_items.specs.Frames.{ioOf}
 use Rattle.wire_opens.specs.Timeout.{timeoutOf}
 use Rattle.rules.specs.Lists.{find, changeFirst, changeAt, maybe, same}
-use Rattle.rules.specs.State.{OtId, Kind, isOwner, Fixed, Heard, Conn, withHeard, Event, OutputChanged, Shape, Setup, shapeAt, Content, noContent, State}
+use Rattle.rules.specs.State.{OtId, isOwner, Fixed, Heard, Conn, withHeard, Event, OutputChanged, Setup, shapeAt, Content, noContent, State}
 use Rattle.rules.specs.Answers.{Answer, Done, atTime, settled}
 use Rattle.rules.specs.Events.{pushedAll}
 

@@ -1,18 +1,17 @@
 -- Removal of a connection, close and expiry.
-use mathlib.Core.List.{List, [], _∷_, _++_, map}
+use mathlib.Core.List.{List, [], _∷_, map}
 use mathlib.Core.Option.{Option, none, some}
 use mathlib.Core.Bool.{Bool, true, false, cond, not, _&&_, _||_}
-use Prim.Native.Nat.{ℕ, _+_, _-_, min}
+use Prim.Native.Nat.{ℕ, _-_, min}
 use lib.Dec.{eqb, ltb}
 use lib.ListN.{length}
 use Rattle.cells.specs.Numbers.{bytesLe}
 use Rattle.wire_opens.specs.declared.CloseAnswer.{CloseAnswer}
 use Rattle.wire_opens.specs.declared.CloseAnswer.the-variants.{Close, NoClose}
 use Rattle.wire_opens.specs.Requests.{closeOf}
-use Rattle.wire_opens.specs.Timeout.{timeoutOf}
-use Rattle.rules.specs.Replies.{closeReply}
-use Rattle.rules.specs.Lists.{find, any, keep, changeFirst, withoutFirst, changeAt, maybe, isSome, repeat}
-use Rattle.rules.specs.State.{Triad, triadIs, ToId, Kind, isOwner, isListener, Info, Fixed, Heard, Due, Never, At, Sent, Conn, withSent, produces, Event, Closed, TimedOut, Setup, Content, State}
+use Rattle.wire_replies.specs.Replies.{closeReply}
+use Rattle.rules.specs.Lists.{find, any, keep, changeFirst, withoutFirst, changeAt, maybe, repeat}
+use Rattle.rules.specs.State.{Triad, ToId, isOwner, isListener, Info, Fixed, Due, Never, At, Conn, withSent, produces, Event, Closed, TimedOut, Setup, Content, State}
 use Rattle.rules.specs.Answers.{Answer, Wrote, Gone, Refused, NotParsed, NothingThere, fitting, atTime, settled}
 use Rattle.rules.specs.Events.{infoOf, pushed, pushedAll}
 use Rattle.rules.specs.Checks.{hasTriad}

@@ -1,12 +1,12 @@
 -- Setup: its sizes (No. 2), and the fresh state.
 use mathlib.Core.List.{List, [], _∷_, map}
-use mathlib.Core.Option.{Option, none, some}
+use mathlib.Core.Option.{Option}
 use mathlib.Core.Bool.{Bool, true, false, cond, not, _&&_}
 use Prim.Native.Nat.{ℕ, _+_, _%_}
 use lib.Dec.{eqb, leb}
 use lib.ListN.{length, replicate}
 use Rattle.rules.specs.Lists.{any, maybe}
-use Rattle.rules.specs.State.{Identity, Shape, Setup, Content, Events, Counters, State}
+use Rattle.rules.specs.State.{Shape, Setup, Content, State}
 use Rattle.rules.specs.Answers.{Answer, Done, Refused, BadSetup}
 
 abbrev pub within : ℕ → ℕ → ℕ → Bool

@@ -1,6 +1,6 @@
 -- What the adapter remembers: the setup, what each assembly holds, the connections, the events that were not read, the
 -- fault mark, the next id and the counters.
-use mathlib.Core.List.{List, [], _∷_, map}
+use mathlib.Core.List.{List, [], map}
 use mathlib.Core.Option.{Option}
 use mathlib.Core.Bool.{Bool, true, false, _&&_}
 use Prim.Native.Nat.{ℕ}

@@ -1,6 +1,8 @@
 // The definition of the adapter: what document 01 says, rule by rule. This crate has types and definitions, no code.
 // Here stand the types that code passes by value; specs/State.antt has the whole state, and the other files of specs/
 // the rules, in document 01's order and words.
+pub mod objects;
+
 use ids::OtId;
 use ids::ToId;
 use ids::Triad;

@@ -3,20 +3,20 @@ use Prim.Native.Nat.{ℕ, zero, suc, _+_, _-_, _<_, _≤_}
 use mathlib.Core.Path.{_≡_, refl, sym, ap, _∙_}
 use mathlib.Core.Bool.{Bool, true, false}
 use mathlib.Core.List.{List, [], _∷_}
-use lib.ListN.{length, getD}
+use lib.ListN.{length}
 use lib.Dec.{eqb, leb}
 use native.Mathlib.Omega.{arith}
-use borrow.Author.Tests.{le-leb, lt-leb, eq-eqb, ne-eqb, leb-true, eqb-true, eqb-false}
+use borrow.Author.Tests.{le-leb, lt-leb, eq-eqb, ne-eqb, leb-true, eqb-true}
 use Rattle.cells.specs.Pick.{pick}
 use Rattle.cells.specs.Numbers.{le}
-use Rattle.cells.specs.Back.{all, all-at, all-fails, all-cons, all-nil}
+use Rattle.cells.specs.Back.{all-at, all-fails, all-cons, all-nil}
 use Rattle.wire_items.specs.Items.{itemEnd, stepAt, Part, Items, wellFormed, broken, cons, itemsFrom, itemsOf, wholeOf}
-use Rattle.wire_items.specs.Frames.{otId, ioPair, firstTwo, ioOfItems, ioOf}
+use Rattle.wire_items.specs.Frames.{otId, firstTwo, ioOfItems, ioOf}
 use Rattle.wire_items.specs.Head.{headTests, ioHead, Head, otherOf}
 use Rattle.wire_items.specs.declared.Whole.the-variants.{Good, BrokenAt}
 use Rattle.wire_items.specs.declared.IoFrame.{IoFrame}
 use Rattle.wire_items.specs.declared.IoFrame.the-variants.{Io, NotIo, Broken}
-use Rattle.wire_items.proofs.ListLaws.{partAt, Chain, last, link, chain-within, of-good, of-broken, from-count, listed}
+use Rattle.wire_items.proofs.ListLaws.{partAt, Chain, link, chain-within, of-good, of-broken, from-count, listed}
 
 -- ---- the head's tests
 

@@ -2,18 +2,16 @@
 use Prim.Native.Nat.{ℕ, zero, suc, _+_, _-_, _<_, _≤_}
 use mathlib.Core.Path.{_≡_, refl, sym, ap, _∙_}
 use mathlib.Core.Bool.{Bool, true, false}
-use mathlib.Core.List.{List, []}
+use mathlib.Core.List.{List}
 use lib.ListN.{length}
 use lib.Dec.{eqb, leb}
 use native.Mathlib.Omega.{arith}
 use borrow.Author.Tests.{le-leb, lt-leb, eq-eqb, ne-eqb}
 use Rattle.cells.specs.Pick.{pick}
 use Rattle.cells.specs.Numbers.{le}
-use Rattle.wire_items.specs.Items.{cursor, startOf, itemEnd, stepAt, Part, Items, wellFormed, broken, cons, follow, itemsFrom, begun, itemsOf, wholeOf}
+use Rattle.wire_items.specs.Items.{cursor, startOf, itemEnd, stepAt, stepAfter, itemOf, Part, Items, wellFormed, broken, cons, itemsFrom, itemsOf, wholeOf}
 use Rattle.wire_items.specs.declared.Cursor.{Cursor}
-use Rattle.wire_items.specs.declared.Start.{Start}
 use Rattle.wire_items.specs.declared.Start.the-variants.{At, NoCount}
-use Rattle.wire_items.specs.declared.Step.{Step}
 use Rattle.wire_items.specs.declared.Step.the-variants.{Item, End, Broken}
 use Rattle.wire_items.specs.declared.Whole.the-variants.{Good, BrokenAt}
 
@@ -106,3 +104,34 @@ uncounted s o e = rw (← e)
 pub begins : (s : List ℕ) (c : Cursor) → At c ≡ startOf s → wholeOf (itemsFrom (c .left) s (c .at)) ≡ wholeOf (itemsOf s)
 unfolding itemsOf
 begins s c e = rw (← e)
+
+-- ---- item n
+
+module _ (s : List ℕ) (at left : ℕ) where
+  pub here : (n : ℕ) → n ≤ 0 → stepAt s at left ≡ stepAfter n s at left
+  unfolding stepAfter
+  here zero h = refl
+  here (suc n) h = absurd (omega arith)
+
+  pub later : (n k b l : ℕ) (x : Cursor) → 0 < n → Item k b l x ≡ stepAt s at left → stepAfter (n - 1) s (x .at) (x .left) ≡ stepAfter n s at left
+  unfolding stepAfter
+  later zero k b l x h e = absurd (omega arith)
+  later (suc n) k b l x h e = let m : suc n - 1 ≡ n = omega arith in rw (← e, m)
+
+  pub ends-before : (n : ℕ) → End ≡ stepAt s at left → End ≡ stepAfter n s at left
+  unfolding stepAfter
+  ends-before zero e = e
+  ends-before (suc n) e = rw (← e)
+
+  pub breaks-before : (n o : ℕ) → Broken o ≡ stepAt s at left → Broken o ≡ stepAfter n s at left
+  unfolding stepAfter
+  breaks-before zero o e = e
+  breaks-before (suc n) o e = rw (← e)
+
+pub item-begins : (s : List ℕ) (n : ℕ) (c : Cursor) → At c ≡ startOf s → stepAfter n s (c .at) (c .left) ≡ itemOf n s
+unfolding itemOf
+item-begins s n c e = rw (← e)
+
+pub item-uncounted : (s : List ℕ) (n o : ℕ) → NoCount o ≡ startOf s → Broken o ≡ itemOf n s
+unfolding itemOf
+item-uncounted s n o e = rw (← e)

@@ -1,3 +1,4 @@
 pub mod ItemLaws
 pub mod ListLaws
 pub mod IoLaws
+pub mod Examples

@@ -3,17 +3,18 @@ use Prim.Native.Nat.{ℕ, zero, suc, _+_, _-_, _<_, _≤_}
 use mathlib.Core.Path.{_≡_, refl, sym, ap, _∙_}
 use mathlib.Core.Bool.{Bool, true, false}
 use mathlib.Core.List.{List, [], _∷_}
-use lib.ListN.{length}
+use lib.ListN.{length, getD}
 use lib.Dec.{eqb, leb}
 use native.Mathlib.Omega.{arith}
 use native.Mathlib.Decide.{decLe}
 use borrow.Author.Tests.{eqb-true, leb-true, le-leb, eq-eqb}
 use Rattle.cells.specs.Pick.{pick}
 use Rattle.cells.specs.Numbers.{le}
-use Rattle.wire_items.specs.Items.{cursor, startOf, itemEnd, stepAt, Part, Items, wellFormed, broken, cons, follow, itemsFrom, begun, itemsOf, wholeOf}
+use Rattle.wire_items.specs.Items.{cursor, itemEnd, stepAt, stepAfter, itemOf, Part, Items, wellFormed, broken, cons, follow, itemsFrom, itemsOf, wholeOf}
+use Rattle.wire_items.specs.declared.Cursor.{Cursor}
 use Rattle.wire_items.specs.declared.Step.the-variants.{Item, End, Broken}
 use Rattle.wire_items.specs.declared.Whole.the-variants.{Good, BrokenAt}
-use Rattle.wire_items.proofs.ItemLaws.{no-count, counted, uncounted}
+use Rattle.wire_items.proofs.ItemLaws.{no-count, counted, item-begins}
 
 -- the item whose kind stands at `at`
 abbrev pub partAt : List ℕ → ℕ → Part
@@ -142,3 +143,27 @@ broken-within s o b = go (decLe 2 (length s))
     go : Dec (2 ≤ length s) → o ≤ length s
     go (yes h) = within (le 2 s 0) s 2 o h (sym (from-count s h) ∙ of-broken (itemsOf s) o b)
     go (no h) = let e : broken 0 ≡ broken o = sym (no-items s (omega arith)) ∙ of-broken (itemsOf s) o b in let z : 0 ≡ o = cc in omega arith
+
+-- ---- item n of a well-formed list is the list's, and behind the last is the end
+
+nth : {s : List ℕ} {at : ℕ} {l : List Part} → Chain s at l → (n : ℕ) → n < length l → (p : Part)
+    → (c : Cursor) × (stepAfter n s at (length l) ≡ Item (getD l n p .kind) (getD l n p .start) (getD l n p .len) c)
+unfolding stepAfter stepAt
+nth (last e) n h p = absurd (omega arith)
+nth {s} {at} (link {l = l} c) zero h p = (cursor (itemEnd s at) (length l), simp (le-leb _ _ (chain-within c)))
+nth (link c) (suc n) h p = let r = nth c n (omega arith) p in (r .0, simp (le-leb _ _ (chain-within c)) (r .1))
+
+nth-end : {s : List ℕ} {at : ℕ} {l : List Part} → Chain s at l → stepAfter (length l) s at (length l) ≡ End
+unfolding stepAfter stepAt
+nth-end (last e) = simp (eq-eqb _ _ e)
+nth-end (link c) = simp (le-leb _ _ (chain-within c)) (nth-end c)
+
+module _ (s : List ℕ) (l : List Part) (d : Listed s l) where
+  from-start : (n : ℕ) → itemOf n s ≡ stepAfter n s 2 (length l)
+  from-start n = sym (item-begins s n (cursor 2 (le 2 s 0)) (counted s (le 2 s 0) (d .room) refl)) ∙ ap (stepAfter n s 2) (d .count)
+
+  pub item-is : (n : ℕ) → n < length l → (p : Part) → (c : Cursor) × (itemOf n s ≡ Item (getD l n p .kind) (getD l n p .start) (getD l n p .len) c)
+  item-is n h p = let r = nth (d .chain) n h p in (r .0, from-start n ∙ r .1)
+
+  pub item-end : itemOf (length l) s ≡ End
+  item-end = from-start (length l) ∙ nth-end (d .chain)

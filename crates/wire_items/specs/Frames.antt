@@ -1,18 +1,16 @@
 -- I/O frames, from document 01: "address item of exactly 8 bytes (id, sequence), then the data item".
 use Prim.Native.Nat.{ℕ, _+_}
 use mathlib.Core.List.{List, [], _∷_, _++_}
-use lib.ListN.{length, take, drop}
+use lib.ListN.{length}
 use lib.Dec.{leb, eqb}
 use Rattle.cells.specs.Pick.{pick}
 use Rattle.cells.specs.Numbers.{le, bytesLe}
-use Rattle.cells.specs.Writes.{written}
-use Rattle.cells.specs.declared.Written.{Written}
-use Rattle.cells.specs.declared.Written.the-variants.{NoRoom}
 use Rattle.ids.specs.declared.OtId.{OtId}
 use Rattle.wire_items.specs.Items.{Part, Items, wellFormed, broken, itemsOf}
 use Rattle.wire_items.specs.declared.IoFrame.{IoFrame}
 use Rattle.wire_items.specs.declared.IoFrame.the-variants.{Io, NotIo, Broken}
 
+-- the id that a frame to us carries
 abbrev pub otId : ℕ → OtId
 otId n = record { 0 = n }
 
@@ -31,7 +29,7 @@ firstTwo s [] = NotIo
 firstTwo s (a ∷ []) = NotIo
 firstTwo s (a ∷ (d ∷ l)) = ioPair s a d
 
--- broken at an offset before all else; "frames up to 65,536 bytes"
+-- broken at an offset before all else; then a frame of over 65,536 bytes is none of ours
 abbrev pub ioOfItems : List ℕ → Items → IoFrame
 ioOfItems s (broken o) = Broken o
 ioOfItems s (wellFormed l) = pick (leb (length s) 65536) (firstTwo s l) NotIo
@@ -49,17 +47,3 @@ ioFrame id sequence cip bs =
     bytesLe 2 2
     ++ (item 0x8002 (bytesLe 4 id ++ bytesLe 4 sequence)
     ++ item 0xB1 (bytesLe 2 cip ++ bs))
-
--- what the frame writer leaves of the output. An item's size has 16 bits: there is no room in it for more than 65,535 bytes
-unfoldable pub frameWritten : List ℕ → ℕ → ℕ → ℕ → List ℕ → Written × List ℕ
-frameWritten out id sequence cip bs = pick (leb (2 + length bs) 65535) (written out (ioFrame id sequence cip bs)) (NoRoom, out)
-
-abbrev pub behind : List ℕ → Written × List ℕ → Written × List ℕ
-behind front w = (w .0, front ++ w .1)
-
--- the same, for the rest of the output from `at` on; what stands before `at` stays
-unfoldable pub frameAppended : List ℕ → ℕ → ℕ → ℕ → ℕ → List ℕ → Written × List ℕ
-frameAppended out at id sequence cip bs =
-    pick (leb at (length out))
-    (behind (take at out) (frameWritten (drop at out) id sequence cip bs))
-    (NoRoom, out)

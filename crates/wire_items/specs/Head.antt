@@ -1,4 +1,4 @@
--- The usual head of an I/O frame, at fixed offsets: what the quick way tests. No public contract cites it.
+-- The usual head of an I/O frame at fixed offsets, as the code reads and writes it. No public contract cites it.
 use Prim.Native.Nat.{ℕ, _≤_}
 use mathlib.Core.Bool.{Bool}
 use mathlib.Core.Path.{_≡_}

@@ -24,8 +24,7 @@ startOf s = pick (leb 2 (length s)) (At (cursor 2 (le 2 s 0))) (NoCount 0)
 abbrev pub itemEnd : List ℕ → ℕ → ℕ
 itemEnd s at = at + 4 + le 2 s (at + 2)
 
--- what stands at `at`. With no item to come: the end of the data, or a spare byte
--- with n more after this one: an item; or `at`, where it does not fit
+-- what stands at `at`. With no item to come: the end of the data, or a spare byte. With an item to come and n after it: that item, or `at`, where it does not fit
 unfoldable pub stepAt : List ℕ → ℕ → ℕ → Step
 stepAt s at zero = pick (eqb at (length s)) End (Broken at)
 stepAt s at (suc n) =
@@ -54,7 +53,7 @@ follow (Item kind start len next) rest = cons (record { kind = kind; start = sta
 follow End rest = wellFormed []
 follow (Broken o) rest = broken o
 
--- n items from `at` on, the last of which ends with the data
+-- n items from `at` on, the last of which ends with the data. With none to come no item is found, so what would follow one does not count
 unfoldable pub itemsFrom : ℕ → List ℕ → ℕ → Items
 itemsFrom zero s at = follow (stepAt s at zero) broken
 itemsFrom (suc n) s at = follow (stepAt s at (suc n)) (itemsFrom n s)
@@ -70,3 +69,22 @@ itemsOf s = begun (startOf s) (λ c. itemsFrom (c .left) s (c .at))
 abbrev pub wholeOf : Items → Whole
 wholeOf (wellFormed l) = Good
 wholeOf (broken o) = BrokenAt o
+
+-- the step behind an item; a list that ends or breaks there stays so
+abbrev pub onward : Step → (Cursor → Step) → Step
+onward (Item kind start len next) rest = rest next
+onward End rest = End
+onward (Broken o) rest = Broken o
+
+-- the step after n more items
+unfoldable pub stepAfter : ℕ → List ℕ → ℕ → ℕ → Step
+stepAfter zero s at left = stepAt s at left
+stepAfter (suc n) s at left = onward (stepAt s at left) (λ c. stepAfter n s (c .at) (c .left))
+
+abbrev pub started : Start → (Cursor → Step) → Step
+started (At c) rest = rest c
+started (NoCount o) rest = Broken o
+
+-- item n of a frame, counted from 0
+unfoldable pub itemOf : ℕ → List ℕ → Step
+itemOf n s = started (startOf s) (λ c. stepAfter n s (c .at) (c .left))

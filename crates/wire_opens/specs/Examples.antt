@@ -1,13 +1,12 @@
 -- The fixed examples of document 01 that these definitions decide.
 use Prim.Native.Nat.{ℕ, _+_, _*_}
 use mathlib.Core.Path.{_≡_, refl}
-use mathlib.Core.Bool.{Bool, true, false}
+use mathlib.Core.Bool.{true}
 use mathlib.Core.List.{List, [], _∷_}
 use Rattle.wire_opens.specs.Params.{smallParams}
 use Rattle.wire_opens.specs.Timeout.{timeoutOf}
-use Rattle.wire_opens.specs.Group.{groupOfHost, groupOf}
+use Rattle.wire_opens.specs.Group.{groupOfHost}
 use Rattle.wire_opens.specs.declared.NetType.the-variants.{Multicast}
-use Rattle.wire_opens.specs.declared.NetParams.{NetParams}
 
 infixl 4 _is_
 -- what a definition gives, beside what the document says

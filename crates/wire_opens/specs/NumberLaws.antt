@@ -1,12 +1,12 @@
 -- Bounds of the timeout, and the host part by the length of the network part.
-use Prim.Native.Nat.{ℕ, _+_, _*_, _-_, _%_, _^_, _≤_, _<_, min}
+use Prim.Native.Nat.{ℕ, _*_, _-_, _%_, _^_, _≤_, min}
 use mathlib.Core.Path.{_≡_, ap, _∙_}
 use native.Mathlib.Omega.{arith}
 use native.Mathlib.Nat.{mul-le-mul-left}
 use lib.Bits.{bitAnd, and-mask}
 use lib.Pow.{pow-mono, pow-pos}
 use Rattle.wire_opens.specs.Timeout.{factorOf, timeoutOf}
-use Rattle.wire_opens.specs.Group.{hostOf, groupOf}
+use Rattle.wire_opens.specs.Group.{hostOf}
 
 -- no factor is above 512
 pub factor-most : (m : ℕ) → factorOf m ≤ 512

@@ -4,8 +4,6 @@ use mathlib.Core.Bool.{Bool, true, false}
 use mathlib.Core.List.{List}
 use lib.ListN.{length}
 use lib.Dec.{leb}
-use Rattle.ids.specs.declared.OtId.{OtId}
-use Rattle.ids.specs.declared.ToId.{ToId}
 use Rattle.ids.specs.declared.Triad.{Triad}
 use Rattle.cells.specs.Pick.{pick}
 use Rattle.cells.specs.Numbers.{le}

@@ -1,6 +1,6 @@
 -- The bits of the transport byte and of a key's major revision.
 use Prim.Native.Nat.{ℕ, _/_, _%_}
-use mathlib.Core.Bool.{Bool, true, false}
+use mathlib.Core.Bool.{Bool, false}
 use lib.Dec.{eqb}
 use Rattle.cells.specs.Pick.{pick}
 

@@ -1,7 +1,7 @@
 // The Forward Open and Forward Close requests, and the numbers that an open carries. A large open has network parameters
 // of four bytes where a small one has two. Bytes after the path are ignored, and a close's path is not parsed here.
 ghost use mathlib.Core.Path.{_≡_};
-ghost use Prim.Native.Nat.{ℕ, _+_, _*_, _≤_, _<_, _^_, min};
+ghost use Prim.Native.Nat.{_+_, _*_, _≤_, min};
 ghost use lib.ListN.{length};
 ghost use Rattle.cells.specs.Numbers.{le};
 ghost use Rattle.wire_opens.specs.Params.{netOf, smallParams, largeParams, paramsAt};

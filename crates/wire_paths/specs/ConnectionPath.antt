@@ -75,7 +75,23 @@ bar (Attribute v) = Attribute v ∷ []
 bar (Keyed k) = []
 bar (Data start len) = []
 
--- ---- what the path gives
+-- ---- what the path gives, in its order
+
+abbrev pub keysIn : List Seg → List Key
+keysIn l = gather key l
+
+abbrev pub classesIn : List Seg → List ℕ
+classesIn l = gather class l
+
+-- the instances and points
+abbrev pub numbersIn : List Seg → List ℕ
+numbersIn l = gather number l
+
+abbrev pub placesIn : List Seg → List (ℕ × ℕ)
+placesIn l = gather place l
+
+abbrev pub barsIn : List Seg → List Seg
+barsIn l = gather bar l
 
 abbrev pub noKey : Key
 noKey = record { vendor = 0; device = 0; product = 0; major = 0; minor = 0 }
@@ -84,17 +100,17 @@ noKey = record { vendor = 0; device = 0; product = 0; major = 0; minor = 0 }
 unfoldable pub connectionPath : List Seg → ConnectionPath
 connectionPath l =
     record {
-      barred = some (gather bar l);
-      haskey = some (gather key l);
-      key = last noKey (gather key l);
-      hasclass = some (gather class l);
-      class = last 0 (gather class l);
-      count = min (length (gather number l)) 4;
-      first = getD (gather number l) 0 0;
-      second = getD (gather number l) 1 0;
-      third = getD (gather number l) 2 0;
-      datastart = last (0, 0) (gather place l) .0;
-      datalen = last (0, 0) (gather place l) .1;
+      barred = some (barsIn l);
+      haskey = some (keysIn l);
+      key = last noKey (keysIn l);
+      hasclass = some (classesIn l);
+      class = last 0 (classesIn l);
+      count = min (length (numbersIn l)) 4;
+      first = getD (numbersIn l) 0 0;
+      second = getD (numbersIn l) 1 0;
+      third = getD (numbersIn l) 2 0;
+      datastart = last (0, 0) (placesIn l) .0;
+      datalen = last (0, 0) (placesIn l) .1;
     }
 
 abbrev pub pathAnswer : Segs → PathAnswer

@@ -1,2 +1,7 @@
 pub mod Segments
 pub mod ConnectionPath
+pub mod Logical
+pub mod Adding
+pub mod PathLaws
+pub mod WalkLaws
+pub mod Examples

@@ -1,6 +1,6 @@
 -- The segments of a padded EPATH.
 use Prim.Native.Nat.{ℕ, zero, suc, _+_, _*_, _/_, _%_}
-use mathlib.Core.Bool.{Bool, true, false}
+use mathlib.Core.Bool.{Bool, false}
 use mathlib.Core.List.{List, [], _∷_}
 use lib.ListN.{length, getD}
 use lib.Dec.{ltb, leb, eqb}
@@ -23,8 +23,8 @@ upTo s at x next = pick (leb next (length s)) (Segment x next) (Broken at)
 abbrev pub evenUp : ℕ → ℕ
 evenUp n = (n + 1) / 2 * 2
 
--- ---- a port segment: bit 4 of its first byte says that the link's size follows (else it is 1), the low four bits are the
--- ---- port, or 15 where a port of 16 bits follows; then the link; an odd segment is padded to even
+-- ---- a port segment: bit 4 of its first byte says that the link's size follows (else the link is one byte), the low four
+-- ---- bits are the port, or 15 where a port of 16 bits follows; then comes the link; an odd segment is padded to even
 
 abbrev pub sized : ℕ → Bool
 sized first = eqb (first / 16) 1
@@ -32,24 +32,24 @@ sized first = eqb (first / 16) 1
 abbrev pub wide : ℕ → Bool
 wide first = eqb (first % 16) 15
 
--- where a port of 16 bits stands, from the segment's start
-abbrev pub portOffset : ℕ → ℕ
+-- where a port of 16 bits stands in the segment
+unfoldable pub portOffset : ℕ → ℕ
 portOffset first = pick (sized first) 2 1
 
--- where the link stands, from the segment's start
-abbrev pub linkOffset : ℕ → ℕ
+-- where the link stands in the segment
+unfoldable pub linkOffset : ℕ → ℕ
 linkOffset first = portOffset first + pick (wide first) 2 0
 
-abbrev pub linkSize : List ℕ → ℕ → ℕ
-linkSize s at = pick (sized (getD s at 0)) (getD s (at + 1) 0) 1
+unfoldable pub linkSize : ℕ → ℕ → ℕ
+linkSize first second = pick (sized first) second 1
 
-abbrev pub portOf : List ℕ → ℕ → ℕ
+unfoldable pub portOf : List ℕ → ℕ → ℕ
 portOf s at = pick (wide (getD s at 0)) (le 2 s (at + portOffset (getD s at 0))) (getD s at 0 % 16)
 
 unfoldable pub portAt : List ℕ → ℕ → SegStep
 portAt s at =
-    upTo s at (Port (portOf s at) (at + linkOffset (getD s at 0)) (linkSize s at))
-    (at + evenUp (linkOffset (getD s at 0) + linkSize s at))
+    upTo s at (Port (portOf s at) (at + linkOffset (getD s at 0)) (linkSize (getD s at 0) (getD s (at + 1) 0)))
+    (at + evenUp (linkOffset (getD s at 0) + linkSize (getD s at 0) (getD s (at + 1) 0)))
 
 -- ---- a logical segment: the low two bits of its first byte say the width of its value
 
@@ -82,7 +82,7 @@ dataAt s at = upTo s at (Data (at + 2) (getD s (at + 1) 0 * 2)) (at + 2 + getD s
 
 -- ---- any segment
 
-abbrev pub between : ℕ → ℕ → ℕ → Bool
+unfoldable pub between : ℕ → ℕ → ℕ → Bool
 between low high b = pick (leb low b) (leb b high) false
 
 -- the segment at `at`, by its first byte; any other first byte does not parse

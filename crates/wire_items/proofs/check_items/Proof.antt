@@ -1,34 +1,24 @@
-use mathlib.Core.Path.{_≡_, refl, sym, _∙_}
+use mathlib.Core.Path.{_∙_}
 use Rattle.wire_items.proofs.ItemLaws.{begins, uncounted}
 use borrow.Author.Needs.{needs}
 use Rattle.wire_items.proofs.check_items.Statement.{statement}
 use Rattle.wire_items.proofs.check_items.Tie as tie
-use Rattle.wire_items.proofs.check_items.Reads as reads
-use Rattle.wire_items.proofs.check_items.Lts as lts
-use Rattle.wire_items.proofs.begin.Reads as begin-reads
-use Rattle.wire_items.proofs.whole_from.Reads as whole-from-reads
 
--- src/lib.rt:128:11
 begin-requires : tie.Need-begin-requires
 begin-requires c κs = search needs
 
--- src/lib.rt:129:19
 enum-known-c : tie.Need-enum-known-c
 enum-known-c c = search needs
 
--- src/lib.rt:129:25
 whole-from-requires : tie.Need-whole-from-requires
 whole-from-requires c κs = search needs
 
--- src/lib.rt:130:24
 enum-known-o : tie.Need-enum-known-o
 enum-known-o c = search needs
 
--- src/lib.rt:125:1
 returns : tie.Need-returns
 returns c = c .whole-from .ensures ∙ begins _ _ (cc)
 
--- src/lib.rt:125:1
 returns-2 : tie.Need-returns-2
 returns-2 c = uncounted _ _ (cc)
 

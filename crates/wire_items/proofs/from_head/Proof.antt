@@ -1,68 +1,49 @@
 use native.Mathlib.Omega.{arith}
-use mathlib.Core.Path.{_≡_, refl, sym, ap, _∙_}
+use mathlib.Core.Path.{sym, _∙_}
 use Rattle.wire_items.proofs.IoLaws.{second-short, later-broken, over-size, is-io}
 use borrow.Author.Needs.{needs}
 use Rattle.wire_items.proofs.from_head.Statement.{statement}
 use Rattle.wire_items.proofs.from_head.Tie as tie
-use Rattle.wire_items.proofs.from_head.Reads as reads
-use Rattle.wire_items.proofs.from_head.Lts as lts
-use Rattle.cells.proofs.u32_at.Reads as u32-at-reads
-use Rattle.wire_items.proofs.size_at.Reads as size-at-reads
-use Rattle.wire_items.proofs.whole_from.Reads as whole-from-reads
 
--- src/lib.rt:173:9
 size-at-requires : tie.Need-size-at-requires
 size-at-requires c κs = search needs
 
--- src/lib.rt:174:8
 sub-if1 : tie.Need-sub-if1
 sub-if1 c = search needs
 
--- src/lib.rt:175:9
 returns : tie.Need-returns
 returns c = second-short _ (c .before .before .before .pre) (omega arith)
 
--- src/lib.rt:177:25
 add-whole-from : tie.Need-add-whole-from
 add-whole-from c = search needs
 
--- src/lib.rt:177:35
 size-at-requires-2 : tie.Need-size-at-requires-2
 size-at-requires-2 c κs = search needs
 
--- src/lib.rt:177:35
 sub-whole-from : tie.Need-sub-whole-from
 sub-whole-from c = search needs
 
--- src/lib.rt:177:11
 whole-from-requires : tie.Need-whole-from-requires
 whole-from-requires c κs = search needs
 
--- src/lib.rt:178:25
 enum-known-o : tie.Need-enum-known-o
 enum-known-o c = search needs
 
--- src/lib.rt:180:24
 enum-told : tie.Need-enum-told
 enum-told c = search needs
 
--- src/lib.rt:181:17
 returns-2 : tie.Need-returns-2
 returns-2 c = over-size _ (c .before .before .before .before .before .before .before .before .pre) _ _ (search needs) (search needs) (omega arith) (sym (c .before .enum-told .given .1) ∙ c .before .before .before .whole-from .ensures) (omega arith)
 
--- src/lib.rt:184:26
 u32-at-requires : tie.Need-u32-at-requires
 u32-at-requires c κs = search needs
 
--- src/lib.rt:185:27
 u32-at-requires-2 : tie.Need-u32-at-requires-2
 u32-at-requires-2 c κs = search needs
 
--- src/lib.rt:169:1
 returns-3 : tie.Need-returns-3
 returns-3 c = later-broken _ (c .before .before .before .before .before .before .before .before .pre) _ _ (search needs) (search needs) (omega arith) _ (sym (c .before .o .given .1) ∙ c .before .before .before .whole-from .ensures)
 
--- src/lib.rt:169:1
 returns-4 : tie.Need-returns-4
 returns-4 c = is-io _ (c .before .before .before .before .before .before .before .before .before .before .pre) _ _ (search needs) (search needs) (omega arith) _ _ (sym (c .before .before .before .enum-told .given .1) ∙ c .before .before .before .before .before .whole-from .ensures) (omega arith) (search needs) (search needs)
 

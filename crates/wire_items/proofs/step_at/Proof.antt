@@ -3,72 +3,52 @@ use Rattle.wire_items.proofs.ItemLaws.{step-end, step-spare, step-short
 use borrow.Author.Needs.{needs}
 use Rattle.wire_items.proofs.step_at.Statement.{statement}
 use Rattle.wire_items.proofs.step_at.Tie as tie
-use Rattle.wire_items.proofs.step_at.Reads as reads
-use Rattle.wire_items.proofs.step_at.Lts as lts
-use Rattle.cells.proofs.u16_at.Reads as u16-at-reads
-use Rattle.wire_items.proofs.size_at.Reads as size-at-reads
 
--- src/lib.rt:65:13
 returns : tie.Need-returns
 returns c = step-end _ _ _ (omega arith) (omega arith)
 
--- src/lib.rt:67:9
 returns-2 : tie.Need-returns-2
 returns-2 c = step-spare _ _ _ (omega arith) (omega arith)
 
--- src/lib.rt:70:9
 returns-3 : tie.Need-returns-3
 returns-3 c = step-short _ _ _ (omega arith) (omega arith)
 
--- src/lib.rt:72:8
 sub-if4 : tie.Need-sub-if4
 sub-if4 c = search needs
 
--- src/lib.rt:73:9
 returns-4 : tie.Need-returns-4
 returns-4 c = step-short _ _ _ (omega arith) (omega arith)
 
--- src/lib.rt:75:26
 add-size-at : tie.Need-add-size-at
 add-size-at c = search needs
 
--- src/lib.rt:75:9
 size-at-requires : tie.Need-size-at-requires
 size-at-requires c κs = search needs
 
--- src/lib.rt:76:8
 sub-if5 : tie.Need-sub-if5
 sub-if5 c = search needs
 
--- src/lib.rt:76:8
 sub-if5-2 : tie.Need-sub-if5-2
 sub-if5-2 c = search needs
 
--- src/lib.rt:77:9
 returns-5 : tie.Need-returns-5
 returns-5 c = step-short _ _ _ (omega arith) (omega arith)
 
--- src/lib.rt:80:15
 u16-at-requires : tie.Need-u16-at-requires
 u16-at-requires c κs = search needs
 
--- src/lib.rt:81:16
 add-t9 : tie.Need-add-t9
 add-t9 c = search needs
 
--- src/lib.rt:84:17
 add-t8 : tie.Need-add-t8
 add-t8 c = search needs
 
--- src/lib.rt:84:17
 add-t10 : tie.Need-add-t10
 add-t10 c = search needs
 
--- src/lib.rt:85:19
 sub-t12 : tie.Need-sub-t12
 sub-t12 c = search needs
 
--- src/lib.rt:60:1
 returns-6 : tie.Need-returns-6
 returns-6 c = step-item _ _ _ _ _ (omega arith) (search needs) (search needs) (omega arith)
 

@@ -1,29 +1,21 @@
-use mathlib.Core.Path.{_≡_, refl, sym, ap, _∙_}
+use mathlib.Core.Path.{sym, ap, _∙_}
 use Rattle.wire_items.specs.Head.{otherOf}
 use borrow.Author.Needs.{needs}
 use Rattle.wire_items.proofs.without_head.Statement.{statement}
 use Rattle.wire_items.proofs.without_head.Tie as tie
-use Rattle.wire_items.proofs.without_head.Reads as reads
-use Rattle.wire_items.proofs.without_head.Lts as lts
-use Rattle.wire_items.proofs.check_items.Reads as check-items-reads
 
--- src/lib.rt:196:11
 check-items-requires : tie.Need-check-items-requires
 check-items-requires c κs = search needs
 
--- src/lib.rt:197:24
 enum-told : tie.Need-enum-told
 enum-told c = search needs
 
--- src/lib.rt:198:25
 enum-known-o : tie.Need-enum-known-o
 enum-known-o c = search needs
 
--- src/lib.rt:193:1
 returns : tie.Need-returns
 returns c = ap otherOf (sym (c .enum-told .given .1) ∙ c .before .before .check-items .ensures)
 
--- src/lib.rt:193:1
 returns-2 : tie.Need-returns-2
 returns-2 c = ap otherOf (sym (c .before .o .given .1) ∙ c .before .before .before .check-items .ensures)
 

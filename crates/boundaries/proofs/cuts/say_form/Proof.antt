@@ -1,0 +1,50 @@
+use mathlib.Core.Path.{sym}
+use lib.Seq.{length-take-le}
+use native.Mathlib.Omega.{arith}
+use Prim.Native.Nat.{_+_, _-_, _≤_}
+use lib.ListN.{length}
+use borrow.Author.Needs.{needs}
+use Rattle.boundaries.proofs.cuts.say_form.Statement.{statement}
+use Rattle.boundaries.proofs.cuts.say_form.Tie as tie
+
+abbrev Inv-loop : tie.InvT-loop
+Inv-loop name path n₀ n = n ≤ length path + 1
+
+abbrev μ-loop : tie.MeasureT-loop
+μ-loop name path n₀ n = length path + 1 - n
+
+loop-holds : tie.Need-loop-holds Inv-loop μ-loop
+loop-holds c = search needs
+
+slice-aggregate-say-cut : tie.Need-slice-aggregate-say-cut Inv-loop μ-loop
+slice-aggregate-say-cut c =
+    sym (length-take-le (c .before .before .loop .n) (c .before .before .before .before .before .args .path .now) (omega arith))
+
+say-cut-requires : tie.Need-say-cut-requires Inv-loop μ-loop
+say-cut-requires c κs = search needs
+
+add-n : tie.Need-add-n Inv-loop μ-loop
+add-n c = search needs
+
+loop-less : tie.Need-loop-less Inv-loop μ-loop
+loop-less c = search needs
+
+loop-again : tie.Need-loop-again Inv-loop μ-loop
+loop-again c = search needs
+
+returns : tie.Need-returns Inv-loop μ-loop
+returns c = search needs
+
+pub say-form-spec : {M : Type 1} → statement M
+say-form-spec =
+    tie.close
+    (tie.spec
+    Inv-loop
+    μ-loop
+    loop-holds
+    slice-aggregate-say-cut
+    say-cut-requires
+    add-n
+    loop-less
+    loop-again
+    returns)

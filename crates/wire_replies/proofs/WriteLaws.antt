@@ -1,0 +1,92 @@
+-- A record put at the start of the output is a whole answer, and what is too long for it leaves it alone.
+use Prim.Native.Nat.{ℕ, zero, suc, _+_, _*_, _/_, _%_, _<_, _≤_, min}
+use mathlib.Core.List.{List, [], _∷_}
+use mathlib.Core.Path.{_≡_, refl, ap, ap₂, sym, _∙_}
+use native.Mathlib.Omega.{arith}
+use lib.Bits.{bitOr, or-block, or-zero-r}
+use lib.Dec.{T}
+use lib.ListN.{length, take, set, length-take}
+use lib.Seq.{sets, take-nil, take-take, take-length, length-take-le}
+use Rattle.cells.specs.Numbers.{put, bytesLe}
+use Rattle.cells.specs.Records.{sum, encFields, putFields, Laid, putFields-eq, length-encFields}
+use Rattle.cells.specs.Writes.{written, written-all, written-none}
+use Rattle.cells.specs.declared.Written.{Written}
+use Rattle.cells.specs.declared.Written.the-variants.{Bytes, NoRoom}
+use Rattle.wire_replies.specs.Replies.{withBit7, extended, replyHead, shortString}
+
+module _ (ws vs l : List ℕ) (t : T (Laid ws vs)) (n : ℕ) (e : sum ws ≡ n) where
+  long : length (encFields ws vs) ≡ n
+  long = length-encFields ws vs t ∙ e
+
+  pub none-put : length l < n → (NoRoom, l) ≡ written l (encFields ws vs)
+  none-put h = sym (written-none l (encFields ws vs) (rw long h))
+
+  pub all-put : (l′ : List ℕ) → n ≤ length l → l′ ≡ putFields ws l 0 vs → (Bytes n, l′) ≡ written l (encFields ws vs)
+  all-put l′ h f =
+      ap₂ (λ (k : ℕ) (x : List ℕ). (Bytes k, x)) (sym long) (f ∙ putFields-eq ws l 0 vs)
+      ∙ sym (written-all l (encFields ws vs) (rw long h))
+
+-- ---- the head of a reply
+
+or-one : (b : ℕ) → b < 2 → bitOr b 1 ≡ 1
+or-one zero h = refl
+or-one (suc zero) h = refl
+or-one (suc (suc b)) h = absurd (omega arith)
+
+-- bit 7 of a byte set
+pub set-7 : (b : ℕ) → b < 256 → bitOr b 128 ≡ withBit7 b
+set-7 b h =
+    let e : b ≡ b / 128 * 128 + b % 128 = omega arith in
+    ap (λ (x : ℕ). bitOr x 128) e
+    ∙ or-block 7 (b / 128) 1 (b % 128) 0 (omega arith) (omega arith)
+    ∙ ap₂ (λ (x y : ℕ). x * 128 + y) (or-one (b / 128) (omega arith)) (or-zero-r (b % 128))
+
+-- there are two words and no more
+both : (words first second : ℕ) → 2 ≤ words → extended words first second ≡ first ∷ second ∷ []
+both zero first second h = absurd (omega arith)
+both (suc zero) first second h = absurd (omega arith)
+both (suc (suc words)) first second h = ap (λ (x : List ℕ). first ∷ second ∷ x) (take-nil words)
+
+head-both : (service general words first second : ℕ) → 2 ≤ words → replyHead service general words first second ≡ replyHead service general 2 first second
+unfolding replyHead
+head-both service general words first second h = rw (both words first second h)
+
+-- the writer that a number of words picks
+module _ (service general words first second : ℕ) (out : List ℕ) (r : Written) (out′ : List ℕ) where
+  pub no-words : words ≡ 0 → (r, out′) ≡ written out (replyHead service general 0 0 0) → (r, out′) ≡ written out (replyHead service general words first second)
+  unfolding replyHead
+  no-words e h = rw e h
+
+  pub one-word : words ≡ 1 → (r, out′) ≡ written out (replyHead service general 1 first 0) → (r, out′) ≡ written out (replyHead service general words first second)
+  unfolding replyHead
+  one-word e h = rw e h
+
+  pub two-words : 2 ≤ words → (r, out′) ≡ written out (replyHead service general 2 first second) → (r, out′) ≡ written out (replyHead service general words first second)
+  two-words e h = h ∙ sym (ap (written out) (head-both service general words first second e))
+
+-- ---- a text, cut
+
+module _ (text : List ℕ) (n : ℕ) (e : n ≡ min 255 (length text)) where
+  pub cut-length : length (take n text) ≡ n
+  cut-length = length-take-le n text (omega arith)
+
+  cut-long : length (take 255 text) ≡ n
+  cut-long = length-take 255 text ∙ sym e
+
+  cut-same : take n text ≡ take 255 text
+  cut-same =
+      sym (take-take n 255 text (omega arith))
+      ∙ ap (λ (k : ℕ). take k (take 255 text)) (sym cut-long)
+      ∙ take-length (take 255 text)
+
+  pub cut-none : (l : List ℕ) → length l ≤ n → (NoRoom, l) ≡ written l (shortString text)
+  unfolding shortString
+  cut-none l h = sym (written-none l _ (omega (arith, cut-long)))
+
+  pub cut-put : (l l′ l″ : List ℕ) → n < length l → l′ ≡ put 1 l 0 n → l″ ≡ sets l′ 1 (take n text) → (Bytes (1 + n), l″) ≡ written l (shortString text)
+  unfolding shortString put bytesLe
+  cut-put l l′ l″ h f g =
+      ap₂ (λ (k : ℕ) (x : List ℕ). (Bytes k, x))
+      (omega (arith, cut-long))
+      (g ∙ ap (λ (x : List ℕ). sets x 1 (take n text)) f ∙ ap₂ (λ (k : ℕ) (y : List ℕ). sets (set l 0 k) 1 y) (sym cut-long) cut-same)
+      ∙ sym (written-all l (length (take 255 text) ∷ take 255 text) (omega (arith, cut-long)))

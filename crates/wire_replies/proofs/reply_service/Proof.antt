@@ -1,0 +1,10 @@
+use native.Mathlib.Omega.{arith}
+use Rattle.wire_replies.proofs.WriteLaws.{set-7}
+use Rattle.wire_replies.proofs.reply_service.Statement.{statement}
+use Rattle.wire_replies.proofs.reply_service.Tie as tie
+
+returns : tie.Need-returns
+returns c = set-7 _ (omega arith)
+
+pub reply-service-spec : {M : Type 1} → statement M
+reply-service-spec = tie.close (tie.spec returns)

@@ -1,0 +1,29 @@
+use mathlib.Core.Path.{refl}
+use native.Mathlib.Omega.{arith}
+use borrow.Author.Needs.{needs}
+use Rattle.wire_replies.proofs.WriteLaws.{none-put, all-put}
+use Rattle.wire_replies.specs.Replies.{triadReply, triadReplyWidths, triadReplyFields}
+use Rattle.cells.specs.Records.{sum}
+use Rattle.wire_replies.proofs.triad_reply.Statement.{statement}
+use Rattle.wire_replies.proofs.triad_reply.Tie as tie
+
+returns : tie.Need-returns
+unfolding triadReply sum
+returns c = none-put triadReplyWidths (triadReplyFields _) _ tt 10 refl (omega arith)
+
+put-triad-requires : tie.Need-put-triad-requires
+put-triad-requires c κs = search needs
+
+put-zeros-requires : tie.Need-put-zeros-requires
+put-zeros-requires c κs = search needs
+
+same-length : tie.Need-same-length
+same-length c = search needs
+
+returns-2 : tie.Need-returns-2
+unfolding triadReply sum
+returns-2 c = all-put triadReplyWidths (triadReplyFields _) _ tt 10 refl _ (omega arith) (cc)
+
+pub triad-reply-spec : {M : Type 1} → statement M
+triad-reply-spec =
+    tie.close (tie.spec returns put-triad-requires put-zeros-requires same-length returns-2)

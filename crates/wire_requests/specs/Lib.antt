@@ -1,0 +1,4 @@
+pub mod Requests
+pub mod Reading
+pub mod PlaceLaws
+pub mod Examples

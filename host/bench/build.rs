@@ -1,0 +1,7 @@
+#[path = "../original/copies.rs"]
+#[allow(dead_code)]
+mod copies;
+
+fn main() {
+    copies::write(&[copies::Copy::unchanged("original")], true);
+}
