@@ -1,0 +1,6 @@
+pub mod RowTests
+pub mod Turns
+pub mod Hands
+pub mod Listeners
+pub mod Removals
+pub mod Expiry
