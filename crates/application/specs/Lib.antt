@@ -1,0 +1,7 @@
+pub mod Outcomes
+pub mod Places
+pub mod Ways
+pub mod Counts
+pub mod Queue
+pub mod PlaceLaws
+pub mod Assemblies
