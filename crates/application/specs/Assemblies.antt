@@ -37,7 +37,7 @@ pub cleared-all : (n k : ℕ) → n ≤ k → take k (replicate {A = ℕ} n 0) �
 cleared-all n k g = take-all k (replicate n 0) (let z = length-replicate {A = ℕ} n 0 in omega arith)
 
 -- the one at a place changed
-change-set : (xs : List Content) (i : ℕ) (u : Content → Content) → changeAt i u xs ≡ set xs i (u (getD xs i noContent))
+pub change-set : (xs : List Content) (i : ℕ) (u : Content → Content) → changeAt i u xs ≡ set xs i (u (getD xs i noContent))
 change-set [] i u = refl
 change-set (x ∷ xs) zero u = refl
 change-set (x ∷ xs) (suc i) u = ap (λ (z : List Content). x ∷ z) (change-set xs i u)

@@ -5,3 +5,5 @@ pub mod Counts
 pub mod Queue
 pub mod PlaceLaws
 pub mod Assemblies
+pub mod Table
+pub mod Left

@@ -5,3 +5,4 @@ pub mod assemblies;
 pub mod counts;
 pub mod places;
 pub mod queue;
+pub mod table;
