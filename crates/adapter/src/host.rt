@@ -3,8 +3,9 @@ use application::answers;
 use application::assemblies;
 use application::counts;
 use application::queue;
+use application::table;
 ghost use mathlib.Core.Path.{_≡_};
-ghost use Rattle.rules.specs.Host.{setInputCall, outputCall, assemblyAnswer, nextEventCall, statsAnswer};
+ghost use Rattle.rules.specs.Host.{setInputCall, outputCall, assemblyAnswer, nextEventCall, connectionsAnswer, statsAnswer};
 ghost use Rattle.image.specs.Lift.{lifted, liftedOut, liftedRead};
 
 // How many bytes a host has to lend as the state.
@@ -16,13 +17,13 @@ pub extern "C" fn threshtide_state_size() -> u64
 }
 
 #[no_mangle]
-pub extern "C" fn threshtide_set_input(state: &mut [u8], instance: u32, data: &[u8]) -> u64
-    ensures { λ r. ⌜ (r, now (state .exit)) ≡ lifted (setInputCall instance (now (data .entry))) (now (state .entry)) ⌝ }
+pub extern "C" fn threshtide_set_input(state: &mut [u8], instance: u32, bytes: &[u8]) -> u64
+    ensures { λ r. ⌜ (r, now (state .exit)) ≡ lifted (setInputCall instance (now (bytes .entry))) (now (state .entry)) ⌝ }
 {
     if !image::test_state(state) {
         return 1;
     }
-    answers::number(assemblies::set_input(state, instance, data))
+    answers::number(assemblies::set_input(state, instance, bytes))
 }
 
 #[no_mangle]
@@ -63,4 +64,14 @@ pub extern "C" fn threshtide_stats(state: &[u8], out: &mut [u8]) -> u64
         return 1;
     }
     answers::number(counts::stats(state, out))
+}
+
+#[no_mangle]
+pub extern "C" fn threshtide_connections(state: &[u8], out: &mut [u8]) -> u64
+    ensures { λ r. ⌜ (r, now (out .exit)) ≡ liftedRead connectionsAnswer (now (state .entry)) (now (out .entry)) ⌝ }
+{
+    if !image::test_state(state) {
+        return 1;
+    }
+    answers::number(table::connections(state, out))
 }
