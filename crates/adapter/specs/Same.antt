@@ -1,0 +1,24 @@
+-- Any two outcomes of a C function on the same lent bytes are equal: the answer, the state and the output.
+use Prim.Native.Nat.{ℕ}
+use mathlib.Core.List.{List}
+use mathlib.Core.Path.{_≡_}
+use Rattle.rules.specs.Host.{setInputCall, outputCall, assemblyAnswer, nextEventCall, connectionsAnswer, statsAnswer}
+use Rattle.image.specs.Lift.{lifted, liftedOut, liftedRead, two-outcomes}
+
+pub set-input-once : (s bytes : List ℕ) (n : ℕ) (x y : ℕ × List ℕ) → x ≡ lifted (setInputCall n bytes) s → y ≡ lifted (setInputCall n bytes) s → x ≡ y
+set-input-once s bytes n x y = two-outcomes x y
+
+pub output-once : (s out : List ℕ) (n : ℕ) (x y : ℕ × (List ℕ × List ℕ)) → x ≡ liftedOut (outputCall n) s out → y ≡ liftedOut (outputCall n) s out → x ≡ y
+output-once s out n x y = two-outcomes x y
+
+pub assembly-once : (s out : List ℕ) (kind n : ℕ) (x y : ℕ × List ℕ) → x ≡ liftedRead (assemblyAnswer kind n) s out → y ≡ liftedRead (assemblyAnswer kind n) s out → x ≡ y
+assembly-once s out kind n x y = two-outcomes x y
+
+pub next-event-once : (s out : List ℕ) (x y : ℕ × (List ℕ × List ℕ)) → x ≡ liftedOut nextEventCall s out → y ≡ liftedOut nextEventCall s out → x ≡ y
+next-event-once s out x y = two-outcomes x y
+
+pub connections-once : (s out : List ℕ) (x y : ℕ × List ℕ) → x ≡ liftedRead connectionsAnswer s out → y ≡ liftedRead connectionsAnswer s out → x ≡ y
+connections-once s out x y = two-outcomes x y
+
+pub stats-once : (s out : List ℕ) (x y : ℕ × List ℕ) → x ≡ liftedRead statsAnswer s out → y ≡ liftedRead statsAnswer s out → x ≡ y
+stats-once s out x y = two-outcomes x y

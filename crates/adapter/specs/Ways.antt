@@ -1,0 +1,10 @@
+-- The two ways out of a C function: the state test fails, No. 1; else the call's outcome, by its number.
+use Prim.Native.Nat.{ℕ}
+use mathlib.Core.List.{List}
+use mathlib.Core.Path.{_≡_, ap, _∙_}
+use Rattle.application.specs.Outcomes.{outcomeNumber}
+use Rattle.application.specs.declared.answers.Outcome.{Outcome}
+
+-- what was answered, by its number
+pub numbered : {B : Type 0} (r : ℕ) (o : Outcome) (b : B) (x : ℕ × B) → r ≡ outcomeNumber o → (outcomeNumber o, b) ≡ x → (r, b) ≡ x
+numbered r o b x e q = ap (λ (n : ℕ). (n, b)) e ∙ q

@@ -1,0 +1,77 @@
+// The application's side: inputs in, outputs and events out, and what it may read.
+use application::answers;
+use application::assemblies;
+use application::counts;
+use application::queue;
+use application::table;
+ghost use mathlib.Core.Path.{_≡_};
+ghost use Rattle.rules.specs.Host.{setInputCall, outputCall, assemblyAnswer, nextEventCall, connectionsAnswer, statsAnswer};
+ghost use Rattle.image.specs.Lift.{lifted, liftedOut, liftedRead};
+
+// How many bytes a host has to lend as the state.
+#[no_mangle]
+pub extern "C" fn threshtide_state_size() -> u64
+    ensures { λ r. ⌜ r ≡ 109056 ⌝ }
+{
+    109056
+}
+
+#[no_mangle]
+pub extern "C" fn threshtide_set_input(state: &mut [u8], instance: u32, bytes: &[u8]) -> u64
+    ensures { λ r. ⌜ (r, now (state .exit)) ≡ lifted (setInputCall instance (now (bytes .entry))) (now (state .entry)) ⌝ }
+{
+    if !image::test_state(state) {
+        return 1;
+    }
+    answers::number(assemblies::set_input(state, instance, bytes))
+}
+
+#[no_mangle]
+pub extern "C" fn threshtide_output(state: &mut [u8], instance: u32, out: &mut [u8]) -> u64
+    ensures { λ r. ⌜ (r, (now (state .exit), now (out .exit))) ≡ liftedOut (outputCall instance) (now (state .entry)) (now (out .entry)) ⌝ }
+{
+    if !image::test_state(state) {
+        return 1;
+    }
+    answers::number(assemblies::output(state, instance, out))
+}
+
+#[no_mangle]
+pub extern "C" fn threshtide_assembly(state: &[u8], kind: u8, instance: u32, out: &mut [u8]) -> u64
+    ensures { λ r. ⌜ (r, now (out .exit)) ≡ liftedRead (assemblyAnswer kind instance) (now (state .entry)) (now (out .entry)) ⌝ }
+{
+    if !image::test_state(state) {
+        return 1;
+    }
+    answers::number(assemblies::assembly(state, kind, instance, out))
+}
+
+#[no_mangle]
+pub extern "C" fn threshtide_next_event(state: &mut [u8], out: &mut [u8]) -> u64
+    ensures { λ r. ⌜ (r, (now (state .exit), now (out .exit))) ≡ liftedOut nextEventCall (now (state .entry)) (now (out .entry)) ⌝ }
+{
+    if !image::test_state(state) {
+        return 1;
+    }
+    answers::number(queue::next_event(state, out))
+}
+
+#[no_mangle]
+pub extern "C" fn threshtide_stats(state: &[u8], out: &mut [u8]) -> u64
+    ensures { λ r. ⌜ (r, now (out .exit)) ≡ liftedRead statsAnswer (now (state .entry)) (now (out .entry)) ⌝ }
+{
+    if !image::test_state(state) {
+        return 1;
+    }
+    answers::number(counts::stats(state, out))
+}
+
+#[no_mangle]
+pub extern "C" fn threshtide_connections(state: &[u8], out: &mut [u8]) -> u64
+    ensures { λ r. ⌜ (r, now (out .exit)) ≡ liftedRead connectionsAnswer (now (state .entry)) (now (out .entry)) ⌝ }
+{
+    if !image::test_state(state) {
+        return 1;
+    }
+    answers::number(table::connections(state, out))
+}
