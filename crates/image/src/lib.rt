@@ -1,11 +1,10 @@
 // The lent state as the rules' state: its view, what writing a state over it leaves, and the state test.
 ghost use mathlib.Core.Path.{_≡_};
 ghost use Prim.Native.Nat.{ℕ, _+_, _*_, _≤_, _<_};
-ghost use lib.ListN.{length};
-ghost use Rattle.cells.specs.Numbers.{le};
+ghost use lib.ListN.{length, drop};
 ghost use Rattle.cells.specs.Back.{all};
 ghost use Rattle.tables.specs.Tables.{rows};
-ghost use Rattle.layout.specs.Setups.{goodSetup, goodShapes};
+ghost use Rattle.layout.specs.Setups.{goodSetup, goodShape};
 ghost use Rattle.layout.specs.Rows.{goodRow};
 ghost use Rattle.image.specs.Image.{goodHead, goodMark, tested};
 
@@ -55,11 +54,11 @@ fn head_good(s: &[u8]) -> bool
     true
 }
 
-fn shapes_good(r: &[u8]) -> bool
-    requires { ⌜ (192 ≤ length (now r)) × (le 1 (now r) 0 ≤ 16) ⌝ }
-    ensures { λ x. ⌜ x ≡ goodShapes (now (r .entry)) ⌝ }
+// The size of each of the first n shapes.
+fn shapes_good(r: &[u8], n: usize) -> bool
+    requires { ⌜ (192 ≤ length (now r)) × (n ≤ 16) ⌝ }
+    ensures { λ x. ⌜ x ≡ all (rows 5 goodShape n (drop 110 (now (r .entry)))) ⌝ }
 {
-    let n = cells::u8_at(r, 0) as usize;
     let mut i = 0;
     while i < n {
         if cells::u16_at(r, i * 5 + 112) > 512 {
@@ -112,10 +111,10 @@ pub fn test_state(s: &[u8]) -> bool
     if !head_good(s) {
         return false;
     }
-    if !shapes_good(&s[0..192]) {
+    let n = cells::u8_at(s, 0) as usize;
+    if !shapes_good(&s[0..192], n) {
         return false;
     }
-    let n = cells::u8_at(s, 0) as usize;
     if !marks_good(&s[240..256], n) {
         return false;
     }

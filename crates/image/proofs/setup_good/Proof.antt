@@ -1,3 +1,5 @@
+use native.Mathlib.Omega.{arith}
+use Rattle.image.specs.TestLaws.{setup-fails0, setup-fails1, setup-fails2, setup-fails3, setup-fails4, setup-passes}
 use borrow.Author.Needs.{needs}
 use Rattle.image.proofs.setup_good.Statement.{statement}
 use Rattle.image.proofs.setup_good.Tie as tie
@@ -12,7 +14,7 @@ u8-at-requires c κs = search needs
 
 -- src/lib.rt:19:9
 returns : tie.Need-returns
-returns c = ?
+returns c = setup-fails0 _ (omega arith)
 
 -- src/lib.rt:21:8
 u8-at-requires-2 : tie.Need-u8-at-requires-2
@@ -20,7 +22,7 @@ u8-at-requires-2 c κs = search needs
 
 -- src/lib.rt:22:9
 returns-2 : tie.Need-returns-2
-returns-2 c = ?
+returns-2 c = setup-fails1 _ (omega arith)
 
 -- src/lib.rt:24:8
 u8-at-requires-3 : tie.Need-u8-at-requires-3
@@ -28,7 +30,7 @@ u8-at-requires-3 c κs = search needs
 
 -- src/lib.rt:25:9
 returns-3 : tie.Need-returns-3
-returns-3 c = ?
+returns-3 c = setup-fails2 _ (omega arith)
 
 -- src/lib.rt:27:8
 u8-at-requires-4 : tie.Need-u8-at-requires-4
@@ -36,7 +38,7 @@ u8-at-requires-4 c κs = search needs
 
 -- src/lib.rt:28:9
 returns-4 : tie.Need-returns-4
-returns-4 c = ?
+returns-4 c = setup-fails3 _ (omega arith)
 
 -- src/lib.rt:30:8
 u32-at-requires : tie.Need-u32-at-requires
@@ -44,11 +46,11 @@ u32-at-requires c κs = search needs
 
 -- src/lib.rt:31:9
 returns-5 : tie.Need-returns-5
-returns-5 c = ?
+returns-5 c = setup-fails4 _ (omega arith)
 
 -- src/lib.rt:14:1
 returns-6 : tie.Need-returns-6
-returns-6 c = ?
+returns-6 c = setup-passes _ (omega arith) (omega arith) (omega arith) (omega arith) (omega arith)
 
 pub setup-good-spec : {M : Type 1} → statement M
 setup-good-spec =

@@ -1,59 +1,57 @@
+use native.Mathlib.Omega.{arith}
+use mathlib.Core.Path.{_≡_, refl, ap, sym, _∙_}
+use Prim.Native.Nat.{ℕ, _≤_, _<_, _-_, _+_, _*_}
+use lib.ListN.{drop}
+use Rattle.cells.specs.Back.{all}
+use Rattle.tables.specs.Tables.{rows}
+use Rattle.layout.specs.Setups.{goodShape}
+use Rattle.image.specs.TestLaws.{walk-stops, walk-on, walk-ends, shape-bad, shape-good}
 use Rattle.image.proofs.shapes_good.Statement.{statement}
 use Rattle.image.proofs.shapes_good.Tie as tie
-use Rattle.image.proofs.shapes_good.Reads as reads
-use Rattle.image.proofs.shapes_good.Lts as lts
-use Rattle.cells.proofs.u16_at.Reads as u16-at-reads
-use Rattle.cells.proofs.u8_at.Reads as u8-at-reads
 
 abbrev Inv-loop : tie.InvT-loop
-Inv-loop r n i₀ i = ?
+Inv-loop r n i₀ i = (i ≤ n) × (all (rows 5 goodShape n (drop 110 r)) ≡ all (drop i (rows 5 goodShape n (drop 110 r))))
 
 abbrev μ-loop : tie.MeasureT-loop
-μ-loop r n i₀ i = ?
+μ-loop r n i₀ i = n - i
 
--- src/lib.rt:62:13
-u8-at-requires : tie.Need-u8-at-requires Inv-loop μ-loop
-u8-at-requires c κs = ?
-
--- src/lib.rt:62:13
-cast-n : tie.Need-cast-n Inv-loop μ-loop
-cast-n c = ?
-
--- src/lib.rt:64:5
 loop-holds : tie.Need-loop-holds Inv-loop μ-loop
-loop-holds c = ?
+loop-holds c = (omega arith, refl)
 
--- src/lib.rt:65:29
 mul-u16-at : tie.Need-mul-u16-at Inv-loop μ-loop
-mul-u16-at c = ?
+mul-u16-at c = omega arith
 
--- src/lib.rt:65:29
 add-u16-at : tie.Need-add-u16-at Inv-loop μ-loop
-add-u16-at c = ?
+add-u16-at c = omega arith
 
--- src/lib.rt:65:12
 u16-at-requires : tie.Need-u16-at-requires Inv-loop μ-loop
-u16-at-requires c κs = ?
+u16-at-requires c κs = omega arith
 
--- src/lib.rt:66:13
 returns : tie.Need-returns Inv-loop μ-loop
-returns c = ?
+returns c =
+    let w = c .before .before .before .loop in
+    let a = c .before .before .before .before .before .args in
+    let e = c .before .u16-at .ensures in
+    sym (w .inv .1 ∙ walk-stops 5 goodShape (a .n) (drop 110 (a .r .now)) (w .i) (omega arith) (shape-bad (a .r .now) (w .i) (omega arith)))
 
--- src/lib.rt:68:9
 add-i : tie.Need-add-i Inv-loop μ-loop
-add-i c = ?
+add-i c = omega arith
 
--- src/lib.rt:64:5
 loop-less : tie.Need-loop-less Inv-loop μ-loop
-loop-less c = ?
+loop-less c = omega arith
 
--- src/lib.rt:64:5
 loop-again : tie.Need-loop-again Inv-loop μ-loop
-loop-again c = ?
+loop-again c =
+    let w = c .before .before .before .loop in
+    let a = c .before .before .before .before .before .args in
+    let e = c .before .u16-at .ensures in
+    (omega arith, w .inv .1 ∙ walk-on 5 goodShape (a .n) (drop 110 (a .r .now)) (w .i) (omega arith) (shape-good (a .r .now) (w .i) (omega arith)))
 
--- src/lib.rt:58:1
 returns-2 : tie.Need-returns-2 Inv-loop μ-loop
-returns-2 c = ?
+returns-2 c =
+    let w = c .before .loop in
+    let a = c .before .before .before .args in
+    sym (w .inv .1 ∙ walk-ends 5 goodShape (a .n) (drop 110 (a .r .now)) (w .i) (omega arith))
 
 pub shapes-good-spec : {M : Type 1} → statement M
 shapes-good-spec =
@@ -61,8 +59,6 @@ shapes-good-spec =
     (tie.spec
     Inv-loop
     μ-loop
-    u8-at-requires
-    cast-n
     loop-holds
     mul-u16-at
     add-u16-at
