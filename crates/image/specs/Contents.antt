@@ -1,18 +1,16 @@
 -- What assemblies hold, as marks and slots: what is written is read back, what was read is written again.
 use Prim.Native.Nat.{ℕ, zero, suc, _+_, _-_, _*_, _/_, _%_, _≤_, _<_}
-use mathlib.Core.Bool.{Bool, true, false}
 use mathlib.Core.List.{List, [], _∷_, _++_, map}
-use mathlib.Core.Path.{_≡_, refl, ap, ap₂, sym, _∙_}
+use mathlib.Core.Path.{_≡_, refl, ap, ap₂, _∙_}
 use native.Mathlib.Omega.{arith}
-use lib.ListN.{length, getD, take, drop, set, length-append, length-drop, take-append-drop, replicate, length-replicate}
-use lib.Seq.{sets, length-take-le, take-at, drop-at, drop-cons, take-all}
-use Rattle.cells.specs.Numbers.{sets-left}
+use lib.ListN.{length, getD, take, drop, length-append, length-drop, take-append-drop, replicate, length-replicate}
+use lib.Seq.{length-take-le, take-at, drop-at}
 use Rattle.cells.specs.Records.{toBool, ofBool, to-of}
 use Rattle.cells.specs.Back.{of-to}
-use Rattle.tables.specs.Slots.{storeSlots, fill, fill-own, length-fill}
+use Rattle.tables.specs.Slots.{storeSlots, fill-own, length-fill}
 use Rattle.rules.specs.State.{Shape, Content, noShape, noContent}
 use Rattle.layout.specs.RowLaws.{bit-small}
-use Rattle.image.specs.Image.{runIn, notifiedIn, contentOf, contentsOf, record32, markOf, bytesOf}
+use Rattle.image.specs.Image.{runIn, notifiedIn, contentsOf, record32, markOf, bytesOf}
 use Rattle.image.specs.Fits.{Records32, none, one}
 
 -- ---- marks are numbers

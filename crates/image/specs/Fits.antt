@@ -1,17 +1,17 @@
 -- What a state must meet to be stored, what a buffer must meet to be written over, and what the state test says of a buffer.
-use Prim.Native.Nat.{ℕ, zero, suc, _+_, _*_, _≤_, _<_}
-use mathlib.Core.Bool.{Bool, true, false}
-use mathlib.Core.List.{List, [], _∷_, _++_}
-use mathlib.Core.Path.{_≡_, refl, ap, sym, _∙_}
+use Prim.Native.Nat.{ℕ, _*_, _≤_, _<_}
+use mathlib.Core.Bool.{true}
+use mathlib.Core.List.{List, [], _∷_}
+use mathlib.Core.Path.{_≡_, sym, _∙_}
 use native.Mathlib.Omega.{arith}
-use lib.Dec.{leb, ltb, eqb}
-use lib.ListN.{length, getD, take, drop, List·getD-eq-default}
+use lib.Dec.{ltb}
+use lib.ListN.{length, take, drop, List·getD-eq-default}
 use borrow.Author.Tests.{leb-true, ltb-true, ltb-false, eqb-true}
 use Rattle.cells.specs.Numbers.{le}
 use Rattle.cells.specs.Back.{all, all-at}
 use Rattle.tables.specs.Tables.{rows, length-rows, row-at}
 use Rattle.tables.specs.Ring.{by-cases}
-use Rattle.rules.specs.State.{Shape, Setup, Content, State, noShape, shapeAt, contentAt}
+use Rattle.rules.specs.State.{State, noShape, shapeAt, contentAt}
 use Rattle.layout.specs.Places.{setupIn, marksIn, tableIn}
 use Rattle.layout.specs.Setups.{decShape, shapeIn, setupOf, testsSetup, goodSetup, goodShape, goodShapes}
 use Rattle.layout.specs.Rows.{goodRow}

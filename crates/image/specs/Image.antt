@@ -12,7 +12,7 @@ use Rattle.tables.specs.Store.{storeRows}
 use Rattle.tables.specs.Ring.{storeRing, ringOf}
 use Rattle.tables.specs.Slots.{storeSlots, fill}
 use Rattle.tables.specs.Regions.{joined}
-use Rattle.rules.specs.State.{Shape, Setup, Content, State}
+use Rattle.rules.specs.State.{Shape, Content, State}
 use Rattle.layout.specs.Places.{setupIn, headIn, wHead, marksIn, tableIn, ringIn, dataIn, edsIn}
 use Rattle.layout.specs.Setups.{setupOf, goodSetup, goodShapes}
 use Rattle.layout.specs.Rows.{decConn, encConn, goodRow}

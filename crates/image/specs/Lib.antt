@@ -8,3 +8,8 @@ pub mod Passes
 pub mod Updates
 pub mod Writes
 pub mod Taken
+pub mod Holds
+pub mod Kept
+pub mod Changes
+pub mod Lift
+pub mod Searches

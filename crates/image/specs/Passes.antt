@@ -1,17 +1,15 @@
 -- What is stored passes the state test.
-use Prim.Native.Nat.{ℕ, zero, suc, _+_, _*_, _≤_, _<_}
-use mathlib.Core.Bool.{Bool, true, false}
+use Prim.Native.Nat.{ℕ, _+_}
+use mathlib.Core.Bool.{true}
 use mathlib.Core.List.{List, [], _∷_, _++_, map}
-use mathlib.Core.Path.{_≡_, refl, ap, ap₂, sym, _∙_}
-use native.Mathlib.Omega.{arith}
-use lib.ListN.{length, getD, take, drop, length-map}
+use mathlib.Core.Path.{_≡_, ap, ap₂, sym, _∙_}
+use lib.ListN.{length, take, drop}
 use lib.Seq.{take-at, drop-at}
 use borrow.Author.Tests.{le-leb}
 use Rattle.cells.specs.Numbers.{le, le-1}
 use Rattle.cells.specs.Back.{all, all-cons, all-nil}
 use Rattle.tables.specs.Tables.{rows}
 use Rattle.tables.specs.Store.{storeRows, less}
-use Rattle.tables.specs.Slots.{fill}
 use Rattle.rules.specs.State.{State, Content}
 use Rattle.rules.specs.declared.Conn.{Conn}
 use Rattle.layout.specs.Places.{setupIn, marksIn, tableIn}
@@ -19,7 +17,7 @@ use Rattle.layout.specs.Setups.{goodSetup, goodShapes}
 use Rattle.layout.specs.Rows.{encConn, goodRow}
 use Rattle.layout.specs.RowLaws.{length-encConn, good-encConn, bit-small}
 use Rattle.image.specs.Image.{goodHead, goodMark, tested, markOf, marksOf, tableOf, store}
-use Rattle.image.specs.Fits.{Fits, Lent, Suits}
+use Rattle.image.specs.Fits.{Suits}
 use Rattle.image.specs.Contents.{mark-small}
 use Rattle.image.specs.StoreLaws.{length-store, setup-of-store, marks-of-store, table-of-store, assemblies-is, nextId-is, gone-is, waiting-is, conns-is, fault-is}
 use Rattle.image.specs.TestLaws.{head-passes, state-passes}

@@ -1,8 +1,7 @@
 -- A stored state: the sizes of its regions, its regions, and its numbers.
-use Prim.Native.Nat.{ℕ, zero, suc, _+_, _*_, _-_, _≤_, _<_}
-use mathlib.Core.Bool.{Bool, true, false}
-use mathlib.Core.List.{List, [], _∷_, _++_, append-assoc, map}
-use mathlib.Core.Path.{_≡_, refl, ap, ap₂, sym, _∙_}
+use Prim.Native.Nat.{ℕ, _+_, _*_, _-_, _≤_}
+use mathlib.Core.List.{List, [], _++_, append-assoc, map}
+use mathlib.Core.Path.{_≡_, ap, ap₂, sym, _∙_}
 use native.Mathlib.Omega.{arith}
 use lib.Dec.{T}
 use lib.ListN.{length, getD, take, drop, length-append, length-drop, length-map, List·getD-map}
@@ -14,13 +13,13 @@ use Rattle.tables.specs.Store.{length-storeRows}
 use Rattle.tables.specs.Ring.{length-ring}
 use Rattle.tables.specs.Slots.{Short, length-storeSlots, length-fill}
 use Rattle.tables.specs.Regions.{joined, Sized, none, one, start, length-joined, region-at}
-use Rattle.rules.specs.State.{Setup, Content, State, noContent, shapeAt, contentAt}
+use Rattle.rules.specs.State.{Setup, State, noContent, shapeAt, contentAt}
 use Rattle.layout.specs.Places.{widths, setupIn, headIn, wHead, marksIn, tableIn, ringIn, dataIn, edsIn}
 use Rattle.layout.specs.Setups.{setupOf, setupFrom}
 use Rattle.layout.specs.Rows.{encConn}
 use Rattle.layout.specs.RowLaws.{length-encConn}
 use Rattle.image.specs.Image.{listHead, markOf, bytesOf, record32, headOf, marksOf, tableOf, eventsOf, dataOf, regionsOf, store}
-use Rattle.image.specs.Fits.{Fits, Lent, Suits, few-assemblies, length-assemblies, size-short}
+use Rattle.image.specs.Fits.{Suits, few-assemblies, length-assemblies, size-short}
 
 -- a region of a buffer that is long enough
 pub mid-long : (a k : ℕ) (l : List ℕ) → a + k ≤ length l → length (midOf a k l) ≡ k

@@ -1,11 +1,10 @@
 -- The oldest event read: its slot is the next one, and one event fewer waits. Its record's bytes stay where they are.
-use Prim.Native.Nat.{ℕ, zero, suc, _+_, _*_, _-_, _≤_, _<_, _%_}
-use mathlib.Core.Bool.{Bool, true}
+use Prim.Native.Nat.{ℕ, zero, suc, _+_, _*_, _-_, _%_}
+use mathlib.Core.Bool.{true}
 use mathlib.Core.List.{List, [], _∷_, _++_}
-use mathlib.Core.Path.{_≡_, refl, ap, ap₂, sym, _∙_}
+use mathlib.Core.Path.{_≡_, refl, ap, sym, _∙_}
 use native.Mathlib.Omega.{arith}
-use lib.ListN.{length, getD, take, drop, set, length-drop}
-use lib.Seq.{sets}
+use lib.ListN.{length, take, drop, set, length-drop}
 use Rattle.cells.specs.Numbers.{le, put}
 use Rattle.cells.specs.Records.{encFields, offset}
 use Rattle.cells.specs.Back.{Bytes}

@@ -2,18 +2,19 @@
 use Prim.Native.Nat.{ℕ, _+_, _*_, _≤_, _<_}
 use mathlib.Core.Bool.{Bool, true, false}
 use mathlib.Core.List.{List, [], _∷_}
-use mathlib.Core.Path.{_≡_, ap, sym, _∙_}
+use mathlib.Core.Path.{_≡_, refl, ap, sym, _∙_}
 use native.Mathlib.Omega.{arith}
 use native.Mathlib.Numerals.{add-one}
 use lib.ListN.{length, getD, take, drop, drop-of-length-le}
 use lib.Seq.{drop-cons}
-use borrow.Author.Tests.{le-leb, lt-leb, le-ltb, lt-ltb, eq-eqb, ne-eqb}
+use borrow.Author.Tests.{le-leb, lt-leb, le-ltb, lt-ltb, eq-eqb, ne-eqb, leb-true}
 use Rattle.cells.specs.Numbers.{le, le-1, le-take, le-drop}
-use Rattle.cells.specs.Back.{all, all-fails}
+use Rattle.cells.specs.Back.{all, all-at, all-fails}
 use Rattle.tables.specs.Tables.{rows, length-rows, row-at}
 use Rattle.layout.specs.Places.{setupIn, marksIn, tableIn}
 use Rattle.layout.specs.Setups.{testsSetup, goodSetup, goodShape, goodShapes}
 use Rattle.layout.specs.Rows.{goodRow}
+use Rattle.image.specs.Fits.{few-assemblies}
 use Rattle.image.specs.Image.{testsHead, goodHead, goodMark, testsState, tested}
 
 -- ---- the setup, the head, the whole
@@ -66,6 +67,11 @@ pub head-passes : (l : List ℕ) → 0 < le 4 l 216 → le 2 l 220 < 1024 → le
 unfolding goodHead all
 head-passes l h0 h1 h2 h3 h4 = simp (lt-ltb 0 (le 4 l 216) h0, lt-ltb (le 2 l 220) 1024 h1, le-leb (le 2 l 222) 1024 h2, le-leb (le 2 l 224) 32 h3, le-leb (le 2 l 226) 1 h4)
 
+all-one : (b : Bool) → b ≡ all (b ∷ [])
+unfolding all
+all-one true = refl
+all-one false = refl
+
 module _ (l : List ℕ) where
   pub state-fails0 : (length l ≡ 109056 → ⊥) → false ≡ tested l
   unfolding tested
@@ -96,8 +102,33 @@ module _ (l : List ℕ) where
   unfolding tested all
   state-passes a b c d e f = simp (eq-eqb (length l) 109056 a, b, c, d, e, f)
 
+  -- the last test's answer is the whole test's, once the others passed
+  pub state-last : length l ≡ 109056 → goodSetup (setupIn l) ≡ true → goodHead l ≡ true → goodShapes (setupIn l) ≡ true
+      → all (rows 1 goodMark (le 1 (setupIn l) 0) (marksIn l)) ≡ true → (x : Bool) → x ≡ all (rows 70 goodRow (le 2 l 224) (tableIn l)) → x ≡ tested l
+  unfolding tested all
+  state-last a b c d e x f = f ∙ simp (eq-eqb (length l) 109056 a, b, c, d, e) (all-one (all (rows 70 goodRow (le 2 l 224) (tableIn l))))
+
   pub assemblies-in : le 1 (setupIn l) 0 ≡ le 1 l 0
   assemblies-in = le-take 1 l 192 0 (omega arith)
+
+  -- what the walks answer, with the numbers that code read
+  module _ (n : ℕ) (x : Bool) where
+    pub shapes-are : n ≡ le 1 l 0 → x ≡ all (rows 5 goodShape n (drop 110 (setupIn l))) → x ≡ goodShapes (setupIn l)
+    unfolding goodShapes
+    shapes-are e f = f ∙ ap (λ (k : ℕ). all (rows 5 goodShape k (drop 110 (setupIn l)))) (e ∙ sym assemblies-in)
+
+    pub marks-are : n ≡ le 1 l 0 → x ≡ all (rows 1 goodMark n (marksIn l)) → x ≡ all (rows 1 goodMark (le 1 (setupIn l) 0) (marksIn l))
+    marks-are e f = f ∙ ap (λ (k : ℕ). all (rows 1 goodMark k (marksIn l))) (e ∙ sym assemblies-in)
+
+    pub rows-are : n ≡ le 2 l 224 → x ≡ all (rows 70 goodRow n (tableIn l)) → x ≡ all (rows 70 goodRow (le 2 l 224) (tableIn l))
+    rows-are e f = f ∙ ap (λ (k : ℕ). all (rows 70 goodRow k (tableIn l))) e
+
+  pub assemblies-few : goodSetup (setupIn l) ≡ true → le 1 l 0 ≤ 16
+  assemblies-few e = let n = assemblies-in in let f = few-assemblies (setupIn l) e in omega arith
+
+  pub conns-few : goodHead l ≡ true → le 2 l 224 ≤ 32
+  unfolding goodHead
+  conns-few e = leb-true (le 2 l 224) 32 (all-at (testsHead l) e 3)
 
 -- ---- a walk along the rows, with a test at each
 

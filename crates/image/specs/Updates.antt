@@ -1,34 +1,32 @@
 -- Changes in place: what code does to the bytes of a stored state is the store of the changed state.
-use Prim.Native.Nat.{ℕ, zero, suc, _+_, _*_, _/_, _-_, _≤_, _<_, _%_}
-use mathlib.Core.Bool.{Bool, true, false}
+use Prim.Native.Nat.{ℕ, zero, suc, _+_, _*_, _/_, _-_, _≤_, _<_}
+use mathlib.Core.Bool.{Bool}
 use mathlib.Core.List.{List, [], _∷_, _++_, map}
-use mathlib.Core.Path.{_≡_, refl, ap, ap₂, sym, _∙_}
+use mathlib.Core.Path.{_≡_, refl, ap, sym, _∙_}
 use native.Mathlib.Omega.{arith}
 use lib.Dec.{T}
-use lib.ListN.{length, getD, take, drop, set, length-append, length-drop, length-map, length-set, List·getD-map}
+use lib.ListN.{length, getD, drop, set, length-append, length-set}
 use lib.Seq.{sets, length-sets}
-use borrow.Rule.Slice.PartMut.{midOf, putMid}
+use borrow.Rule.Slice.PartMut.{putMid}
 use Rattle.cells.specs.Numbers.{le, put, bytesLe, length-bytesLe, sets-left}
 use Rattle.cells.specs.Records.{encFields, ofBool, sum, offset, Laid, length-encFields}
 use Rattle.tables.specs.Tables.{without}
-use Rattle.tables.specs.Store.{storeRows, storeRows-set, row-stored}
+use Rattle.tables.specs.Store.{storeRows-set, row-stored}
 use Rattle.tables.specs.Grow.{storeRows-push, storeRows-cut}
-use Rattle.tables.specs.Ring.{storeRing, ring-push, ring-full}
-use Rattle.tables.specs.Slots.{storeSlots, fill, slots-set, enc-set}
+use Rattle.tables.specs.Slots.{enc-set}
 use Rattle.tables.specs.Regions.{joined, Sized, start, region-put, sized-set}
 use Rattle.tables.specs.RegionWrites.{region-sets}
-use Rattle.rules.specs.State.{Content, Counters, Events, State, noContent, contentAt, withContents, withTable, withEvents, withFault, withNextId, withCounters, withHeard, withSent}
+use Rattle.rules.specs.State.{State, withTable, withFault, withNextId, withCounters, withHeard, withSent}
 use Rattle.rules.specs.declared.Conn.{Conn}
 use Rattle.rules.specs.declared.Heard.{Heard}
 use Rattle.rules.specs.declared.Sent.{Sent}
-use Rattle.layout.specs.Places.{widths, setupIn, headIn, wHead, marksIn, tableIn, ringIn, dataIn, edsIn}
+use Rattle.layout.specs.Places.{widths, setupIn, headIn, wHead, tableIn, edsIn}
 use Rattle.layout.specs.Rows.{encConn, encHeard, encSent, roleOf, flagsOf, decConn}
 use Rattle.layout.specs.RowLaws.{length-encConn, length-encHeard, length-encSent, enc-heard, enc-sent, flags-stored, in-row, bit-small}
 use Rattle.layout.specs.Cut.{cut, length-cut}
-use Rattle.image.specs.Image.{listHead, markOf, bytesOf, record32, headOf, marksOf, tableOf, eventsOf, dataOf, regionsOf, store}
-use Rattle.image.specs.Fits.{Fits, Lent, Suits}
-use Rattle.image.specs.Contents.{length-record32, record32-own}
-use Rattle.image.specs.StoreLaws.{sized, few-contents, short-bytes, room, table-of-store, length-tableIn, length-tableOf}
+use Rattle.image.specs.Image.{listHead, headOf, marksOf, tableOf, eventsOf, dataOf, regionsOf, store}
+use Rattle.image.specs.Fits.{Suits}
+use Rattle.image.specs.StoreLaws.{sized, table-of-store, length-tableIn, length-tableOf}
 
 -- what is at a place past the table
 abbrev pub noConn : Conn

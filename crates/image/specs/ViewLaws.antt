@@ -1,31 +1,30 @@
 -- View and store: what is stored is read back, and a tested buffer's own state written over it changes nothing.
 use Prim.Native.Nat.{ℕ, zero, suc, _+_, _*_, _-_, _%_, _≤_, _<_}
-use mathlib.Core.Bool.{Bool, true, false}
+use mathlib.Core.Bool.{true}
 use mathlib.Core.List.{List, [], _∷_, _++_, map}
 use mathlib.Core.Path.{_≡_, refl, ap, ap₂, sym, _∙_}
 use native.Mathlib.Omega.{arith}
-use lib.ListN.{length, getD, take, drop, length-drop, length-map, take-append-drop}
+use lib.ListN.{length, getD, take, drop, length-drop, take-append-drop}
 use lib.Seq.{length-take-le, take-take, getD-drop}
 use borrow.Rule.Slice.PartMut.{midOf}
 use Rattle.cells.specs.Numbers.{le, le-1, le-take}
-use Rattle.cells.specs.Records.{encFields, decFields, toBool, ofBool, to-of, sum}
+use Rattle.cells.specs.Records.{encFields, decFields, toBool, to-of, sum}
 use Rattle.cells.specs.Back.{Bytes, enc-dec, of-to, bytes-take, bytes-drop}
 use Rattle.tables.specs.Tables.{rows, length-rows}
-use Rattle.tables.specs.Store.{storeRows, store-rows, rows-stored}
-use Rattle.tables.specs.Ring.{storeRing, ringOf, length-ringOf, store-ring}
+use Rattle.tables.specs.Store.{store-rows, rows-stored}
+use Rattle.tables.specs.Ring.{ringOf, length-ringOf, store-ring}
 use Rattle.tables.specs.RingRead.{ring-read}
-use Rattle.tables.specs.Slots.{storeSlots, fill, fill-own}
+use Rattle.tables.specs.Slots.{fill, fill-own}
 use Rattle.tables.specs.Regions.{joined, start, regions, joined-regions, regions-at}
-use Rattle.rules.specs.State.{Setup, Shape, Content, State, noShape, noContent, shapeAt}
-use Rattle.rules.specs.declared.Conn.{Conn}
+use Rattle.rules.specs.State.{Shape, State}
 use Rattle.layout.specs.Places.{widths, setupIn, headIn, wHead, marksIn, tableIn, ringIn, dataIn, edsIn}
 use Rattle.layout.specs.Setups.{setupOf}
 use Rattle.layout.specs.Rows.{decConn, encConn}
 use Rattle.layout.specs.RowLaws.{length-encConn, dec-encConn, enc-decConn}
-use Rattle.image.specs.Image.{contentsOf, record32, asIs, view, listHead, markOf, bytesOf, headOf, marksOf, tableOf, eventsOf, dataOf, regionsOf, store, tested}
-use Rattle.image.specs.Fits.{Records32, none, one, Fits, Lent, Suits, few-assemblies, length-assemblies, size-short, is-long, is-sound, some-id, first-slot, few-events, few-conns, fault-bit, shapes-good, mark-good, row-good, lent}
+use Rattle.image.specs.Image.{contentsOf, record32, asIs, view, listHead, markOf, headOf, marksOf, tableOf, eventsOf, dataOf, store, tested}
+use Rattle.image.specs.Fits.{Records32, none, one, Fits, Suits, few-assemblies, length-assemblies, size-short, is-long, is-sound, some-id, first-slot, few-events, few-conns, fault-bit, shapes-good, mark-good, row-good, lent}
 use Rattle.image.specs.Contents.{length-contentsOf, marks-back, data-back, sized-back, contents-back, length-record32, record32-own, records-back}
-use Rattle.image.specs.StoreLaws.{mid-long, slot-long, length-headIn, length-marksIn, length-tableIn, length-ringIn, length-dataIn, room, content-short, few-contents, marks-of-store, table-of-store, ring-of-store, data-of-store, setup-kept, produced-is, late-is, maxLate-is, nextId-is, gone-is, waiting-is, conns-is, fault-is}
+use Rattle.image.specs.StoreLaws.{mid-long, slot-long, length-marksIn, length-ringIn, length-dataIn, content-short, few-contents, marks-of-store, table-of-store, ring-of-store, data-of-store, setup-kept, produced-is, late-is, maxLate-is, nextId-is, gone-is, waiting-is, conns-is, fault-is}
 
 -- a buffer's regions, by their widths
 regions-are : (l : List ℕ) → regions widths l ≡ setupIn l ∷ headIn l ∷ marksIn l ∷ tableIn l ∷ ringIn l ∷ dataIn l ∷ edsIn l ∷ []

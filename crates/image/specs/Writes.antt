@@ -3,18 +3,18 @@ use Prim.Native.Nat.{ℕ, zero, suc, _+_, _*_, _-_, _≤_, _<_, _%_}
 use mathlib.Core.List.{List, [], _∷_, _++_, map}
 use mathlib.Core.Path.{_≡_, refl, ap, ap₂, sym, _∙_}
 use native.Mathlib.Omega.{arith}
-use lib.ListN.{length, getD, take, drop, set, length-append, length-drop, length-map, length-set, List·getD-map}
+use lib.ListN.{length, getD, drop, set, length-append, length-drop, length-map, length-set, List·getD-map}
 use lib.Seq.{sets, length-sets}
-use Rattle.cells.specs.Numbers.{le, put, bytesLe, sets-left}
+use Rattle.cells.specs.Numbers.{put, bytesLe, sets-left}
 use Rattle.cells.specs.Records.{encFields, offset}
 use Rattle.tables.specs.Ring.{storeRing, ring-push, ring-full}
 use Rattle.tables.specs.Slots.{storeSlots, fill, slots-set}
-use Rattle.tables.specs.Regions.{joined, Sized, start, sized-set}
+use Rattle.tables.specs.Regions.{joined, start, sized-set}
 use Rattle.tables.specs.RegionWrites.{region-sets}
-use Rattle.rules.specs.State.{Content, Events, State, noContent, contentAt, withContents, withEvents}
-use Rattle.layout.specs.Places.{widths, setupIn, headIn, wHead, marksIn, tableIn, ringIn, dataIn, edsIn}
+use Rattle.rules.specs.State.{Content, State, noContent, contentAt, withContents, withEvents}
+use Rattle.layout.specs.Places.{setupIn, headIn, wHead, marksIn, ringIn, dataIn, edsIn}
 use Rattle.image.specs.Image.{listHead, markOf, bytesOf, record32, headOf, marksOf, tableOf, eventsOf, dataOf, regionsOf, store}
-use Rattle.image.specs.Fits.{Fits, Lent, Suits}
+use Rattle.image.specs.Fits.{Suits}
 use Rattle.image.specs.Contents.{length-record32, record32-own}
 use Rattle.image.specs.StoreLaws.{sized, few-contents, short-bytes, room, length-eventsOf}
 use Rattle.image.specs.Updates.{map-set, head-put}

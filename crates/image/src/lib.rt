@@ -1,6 +1,6 @@
 // The lent state as the rules' state: its view, what writing a state over it leaves, and the state test.
 ghost use mathlib.Core.Path.{_≡_};
-ghost use Prim.Native.Nat.{ℕ, _+_, _*_, _≤_, _<_};
+ghost use Prim.Native.Nat.{ℕ, _≤_, _<_};
 ghost use lib.ListN.{length, drop};
 ghost use Rattle.cells.specs.Back.{all};
 ghost use Rattle.tables.specs.Tables.{rows};

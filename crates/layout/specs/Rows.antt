@@ -1,7 +1,7 @@
 -- A connection's row, 70 bytes: what produce changes (14), what its originator's frames change (15), what never changes (41).
 -- Every number's every pattern of bytes is a value; the flags alone are tested.
 use Prim.Native.Nat.{ℕ, _+_, _-_, _*_, _/_, _%_}
-use mathlib.Core.Bool.{Bool, true, false, cond}
+use mathlib.Core.Bool.{Bool, cond}
 use mathlib.Core.List.{List, [], _∷_, _++_}
 use lib.Dec.{eqb, leb}
 use lib.ListN.{getD}

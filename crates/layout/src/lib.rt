@@ -1,10 +1,9 @@
-// The lent state's rows, as code reads and writes them. specs/Places.antt says where the regions stand, specs/Rows.antt what a
+// The lent state's rows and shapes, as code reads them. specs/Places.antt says where the regions stand, specs/Rows.antt what a
 // connection's row holds, specs/Setups.antt what was set up. Every function here is given the region that it works on.
 use ids::OtId;
 use ids::ToId;
 use ids::Triad;
 use rules::AssemblyKind;
-use rules::Conn;
 use rules::Due;
 use rules::Fixed;
 use rules::Heard;
@@ -12,15 +11,10 @@ use rules::Kind;
 use rules::Sent;
 use rules::Socket;
 ghost use mathlib.Core.Path.{_≡_};
-ghost use Prim.Native.Nat.{ℕ, _+_, _*_, _/_, _≤_, _<_};
-ghost use mathlib.Core.List.{[], _∷_};
-ghost use lib.ListN.{length, take, drop, replicate};
-ghost use lib.Seq.{sets, paste};
-ghost use Rattle.cells.specs.Numbers.{le};
-ghost use Rattle.cells.specs.Records.{putFields, ofBool};
+ghost use Prim.Native.Nat.{ℕ, _*_, _≤_, _<_};
+ghost use lib.ListN.{length, take, drop};
 ghost use Rattle.layout.specs.Setups.{kindOf, shapeIn};
-ghost use Rattle.layout.specs.Cut.{cut};
-ghost use Rattle.layout.specs.Rows.{wSent, wHeard, wFixed, wLow, wHigh, ofDue, toDue, ofKind, toKind, kindIn, multicastIn, anyIn, anycipIn, listSent, listHeard, listFixed, encSent, encHeard, encConn, decSent, decHeard, decFixed};
+ghost use Rattle.layout.specs.Rows.{toDue, toKind, kindIn, multicastIn, anyIn, anycipIn, decSent, decHeard, decFixed};
 
 // ---- numbers for what is no number
 
@@ -33,16 +27,6 @@ fn due_of(n: u64) -> Due
     Due::At(n - 1)
 }
 
-fn due_number(d: Due) -> u64
-    requires { ⌜ ofDue d < 18446744073709551616 ⌝ }
-    ensures { λ r. ⌜ r ≡ ofDue d ⌝ }
-{
-    match d {
-        Due::Never => 0,
-        Due::At(t) => t + 1,
-    }
-}
-
 fn kind_of(n: u8) -> Kind
     ensures { λ r. ⌜ r ≡ toKind n ⌝ }
 {
@@ -53,16 +37,6 @@ fn kind_of(n: u8) -> Kind
         return Kind::InputOnly;
     }
     Kind::ListenOnly
-}
-
-fn kind_number(k: Kind) -> u8
-    ensures { λ r. ⌜ r ≡ ofKind k ⌝ }
-{
-    match k {
-        Kind::Owner => 0,
-        Kind::InputOnly => 1,
-        Kind::ListenOnly => 2,
-    }
 }
 
 fn kind_in(flags: u8) -> Kind
@@ -87,19 +61,6 @@ fn anycip_in(flags: u8) -> bool
     ensures { λ r. ⌜ r ≡ anycipIn flags ⌝ }
 {
     flags / 2 % 2 != 0
-}
-
-fn flags_number(role: u8, any: bool, anycip: bool) -> u8
-    requires { ⌜ role ≤ 63 ⌝ }
-    ensures { λ r. ⌜ r ≡ 4 * role + (ofBool any + 2 * ofBool anycip) ⌝ }
-{
-    4 * role + ((any as u8) + 2 * (anycip as u8))
-}
-
-fn role_number(k: Kind, multicast: bool) -> u8
-    ensures { λ r. ⌜ r ≡ ofKind k + 3 * ofBool multicast ⌝ }
-{
-    kind_number(k) + 3 * (multicast as u8)
 }
 
 // ---- a row read
@@ -175,75 +136,6 @@ fn sent_of(row: &[u8]) -> Sent
     }
 }
 
-// ---- a row written in place
-
-fn put_sent_in(row: &mut [u8], s: Sent)
-    requires { ⌜ (70 ≤ length (now row)) × (ofDue (s .due) < 18446744073709551616) ⌝ }
-    ensures { λ _. ⌜ now (row .exit) ≡ putFields wSent (now (row .entry)) 0 (listSent s) ⌝ }
-{
-    let d = s.due;
-    cells::put_u64(row, 0, due_number(d));
-    cells::put_u32(row, 8, s.sequence);
-    cells::put_u16(row, 12, s.cip);
-}
-
-fn put_heard_in(row: &mut [u8], role: u8, h: Heard)
-    requires { ⌜ (70 ≤ length (now row)) × (role ≤ 63) ⌝ }
-    ensures { λ _. ⌜ now (row .exit) ≡ putFields wHeard (now (row .entry)) 14 (listHeard role h) ⌝ }
-{
-    cells::put_u16(row, 14, h.cip);
-    cells::put_u64(row, 16, h.until);
-    cells::put_u32(row, 24, h.sequence);
-    cells::put_u8(row, 28, flags_number(role, h.any, h.anycip));
-}
-
-fn put_fixed_low(row: &mut [u8], input: u8, output: u8, port: u16, otid: u32, originator: u32, toid: u32, otrpi: u32)
-    requires { ⌜ 70 ≤ length (now row) ⌝ }
-    ensures { λ _. ⌜ now (row .exit) ≡ putFields wLow (now (row .entry)) 29 (input ∷ output ∷ port ∷ otid ∷ originator ∷ toid ∷ otrpi ∷ []) ⌝ }
-{
-    cells::put_u8(row, 29, input);
-    cells::put_u8(row, 30, output);
-    cells::put_u16(row, 31, port);
-    cells::put_u32(row, 33, otid);
-    cells::put_u32(row, 37, originator);
-    cells::put_u32(row, 41, toid);
-    cells::put_u32(row, 45, otrpi);
-}
-
-fn put_fixed_high(row: &mut [u8], torpi: u32, address: u32, local: u32, serial: u16, vendor: u16, owner: u32, multiplier: u8)
-    requires { ⌜ 70 ≤ length (now row) ⌝ }
-    ensures { λ _. ⌜ now (row .exit) ≡ putFields wHigh (now (row .entry)) 49 (torpi ∷ address ∷ local ∷ serial ∷ vendor ∷ owner ∷ multiplier ∷ []) ⌝ }
-{
-    cells::put_u32(row, 49, torpi);
-    cells::put_u32(row, 53, address);
-    cells::put_u32(row, 57, local);
-    cells::put_u16(row, 61, serial);
-    cells::put_u16(row, 63, vendor);
-    cells::put_u32(row, 65, owner);
-    cells::put_u8(row, 69, multiplier);
-}
-
-fn put_fixed_in(row: &mut [u8], f: Fixed)
-    requires { ⌜ 70 ≤ length (now row) ⌝ }
-    ensures { λ _. ⌜ now (row .exit) ≡ putFields wFixed (now (row .entry)) 29 (listFixed f) ⌝ }
-{
-    put_fixed_low(row, f.input, f.output, f.dest.port, f.otid.0, f.originator, f.toid.0, f.otrpi);
-    put_fixed_high(row, f.torpi, f.dest.address, f.local, f.triad.serial, f.triad.vendor, f.triad.originator, f.multiplier);
-}
-
-fn put_conn_in(row: &mut [u8], c: Conn)
-    requires { ⌜ (70 ≤ length (now row)) × (ofDue (c .sent .due) < 18446744073709551616) ⌝ }
-    ensures { λ _. ⌜ now (row .exit) ≡ sets (now (row .entry)) 0 (encConn c) ⌝ }
-{
-    let f = c.fixed;
-    let k = f.kind;
-    let h = c.heard;
-    let s = c.sent;
-    put_sent_in(row, s);
-    put_heard_in(row, role_number(k, f.multicast), h);
-    put_fixed_in(row, f);
-}
-
 // ---- rows of the table's region
 
 pub fn fixed_at(r: &[u8], i: usize) -> Fixed
@@ -300,60 +192,6 @@ pub fn due_at(r: &[u8], i: usize) -> Due
     ensures { λ x. ⌜ x ≡ decSent (take 70 (drop (i * 70) (now (r .entry)))) .due ⌝ }
 {
     due_of(cells::u64_at(r, i * 70))
-}
-
-pub fn put_sent_at(r: &mut [u8], i: usize, s: Sent)
-    requires { ⌜ (i < 32) × (2304 ≤ length (now r)) × (ofDue (s .due) < 18446744073709551616) ⌝ }
-    ensures { λ _. ⌜ now (r .exit) ≡ sets (now (r .entry)) (i * 70 + 0) (encSent s) ⌝ }
-{
-    let a = i * 70;
-    let e = a + 70;
-    put_sent_in(&mut r[a..e], s);
-}
-
-// The kind and the multicast bit beside the two marks of the flags stay.
-pub fn put_heard_at(r: &mut [u8], i: usize, h: Heard)
-    requires { ⌜ (i < 32) × (2304 ≤ length (now r)) ⌝ }
-    ensures { λ _. ⌜ now (r .exit) ≡ sets (now (r .entry)) (i * 70 + 14) (encHeard (le 1 (now (r .entry)) (i * 70 + 28) / 4) h) ⌝ }
-{
-    let a = i * 70;
-    let e = a + 70;
-    let role = cells::u8_at(r, a + 28) / 4;
-    put_heard_in(&mut r[a..e], role, h);
-}
-
-pub fn put_conn_at(r: &mut [u8], i: usize, c: Conn)
-    requires { ⌜ (i < 32) × (2304 ≤ length (now r)) × (ofDue (c .sent .due) < 18446744073709551616) ⌝ }
-    ensures { λ _. ⌜ now (r .exit) ≡ sets (now (r .entry)) (i * 70 + 0) (encConn c) ⌝ }
-{
-    let a = i * 70;
-    let e = a + 70;
-    put_conn_in(&mut r[a..e], c);
-}
-
-// ---- a row gone
-
-// n bytes from `at` on made zero.
-fn zero(s: &mut [u8], at: usize, n: usize)
-    requires { ⌜ at + n ≤ length (now s) ⌝ }
-    ensures { λ _. ⌜ now (s .exit) ≡ paste (now (s .entry)) at (replicate n 0) n ⌝ }
-{
-    let mut k = 0;
-    while k < n {
-        s[at + k] = 0;
-        k += 1;
-    }
-}
-
-// Row i of n gone: the rows behind it move down, and the last row's place is zero.
-pub fn cut_row(r: &mut [u8], n: usize, i: usize)
-    requires { ⌜ (i < n) × (n ≤ 32) × (2304 ≤ length (now r)) ⌝ }
-    ensures { λ _. ⌜ now (r .exit) ≡ cut n i (now (r .entry)) ⌝ }
-{
-    let to = i * 70;
-    let last = (n - 1) * 70;
-    cells::move_down(r, to, to + 70, last - to);
-    zero(r, last, 70);
 }
 
 // ---- shapes, in the setup's region

@@ -3,52 +3,37 @@ use Rattle.image.specs.TestLaws.{head-fails0, head-fails1, head-fails2, 
 use borrow.Author.Needs.{needs}
 use Rattle.image.proofs.head_good.Statement.{statement}
 use Rattle.image.proofs.head_good.Tie as tie
-use Rattle.image.proofs.head_good.Reads as reads
-use Rattle.image.proofs.head_good.Lts as lts
-use Rattle.cells.proofs.u16_at.Reads as u16-at-reads
-use Rattle.cells.proofs.u32_at.Reads as u32-at-reads
 
--- src/lib.rt:40:8
 u32-at-requires : tie.Need-u32-at-requires
 u32-at-requires c κs = search needs
 
--- src/lib.rt:41:9
 returns : tie.Need-returns
 returns c = head-fails0 _ (omega arith)
 
--- src/lib.rt:43:8
 u16-at-requires : tie.Need-u16-at-requires
 u16-at-requires c κs = search needs
 
--- src/lib.rt:44:9
 returns-2 : tie.Need-returns-2
 returns-2 c = head-fails1 _ (omega arith)
 
--- src/lib.rt:46:8
 u16-at-requires-2 : tie.Need-u16-at-requires-2
 u16-at-requires-2 c κs = search needs
 
--- src/lib.rt:47:9
 returns-3 : tie.Need-returns-3
 returns-3 c = head-fails2 _ (omega arith)
 
--- src/lib.rt:49:8
 u16-at-requires-3 : tie.Need-u16-at-requires-3
 u16-at-requires-3 c κs = search needs
 
--- src/lib.rt:50:9
 returns-4 : tie.Need-returns-4
 returns-4 c = head-fails3 _ (omega arith)
 
--- src/lib.rt:52:8
 u16-at-requires-4 : tie.Need-u16-at-requires-4
 u16-at-requires-4 c κs = search needs
 
--- src/lib.rt:53:9
 returns-5 : tie.Need-returns-5
 returns-5 c = head-fails4 _ (omega arith)
 
--- src/lib.rt:36:1
 returns-6 : tie.Need-returns-6
 returns-6 c = head-passes _ (omega arith) (omega arith) (omega arith) (omega arith) (omega arith)
 

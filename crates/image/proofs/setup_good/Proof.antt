@@ -3,52 +3,37 @@ use Rattle.image.specs.TestLaws.{setup-fails0, setup-fails1, setup-fails
 use borrow.Author.Needs.{needs}
 use Rattle.image.proofs.setup_good.Statement.{statement}
 use Rattle.image.proofs.setup_good.Tie as tie
-use Rattle.image.proofs.setup_good.Reads as reads
-use Rattle.image.proofs.setup_good.Lts as lts
-use Rattle.cells.proofs.u32_at.Reads as u32-at-reads
-use Rattle.cells.proofs.u8_at.Reads as u8-at-reads
 
--- src/lib.rt:18:8
 u8-at-requires : tie.Need-u8-at-requires
 u8-at-requires c κs = search needs
 
--- src/lib.rt:19:9
 returns : tie.Need-returns
 returns c = setup-fails0 _ (omega arith)
 
--- src/lib.rt:21:8
 u8-at-requires-2 : tie.Need-u8-at-requires-2
 u8-at-requires-2 c κs = search needs
 
--- src/lib.rt:22:9
 returns-2 : tie.Need-returns-2
 returns-2 c = setup-fails1 _ (omega arith)
 
--- src/lib.rt:24:8
 u8-at-requires-3 : tie.Need-u8-at-requires-3
 u8-at-requires-3 c κs = search needs
 
--- src/lib.rt:25:9
 returns-3 : tie.Need-returns-3
 returns-3 c = setup-fails2 _ (omega arith)
 
--- src/lib.rt:27:8
 u8-at-requires-4 : tie.Need-u8-at-requires-4
 u8-at-requires-4 c κs = search needs
 
--- src/lib.rt:28:9
 returns-4 : tie.Need-returns-4
 returns-4 c = setup-fails3 _ (omega arith)
 
--- src/lib.rt:30:8
 u32-at-requires : tie.Need-u32-at-requires
 u32-at-requires c κs = search needs
 
--- src/lib.rt:31:9
 returns-5 : tie.Need-returns-5
 returns-5 c = setup-fails4 _ (omega arith)
 
--- src/lib.rt:14:1
 returns-6 : tie.Need-returns-6
 returns-6 c = setup-passes _ (omega arith) (omega arith) (omega arith) (omega arith) (omega arith)
 

@@ -1,5 +1,5 @@
 use native.Mathlib.Omega.{arith}
-use Prim.Native.Nat.{ℕ, _+_, _*_}
+use Prim.Native.Nat.{_+_, _*_}
 use mathlib.Core.Path.{_≡_, ap, sym, _∙_}
 use Rattle.layout.specs.RowLaws.{in-row}
 use Rattle.layout.specs.Rows.{decSent, toDue}
@@ -7,24 +7,16 @@ use Rattle.cells.specs.Numbers.{le}
 use borrow.Author.Needs.{needs}
 use Rattle.layout.proofs.due_at.Statement.{statement}
 use Rattle.layout.proofs.due_at.Tie as tie
-use Rattle.layout.proofs.due_at.Reads as reads
-use Rattle.layout.proofs.due_at.Lts as lts
-use Rattle.cells.proofs.u64_at.Reads as u64-at-reads
-use Rattle.layout.proofs.due_of.Reads as due-of-reads
 
--- src/lib.rt:302:29
 mul-u64-at : tie.Need-mul-u64-at
 mul-u64-at c = search needs
 
--- src/lib.rt:302:12
 u64-at-requires : tie.Need-u64-at-requires
 u64-at-requires c κs = search needs
 
--- src/lib.rt:302:5
 due-of-requires : tie.Need-due-of-requires
 due-of-requires c κs = search needs
 
--- src/lib.rt:298:1
 returns : tie.Need-returns
 unfolding decSent
 returns c = let a = c .before .before .before .args in

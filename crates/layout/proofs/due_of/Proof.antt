@@ -2,18 +2,13 @@ use borrow.Author.Tests.{eq-eqb, ne-eqb}
 use borrow.Author.Needs.{needs}
 use Rattle.layout.proofs.due_of.Statement.{statement}
 use Rattle.layout.proofs.due_of.Tie as tie
-use Rattle.layout.proofs.due_of.Reads as reads
-use Rattle.layout.proofs.due_of.Lts as lts
 
--- src/lib.rt:29:9
 returns : tie.Need-returns
 returns c = simp (eq-eqb _ _ (c .if1 .taken))
 
--- src/lib.rt:31:13
 sub-t3 : tie.Need-sub-t3
 sub-t3 c = search needs
 
--- src/lib.rt:25:1
 returns-2 : tie.Need-returns-2
 returns-2 c = simp (ne-eqb _ _ (c .if1 .left))
 

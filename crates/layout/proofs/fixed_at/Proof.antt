@@ -1,40 +1,30 @@
 use Rattle.layout.specs.Rows.{decFixed}
 use lib.ListN.{take, drop}
 use native.Mathlib.Nat.{add-sub-cancel-left}
-use Prim.Native.Nat.{ℕ, _+_, _*_}
+use Prim.Native.Nat.{ℕ, _*_}
 use mathlib.Core.Path.{ap, _∙_}
 use borrow.Author.Needs.{needs}
 use Rattle.layout.proofs.fixed_at.Statement.{statement}
 use Rattle.layout.proofs.fixed_at.Tie as tie
-use Rattle.layout.proofs.fixed_at.Reads as reads
-use Rattle.layout.proofs.fixed_at.Lts as lts
-use Rattle.layout.proofs.fixed_of.Reads as fixed-of-reads
 
--- src/lib.rt:253:13
 mul-a : tie.Need-mul-a
 mul-a c = search needs
 
--- src/lib.rt:254:13
 add-e : tie.Need-add-e
 add-e c = search needs
 
--- src/lib.rt:255:14
 sub-fixed-of : tie.Need-sub-fixed-of
 sub-fixed-of c = search needs
 
--- src/lib.rt:255:14
 part-fixed-of-start : tie.Need-part-fixed-of-start
 part-fixed-of-start c = search needs
 
--- src/lib.rt:255:14
 part-fixed-of-end : tie.Need-part-fixed-of-end
 part-fixed-of-end c = search needs
 
--- src/lib.rt:255:5
 fixed-of-requires : tie.Need-fixed-of-requires
 fixed-of-requires c κs = search needs
 
--- src/lib.rt:249:1
 returns : tie.Need-returns
 returns c = let a = c .before .before .before .args in
     c .fixed-of .ensures ∙ ap (λ (n : ℕ). decFixed (take n (drop (a .i * 70) (a .r .now)))) (add-sub-cancel-left (a .i * 70) 70)

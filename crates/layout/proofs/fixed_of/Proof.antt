@@ -4,72 +4,49 @@ use Rattle.layout.specs.Rows.{decFixed}
 use borrow.Author.Needs.{needs}
 use Rattle.layout.proofs.fixed_of.Statement.{statement}
 use Rattle.layout.proofs.fixed_of.Tie as tie
-use Rattle.layout.proofs.fixed_of.Reads as reads
-use Rattle.layout.proofs.fixed_of.Lts as lts
-use Rattle.cells.proofs.u32_at.Reads as u32-at-reads
-use Rattle.cells.proofs.u8_at.Reads as u8-at-reads
-use Rattle.layout.proofs.dest_of.Reads as dest-of-reads
-use Rattle.layout.proofs.kind_in.Reads as kind-in-reads
-use Rattle.layout.proofs.multicast_in.Reads as multicast-in-reads
-use Rattle.layout.proofs.triad_of.Reads as triad-of-reads
 
--- src/lib.rt:130:9
 u8-at-requires : tie.Need-u8-at-requires
 u8-at-requires c κs = search needs
 
--- src/lib.rt:131:9
 triad-of-requires : tie.Need-triad-of-requires
 triad-of-requires c κs = search needs
 
--- src/lib.rt:132:9
 dest-of-requires : tie.Need-dest-of-requires
 dest-of-requires c κs = search needs
 
--- src/lib.rt:134:15
 kind-in-requires : tie.Need-kind-in-requires
 kind-in-requires c κs = search needs
 
--- src/lib.rt:136:21
 u32-at-requires : tie.Need-u32-at-requires
 u32-at-requires c κs = search needs
 
--- src/lib.rt:137:20
 u32-at-requires-2 : tie.Need-u32-at-requires-2
 u32-at-requires-2 c κs = search needs
 
--- src/lib.rt:138:20
 u32-at-requires-3 : tie.Need-u32-at-requires-3
 u32-at-requires-3 c κs = search needs
 
--- src/lib.rt:139:16
 u32-at-requires-4 : tie.Need-u32-at-requires-4
 u32-at-requires-4 c κs = search needs
 
--- src/lib.rt:140:21
 u8-at-requires-2 : tie.Need-u8-at-requires-2
 u8-at-requires-2 c κs = search needs
 
--- src/lib.rt:141:16
 u32-at-requires-5 : tie.Need-u32-at-requires-5
 u32-at-requires-5 c κs = search needs
 
--- src/lib.rt:142:16
 u8-at-requires-3 : tie.Need-u8-at-requires-3
 u8-at-requires-3 c κs = search needs
 
--- src/lib.rt:143:17
 u8-at-requires-4 : tie.Need-u8-at-requires-4
 u8-at-requires-4 c κs = search needs
 
--- src/lib.rt:145:20
 multicast-in-requires : tie.Need-multicast-in-requires
 multicast-in-requires c κs = search needs
 
--- src/lib.rt:146:16
 u32-at-requires-6 : tie.Need-u32-at-requires-6
 u32-at-requires-6 c κs = search needs
 
--- src/lib.rt:126:1
 returns : tie.Need-returns
 unfolding decFixed
 returns c = λ i.

@@ -1,33 +1,23 @@
 use native.Mathlib.Omega.{arith}
-use Prim.Native.Nat.{ℕ, _+_, _*_}
-use mathlib.Core.Path.{_≡_, ap, sym, _∙_}
+use mathlib.Core.Path.{ap, sym, _∙_}
 use Rattle.layout.specs.Setups.{decShape, kindOf}
 use Rattle.layout.specs.SetupLaws.{shape-number}
 use borrow.Author.Needs.{needs}
 use Rattle.layout.proofs.kind_at.Statement.{statement}
 use Rattle.layout.proofs.kind_at.Tie as tie
-use Rattle.layout.proofs.kind_at.Reads as reads
-use Rattle.layout.proofs.kind_at.Lts as lts
-use Rattle.cells.proofs.u8_at.Reads as u8-at-reads
-use Rattle.layout.proofs.kind_named.Reads as kind-named-reads
 
--- src/lib.rt:391:32
 mul-u8-at : tie.Need-mul-u8-at
 mul-u8-at c = search needs
 
--- src/lib.rt:391:32
 add-u8-at : tie.Need-add-u8-at
 add-u8-at c = search needs
 
--- src/lib.rt:391:16
 u8-at-requires : tie.Need-u8-at-requires
 u8-at-requires c κs = search needs
 
--- src/lib.rt:391:5
 kind-named-requires : tie.Need-kind-named-requires
 kind-named-requires c κs = search needs
 
--- src/lib.rt:387:1
 returns : tie.Need-returns
 unfolding decShape
 returns c = let a = c .before .before .before .args in c .kind-named .ensures ∙ ap kindOf (c .before .u8-at .ensures ∙ sym (shape-number 1 4 (a .r .now) (a .i) (omega arith)))

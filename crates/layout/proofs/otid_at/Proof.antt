@@ -1,28 +1,21 @@
 use native.Mathlib.Omega.{arith}
-use Prim.Native.Nat.{ℕ, _+_, _*_}
-use mathlib.Core.Path.{_≡_, ap, sym, _∙_}
+use Prim.Native.Nat.{_*_}
+use mathlib.Core.Path.{sym, _∙_}
 use Rattle.layout.specs.RowLaws.{in-row}
 use Rattle.layout.specs.Rows.{decFixed}
 use borrow.Author.Needs.{needs}
 use Rattle.layout.proofs.otid_at.Statement.{statement}
 use Rattle.layout.proofs.otid_at.Tie as tie
-use Rattle.layout.proofs.otid_at.Reads as reads
-use Rattle.layout.proofs.otid_at.Lts as lts
-use Rattle.cells.proofs.u32_at.Reads as u32-at-reads
 
--- src/lib.rt:281:27
 mul-u32-at : tie.Need-mul-u32-at
 mul-u32-at c = search needs
 
--- src/lib.rt:281:27
 add-u32-at : tie.Need-add-u32-at
 add-u32-at c = search needs
 
--- src/lib.rt:281:10
 u32-at-requires : tie.Need-u32-at-requires
 u32-at-requires c κs = search needs
 
--- src/lib.rt:277:1
 returns : tie.Need-returns
 unfolding decFixed
 returns c = let a = c .before .before .args in λ j. record { 0 = (c .u32-at .ensures ∙ sym (in-row 4 70 33 (a .r .now) (a .i * 70) (omega arith))) j }

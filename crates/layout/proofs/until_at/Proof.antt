@@ -1,28 +1,21 @@
 use native.Mathlib.Omega.{arith}
-use Prim.Native.Nat.{ℕ, _+_, _*_}
-use mathlib.Core.Path.{_≡_, ap, sym, _∙_}
+use Prim.Native.Nat.{_*_}
+use mathlib.Core.Path.{sym, _∙_}
 use Rattle.layout.specs.RowLaws.{in-row}
 use Rattle.layout.specs.Rows.{decHeard}
 use borrow.Author.Needs.{needs}
 use Rattle.layout.proofs.until_at.Statement.{statement}
 use Rattle.layout.proofs.until_at.Tie as tie
-use Rattle.layout.proofs.until_at.Reads as reads
-use Rattle.layout.proofs.until_at.Lts as lts
-use Rattle.cells.proofs.u64_at.Reads as u64-at-reads
 
--- src/lib.rt:295:22
 mul-u64-at : tie.Need-mul-u64-at
 mul-u64-at c = search needs
 
--- src/lib.rt:295:22
 add-u64-at : tie.Need-add-u64-at
 add-u64-at c = search needs
 
--- src/lib.rt:295:5
 u64-at-requires : tie.Need-u64-at-requires
 u64-at-requires c κs = search needs
 
--- src/lib.rt:291:1
 returns : tie.Need-returns
 unfolding decHeard
 returns c = let a = c .before .before .args in c .u64-at .ensures ∙ sym (in-row 8 70 16 (a .r .now) (a .i * 70) (omega arith))

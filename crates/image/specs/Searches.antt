@@ -1,0 +1,116 @@
+-- The first that passes a test: found row by row as code looks for it, and what the rules' words for it then come to.
+use Prim.Native.Nat.{ℕ, zero, suc, _+_, _*_, _≤_, _<_}
+use mathlib.Core.Bool.{Bool, true, false, cond}
+use mathlib.Core.List.{List, [], _∷_}
+use mathlib.Core.Option.{Option, none, some}
+use mathlib.Core.Path.{_≡_, refl, ap, sym, _∙_}
+use native.Mathlib.Omega.{arith}
+use native.Mathlib.Numerals.{add-one}
+use lib.ListN.{length, getD, set, take, drop, drop-of-length-le}
+use lib.Seq.{drop-cons}
+use Rattle.tables.specs.Tables.{rows, length-rows, row-at, without}
+use Rattle.rules.specs.Lists.{maybe, find, place, changeFirst, withoutFirst, changeAt}
+
+-- a place that was found k further on
+abbrev pub later : ℕ → Option ℕ → Option ℕ
+later k none = none
+later k (some j) = some (k + j)
+
+later-suc : (k : ℕ) (o : Option ℕ) → later k (maybe none (λ i. some (suc i)) o) ≡ later (k + 1) o
+later-suc k none = refl
+later-suc k (some j) = ap some (omega arith)
+
+pub later-zero : (o : Option ℕ) → later 0 o ≡ o
+later-zero none = refl
+later-zero (some j) = ap some (omega arith)
+
+-- ---- a search along the rows: the place in the rest, so many further on
+
+module _ {A : Type 0} (size : ℕ) (dec : List ℕ → A) (p : A → Bool) (n : ℕ) (r : List ℕ) where
+  rest : (i : ℕ) → i < n → drop i (rows size dec n r) ≡ dec (take size (drop (i * size) r)) ∷ drop (i + 1) (rows size dec n r)
+  rest i h =
+      drop-cons (rows size dec n r) i (dec []) (let e = length-rows size dec n r in omega arith)
+      ∙ (λ j. row-at size dec n r i (dec []) h j ∷ drop (sym (add-one i) j) (rows size dec n r))
+
+  at-row : (i : ℕ) → i < n → (b : Bool) → p (dec (take size (drop (i * size) r))) ≡ b
+      → later i (place p (drop i (rows size dec n r))) ≡ later i (cond b (some 0) (maybe none (λ j. some (suc j)) (place p (drop (i + 1) (rows size dec n r)))))
+  at-row i h b e =
+      ap (λ (z : List A). later i (place p z)) (rest i h)
+      ∙ ap (λ (x : Bool). later i (cond x (some 0) (maybe none (λ j. some (suc j)) (place p (drop (i + 1) (rows size dec n r)))))) e
+
+  pub search-hit : (i : ℕ) → i < n → p (dec (take size (drop (i * size) r))) ≡ true → later i (place p (drop i (rows size dec n r))) ≡ some i
+  search-hit i h e = at-row i h true e ∙ ap some (omega arith)
+
+  pub search-miss : (i : ℕ) → i < n → p (dec (take size (drop (i * size) r))) ≡ false
+      → later i (place p (drop i (rows size dec n r))) ≡ later (i + 1) (place p (drop (i + 1) (rows size dec n r)))
+  search-miss i h e = at-row i h false e ∙ later-suc i (place p (drop (i + 1) (rows size dec n r)))
+
+  pub search-ends : (i : ℕ) → n ≤ i → later i (place p (drop i (rows size dec n r))) ≡ none
+  search-ends i h = ap (λ (z : List A). later i (place p z)) (drop-of-length-le (rows size dec n r) {i = i} (let e = length-rows size dec n r in omega arith))
+
+-- ---- where the place is known
+
+-- the first of a list passes, or the place is one further on in the rest
+data Found (b : Bool) (o : Option ℕ) : ℕ → Type 0 where
+  here : b ≡ true → Found b o 0
+  there : {j : ℕ} → b ≡ false → o ≡ some j → Found b o (suc j)
+
+some-is : (i j : ℕ) → _≡_ {A = Option ℕ} (some i) (some j) → i ≡ j
+some-is i j e = cc
+
+none-not : {P : Type 0} (i : ℕ) → _≡_ {A = Option ℕ} none (some i) → P
+none-not i e = absurd (let z : _≡_ {A = ℕ} 0 1 = cc in omega arith)
+
+found : (b : Bool) (o : Option ℕ) (i : ℕ) → cond b (some 0) (maybe none (λ j. some (suc j)) o) ≡ some i → Found b o i
+found true o zero e = here refl
+found true o (suc i) e = let z = some-is 0 (suc i) e in absurd (omega arith)
+found false none i e = none-not i e
+found false (some j) zero e = let z = some-is (suc j) 0 e in absurd (omega arith)
+found false (some j) (suc i) e = let z = some-is (suc j) (suc i) e in there refl (ap some (omega arith))
+
+module _ {A : Type 0} (p : A → Bool) (d : A) where
+  pub place-in : (xs : List A) (i : ℕ) → place p xs ≡ some i → i < length xs
+  place-in [] i e = none-not i e
+  place-in (x ∷ xs) i e = go i (found (p x) (place p xs) i e)
+    where
+      go : (i : ℕ) → Found (p x) (place p xs) i → i < suc (length xs)
+      go i (here h) = omega arith
+      go i (there {j} h q) = let z = place-in xs j q in omega arith
+
+  pub place-passes : (xs : List A) (i : ℕ) → place p xs ≡ some i → p (getD xs i d) ≡ true
+  place-passes [] i e = none-not i e
+  place-passes (x ∷ xs) i e = go i (found (p x) (place p xs) i e)
+    where
+      go : (i : ℕ) → Found (p x) (place p xs) i → p (getD (x ∷ xs) i d) ≡ true
+      go i (here h) = h
+      go i (there {j} h q) = place-passes xs j q
+
+  pub find-at : (xs : List A) (i : ℕ) → place p xs ≡ some i → find p xs ≡ some (getD xs i d)
+  find-at [] i e = none-not i e
+  find-at (x ∷ xs) i e = go i (found (p x) (place p xs) i e)
+    where
+      go : (i : ℕ) → Found (p x) (place p xs) i → cond (p x) (some x) (find p xs) ≡ some (getD (x ∷ xs) i d)
+      go i (here h) = ap (λ (b : Bool). cond b (some x) (find p xs)) h
+      go i (there {j} h q) = ap (λ (b : Bool). cond b (some x) (find p xs)) h ∙ find-at xs j q
+
+  pub change-at : (u : A → A) (xs : List A) (i : ℕ) → place p xs ≡ some i → changeFirst p u xs ≡ set xs i (u (getD xs i d))
+  change-at u [] i e = none-not i e
+  change-at u (x ∷ xs) i e = go i (found (p x) (place p xs) i e)
+    where
+      go : (i : ℕ) → Found (p x) (place p xs) i → cond (p x) (u x ∷ xs) (x ∷ changeFirst p u xs) ≡ set (x ∷ xs) i (u (getD (x ∷ xs) i d))
+      go i (here h) = ap (λ (b : Bool). cond b (u x ∷ xs) (x ∷ changeFirst p u xs)) h
+      go i (there {j} h q) = ap (λ (b : Bool). cond b (u x ∷ xs) (x ∷ changeFirst p u xs)) h ∙ ap (λ (z : List A). x ∷ z) (change-at u xs j q)
+
+  pub without-at : (xs : List A) (i : ℕ) → place p xs ≡ some i → withoutFirst p xs ≡ without xs i
+  unfolding without
+  without-at [] i e = none-not i e
+  without-at (x ∷ xs) i e = go i (found (p x) (place p xs) i e)
+    where
+      go : (i : ℕ) → Found (p x) (place p xs) i → cond (p x) xs (x ∷ withoutFirst p xs) ≡ without (x ∷ xs) i
+      go i (here h) = ap (λ (b : Bool). cond b xs (x ∷ withoutFirst p xs)) h
+      go i (there {j} h q) = ap (λ (b : Bool). cond b xs (x ∷ withoutFirst p xs)) h ∙ ap (λ (z : List A). x ∷ z) (without-at xs j q)
+
+pub change-at-place : {A : Type 0} (u : A → A) (d : A) (xs : List A) (i : ℕ) → changeAt i u xs ≡ set xs i (u (getD xs i d))
+change-at-place u d [] i = refl
+change-at-place u d (x ∷ xs) zero = refl
+change-at-place u d (x ∷ xs) (suc i) = ap (λ z. x ∷ z) (change-at-place u d xs i)
