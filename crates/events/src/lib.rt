@@ -1,5 +1,4 @@
-// The event list in the lent state: an event's record of 32 bytes, written into its slot of the ring. Document 01: "A 1,025th
-// event drops the oldest."
+// Events: the record of 32 bytes that the host reads, and one event more in the list of the lent state.
 use rules::Event;
 use rules::Info;
 use rules::Kind;
@@ -8,12 +7,13 @@ ghost use Prim.Native.Nat.{ℕ, _+_, _*_, _≤_, _<_};
 ghost use mathlib.Core.List.{[], _∷_};
 ghost use lib.ListN.{length};
 ghost use lib.Seq.{sets};
+ghost use Rattle.cells.specs.Numbers.{le};
 ghost use Rattle.cells.specs.Records.{putFields, ofBool};
-ghost use Rattle.rules.specs.State.{withEvents};
-ghost use Rattle.rules.specs.Events.{kindNumber, infoRecord, eventRecord, pushed};
+ghost use Rattle.rules.specs.Events.{kindNumber, infoRecord, eventRecord};
 ghost use Rattle.image.specs.Holds.{Ready, Becomes};
+ghost use Rattle.image.specs.Kept.{Kept};
 ghost use Rattle.events.specs.Records.{wLow, wHigh, wPlain};
-ghost use Rattle.events.specs.Pushes.{Stays};
+ghost use Rattle.events.specs.Pushes.{eventTold};
 
 fn kind_number(k: Kind) -> u8
     ensures { λ r. ⌜ r ≡ kindNumber k ⌝ }
@@ -130,24 +130,12 @@ fn put_event(row: &mut [u8], e: Event)
     }
 }
 
-// One event more in the list: in the slot behind the last, or, where 1,024 wait, over the oldest.
+// One event more in the list; where 1,024 wait, the oldest goes.
 pub fn push(s: &mut [u8], e: Event)
     requires { ⌜ Ready (now s) ⌝ }
-    ensures { λ _. ⌜ Stays (now (s .entry)) (now (s .exit)) ⌝ }
-    ensures { λ _. ⌜ Becomes (now (s .entry)) (now (s .exit)) (λ st. withEvents (pushed e (st .events)) st) ⌝ }
+    ensures { λ _. ⌜ Kept (le 2 (now (s .entry)) 224) (now (s .entry)) (now (s .exit)) × Becomes (now (s .entry)) (now (s .exit)) (eventTold e) ⌝ }
 {
-    let first = cells::u16_at(s, 220);
-    let n = cells::u16_at(s, 222);
-    if n < 1024 {
-        let slot = (first + n) % 1024;
-        let a = 2560 + (slot as usize) * 32;
-        let z = a + 32;
-        put_event(&mut s[a..z], e);
-        cells::put_u16(s, 222, n + 1);
-        return;
-    }
-    let a = 2560 + (first as usize) * 32;
-    let z = a + 32;
-    put_event(&mut s[a..z], e);
-    cells::put_u16(s, 220, (first + 1) % 1024);
+    let mut row = [0u8; 32];
+    put_event(&mut row, e);
+    changes::push_event(s, &row);
 }
