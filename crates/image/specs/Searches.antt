@@ -66,49 +66,48 @@ found true o zero e = here refl
 found true o (suc i) e = let z = some-is 0 (suc i) e in absurd (omega arith)
 found false none i e = none-not i e
 found false (some j) zero e = let z = some-is (suc j) 0 e in absurd (omega arith)
-found false (some j) (suc i) e = let z = some-is (suc j) (suc i) e in there refl (ap some (omega arith))
+found false (some j) (suc i) e = let z = some-is (suc j) (suc i) e in let y : j ≡ i = omega arith in there {j = i} refl (ap some y)
+
+split-place : (P : ℕ → Type 0) (b : Bool) (o : Option ℕ) (i : ℕ) → Found b o i → (b ≡ true → P 0) → ((j : ℕ) → b ≡ false → o ≡ some j → P (suc j)) → P i
+split-place P b o i (here h) t f = t h
+split-place P b o i (there {j} h q) t f = f j h q
 
 module _ {A : Type 0} (p : A → Bool) (d : A) where
+  -- what holds of the first where it passes, and of one further on in the rest, holds at the place found
+  at-place : (P : ℕ → Type 0) (x : A) (xs : List A) (i : ℕ) → place p (x ∷ xs) ≡ some i
+      → (p x ≡ true → P 0) → ((j : ℕ) → p x ≡ false → place p xs ≡ some j → P (suc j)) → P i
+  at-place P x xs i e t f = split-place P (p x) (place p xs) i (found (p x) (place p xs) i e) t f
+
   pub place-in : (xs : List A) (i : ℕ) → place p xs ≡ some i → i < length xs
   place-in [] i e = none-not i e
-  place-in (x ∷ xs) i e = go i (found (p x) (place p xs) i e)
-    where
-      go : (i : ℕ) → Found (p x) (place p xs) i → i < suc (length xs)
-      go i (here h) = omega arith
-      go i (there {j} h q) = let z = place-in xs j q in omega arith
+  place-in (x ∷ xs) i e =
+      at-place (λ (k : ℕ). k < suc (length xs)) x xs i e (λ h. omega arith) (λ j h q. let z = place-in xs j q in omega arith)
 
   pub place-passes : (xs : List A) (i : ℕ) → place p xs ≡ some i → p (getD xs i d) ≡ true
   place-passes [] i e = none-not i e
-  place-passes (x ∷ xs) i e = go i (found (p x) (place p xs) i e)
-    where
-      go : (i : ℕ) → Found (p x) (place p xs) i → p (getD (x ∷ xs) i d) ≡ true
-      go i (here h) = h
-      go i (there {j} h q) = place-passes xs j q
+  place-passes (x ∷ xs) i e = at-place (λ (k : ℕ). p (getD (x ∷ xs) k d) ≡ true) x xs i e (λ h. h) (λ j h q. place-passes xs j q)
 
   pub find-at : (xs : List A) (i : ℕ) → place p xs ≡ some i → find p xs ≡ some (getD xs i d)
   find-at [] i e = none-not i e
-  find-at (x ∷ xs) i e = go i (found (p x) (place p xs) i e)
-    where
-      go : (i : ℕ) → Found (p x) (place p xs) i → cond (p x) (some x) (find p xs) ≡ some (getD (x ∷ xs) i d)
-      go i (here h) = ap (λ (b : Bool). cond b (some x) (find p xs)) h
-      go i (there {j} h q) = ap (λ (b : Bool). cond b (some x) (find p xs)) h ∙ find-at xs j q
+  find-at (x ∷ xs) i e =
+      at-place (λ (k : ℕ). find p (x ∷ xs) ≡ some (getD (x ∷ xs) k d)) x xs i e
+      (λ h. ap (λ (b : Bool). cond b (some x) (find p xs)) h)
+      (λ j h q. ap (λ (b : Bool). cond b (some x) (find p xs)) h ∙ find-at xs j q)
 
   pub change-at : (u : A → A) (xs : List A) (i : ℕ) → place p xs ≡ some i → changeFirst p u xs ≡ set xs i (u (getD xs i d))
   change-at u [] i e = none-not i e
-  change-at u (x ∷ xs) i e = go i (found (p x) (place p xs) i e)
-    where
-      go : (i : ℕ) → Found (p x) (place p xs) i → cond (p x) (u x ∷ xs) (x ∷ changeFirst p u xs) ≡ set (x ∷ xs) i (u (getD (x ∷ xs) i d))
-      go i (here h) = ap (λ (b : Bool). cond b (u x ∷ xs) (x ∷ changeFirst p u xs)) h
-      go i (there {j} h q) = ap (λ (b : Bool). cond b (u x ∷ xs) (x ∷ changeFirst p u xs)) h ∙ ap (λ (z : List A). x ∷ z) (change-at u xs j q)
+  change-at u (x ∷ xs) i e =
+      at-place (λ (k : ℕ). changeFirst p u (x ∷ xs) ≡ set (x ∷ xs) k (u (getD (x ∷ xs) k d))) x xs i e
+      (λ h. ap (λ (b : Bool). cond b (u x ∷ xs) (x ∷ changeFirst p u xs)) h)
+      (λ j h q. ap (λ (b : Bool). cond b (u x ∷ xs) (x ∷ changeFirst p u xs)) h ∙ ap (λ (z : List A). x ∷ z) (change-at u xs j q))
 
   pub without-at : (xs : List A) (i : ℕ) → place p xs ≡ some i → withoutFirst p xs ≡ without xs i
   unfolding without
   without-at [] i e = none-not i e
-  without-at (x ∷ xs) i e = go i (found (p x) (place p xs) i e)
-    where
-      go : (i : ℕ) → Found (p x) (place p xs) i → cond (p x) xs (x ∷ withoutFirst p xs) ≡ without (x ∷ xs) i
-      go i (here h) = ap (λ (b : Bool). cond b xs (x ∷ withoutFirst p xs)) h
-      go i (there {j} h q) = ap (λ (b : Bool). cond b xs (x ∷ withoutFirst p xs)) h ∙ ap (λ (z : List A). x ∷ z) (without-at xs j q)
+  without-at (x ∷ xs) i e =
+      at-place (λ (k : ℕ). withoutFirst p (x ∷ xs) ≡ without (x ∷ xs) k) x xs i e
+      (λ h. ap (λ (b : Bool). cond b xs (x ∷ withoutFirst p xs)) h)
+      (λ j h q. ap (λ (b : Bool). cond b xs (x ∷ withoutFirst p xs)) h ∙ ap (λ (z : List A). x ∷ z) (without-at xs j q))
 
 pub change-at-place : {A : Type 0} (u : A → A) (d : A) (xs : List A) (i : ℕ) → changeAt i u xs ≡ set xs i (u (getD xs i d))
 change-at-place u d [] i = refl

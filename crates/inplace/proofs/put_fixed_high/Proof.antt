@@ -1,3 +1,4 @@
+use Rattle.cells.specs.Records.{puts, step, done}
 use borrow.Author.Needs.{needs}
 use Rattle.inplace.proofs.put_fixed_high.Statement.{statement}
 use Rattle.inplace.proofs.put_fixed_high.Tie as tie
@@ -27,7 +28,16 @@ same-length : tie.Need-same-length
 same-length c = search needs
 
 returns : tie.Need-returns
-returns c = cc
+returns c =
+    puts
+    (step (c .before .before .before .before .before .before .before .before .before .before .before .before .before .before .before .before .before .before .before .before .before .before .before .before .before .before .put-u32 .ensures)
+    (step (c .before .before .before .before .before .before .before .before .before .before .before .before .before .before .before .before .before .before .before .before .before .before .put-u322 .ensures)
+    (step (c .before .before .before .before .before .before .before .before .before .before .before .before .before .before .before .before .before .before .put-u323 .ensures)
+    (step (c .before .before .before .before .before .before .before .before .before .before .before .before .before .before .put-u16 .ensures)
+    (step (c .before .before .before .before .before .before .before .before .before .before .put-u162 .ensures)
+    (step (c .before .before .before .before .before .before .put-u324 .ensures)
+    (step (c .before .before .put-u8 .ensures)
+    done)))))))
 
 pub put-fixed-high-spec : {M : Type 1} → statement M
 put-fixed-high-spec =
