@@ -1,0 +1,91 @@
+-- The laws of the walk along the table, and of each way out.
+use Prim.Native.Nat.{ℕ, zero, suc, _+_, _*_, _≤_, _<_, min}
+use mathlib.Core.Bool.{Bool, true, false}
+use mathlib.Core.List.{List, [], _∷_}
+use mathlib.Core.Option.{Option, none, some}
+use mathlib.Core.Path.{_≡_, refl, ap, ap₂, sym, _∙_}
+use native.Mathlib.Omega.{arith}
+use native.Mathlib.Numerals.{add-one}
+use lib.Dec.{leb}
+use lib.ListN.{length, getD, take, drop, drop-of-length-le}
+use lib.Seq.{sets, drop-cons}
+use borrow.Author.Tests.{le-leb, lt-leb}
+use Rattle.cells.specs.Numbers.{le, put, bytesLe, length-bytesLe}
+use Rattle.tables.specs.Tables.{rows, length-rows, row-at}
+use Rattle.rules.specs.State.{State}
+use Rattle.rules.specs.declared.Conn.{Conn}
+use Rattle.rules.specs.Lists.{maybe}
+use Rattle.rules.specs.Answers.{Answer, Wrote, Refused, NothingThere, fitting, answerNumber}
+use Rattle.rules.specs.declared.Due.{Due}
+use Rattle.rules.specs.declared.Due.the-variants.{Never, At}
+use Rattle.rules.specs.Removal.{dueOr, deadlineOf, leastOf, deadline, deadlineAnswer}
+use Rattle.layout.specs.Places.{tableIn}
+use Rattle.layout.specs.Rows.{decHeard, decSent, decConn}
+use Rattle.image.specs.Holds.{Holds, conns-held, table-held}
+use Rattle.deadlines.specs.Reading.{Answered, Answers}
+
+-- a row's own deadline
+module _ (b : List ℕ) (u : ℕ) (d : Due) (eu : u ≡ decHeard b .until) (ed : d ≡ decSent b .due) where
+  pub row-never : d ≡ Never → u ≡ deadlineOf (decConn b)
+  row-never e = ap₂ dueOr eu (sym e ∙ ed)
+
+  pub row-due : (t : ℕ) → d ≡ At t → (x : ℕ) → x ≡ min u t → x ≡ deadlineOf (decConn b)
+  row-due t e x ex = ex ∙ ap₂ dueOr eu (sym e ∙ ed)
+
+module _ (n : ℕ) (r : List ℕ) where
+  pub least-turn : (m x i : ℕ) → i < n → x ≡ deadlineOf (decConn (take 70 (drop (i * 70) r)))
+      → leastOf m (drop i (rows 70 decConn n r)) ≡ leastOf (min m x) (drop (i + 1) (rows 70 decConn n r))
+  least-turn m x i h e =
+      ap (leastOf m)
+      (drop-cons (rows 70 decConn n r) i (decConn []) (let k = length-rows 70 decConn n r in omega arith)
+      ∙ (λ j. row-at 70 decConn n r i (decConn []) h j ∷ drop (sym (add-one i) j) (rows 70 decConn n r)))
+      ∙ ap (λ (y : ℕ). leastOf (min m y) (drop (i + 1) (rows 70 decConn n r))) (sym e)
+
+  pub least-end : (m i : ℕ) → n ≤ i → leastOf m (drop i (rows 70 decConn n r)) ≡ m
+  least-end m i h = ap (leastOf m) (drop-of-length-le (rows 70 decConn n r) {i = i} (let k = length-rows 70 decConn n r in omega arith))
+
+pub least-whole : (n : ℕ) (r : List ℕ) (m : ℕ) → 0 < n → m ≡ deadlineOf (decConn (take 70 (drop (0 * 70) r)))
+    → deadline (rows 70 decConn n r) ≡ some (leastOf m (drop 1 (rows 70 decConn n r)))
+unfolding rows
+least-whole zero r m h e = absurd (omega arith)
+least-whole (suc n) r m h e = ap (λ (y : ℕ). some (leastOf y (rows 70 decConn n (drop 70 r)))) (sym e)
+
+empty : (cs : List Conn) → length cs ≡ 0 → deadline cs ≡ none
+empty [] e = refl
+empty (c ∷ cs) e = absurd (omega arith)
+
+module _ (s out : List ℕ) (n : ℕ) (en : n ≡ le 2 s 224) where
+  pub none-waits : n ≡ 0 → Answers deadlineAnswer s out 9 out
+  unfolding deadlineAnswer answerNumber
+  none-waits z st l h =
+      let e : deadline (st .table) ≡ none = empty (st .table) (let k = conns-held s st l h in omega arith) in
+      record { number = rw e; bytes = rw e }
+
+  module _ (x : ℕ) (ex : deadline (rows 70 decConn n (tableIn s)) ≡ some x) where
+    is : (st : State) (l : List ℕ) → Holds s st l → deadline (st .table) ≡ some x
+    is st l h = ap deadline (sym (ap (λ (k : ℕ). rows 70 decConn k (tableIn s)) en ∙ table-held s st l h)) ∙ ex
+
+    pub answered : 8 ≤ length out → (out′ : List ℕ) → out′ ≡ put 8 out 0 x → Answers deadlineAnswer s out 2048 out′
+    unfolding deadlineAnswer answerNumber put
+    answered p out′ e st l h =
+        let k : length (bytesLe 8 x) ≡ 8 = length-bytesLe 8 x in
+        let b : leb (length (bytesLe 8 x)) (length out) ≡ true = le-leb (length (bytesLe 8 x)) (length out) (omega arith) in
+        record { number = rw (is st l h, b) (omega arith); bytes = e ∙ rw (is st l h, b) }
+
+  some-waits : (cs : List Conn) → 0 < length cs → (Q : Option ℕ → Type 0) → ((x : ℕ) → Q (some x)) → Q (deadline cs)
+  some-waits [] p Q f = absurd (omega arith)
+  some-waits (c ∷ cs) p Q f = f (leastOf (deadlineOf c) cs)
+
+  pub short : (n ≡ 0 → ⊥) → length out < 8 → Answers deadlineAnswer s out 8 out
+  unfolding deadlineAnswer answerNumber
+  short z p st l h =
+      some-waits (st .table) (let k = conns-held s st l h in by-ne (length (st .table)) (λ e. z (en ∙ k ∙ e)))
+      (λ o. Answered (maybe (Refused NothingThere) (λ t. fitting (length out) (bytesLe 8 t) (Wrote (bytesLe 8 t))) o) out 8 out)
+      (λ x.
+      let k : length (bytesLe 8 x) ≡ 8 = length-bytesLe 8 x in
+      let b : leb (length (bytesLe 8 x)) (length out) ≡ false = lt-leb (length (bytesLe 8 x)) (length out) (omega arith) in
+      record { number = rw b; bytes = rw b })
+    where
+      by-ne : (k : ℕ) → (k ≡ 0 → ⊥) → 0 < k
+      by-ne zero f = absurd (f refl)
+      by-ne (suc k) f = omega arith

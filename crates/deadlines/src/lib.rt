@@ -1,0 +1,62 @@
+// The next deadline: the least of producing due times and receive time plus timeout.
+use rules::Due;
+ghost use mathlib.Core.Path.{_≡_};
+ghost use mathlib.Core.Option.{some};
+ghost use Prim.Native.Nat.{ℕ, _+_, _*_, _≤_, _<_, min};
+ghost use lib.ListN.{length, take, drop};
+ghost use Rattle.tables.specs.Tables.{rows};
+ghost use Rattle.rules.specs.Removal.{deadlineOf, deadline, deadlineAnswer};
+ghost use Rattle.layout.specs.Rows.{decConn};
+ghost use Rattle.image.specs.Holds.{Ready};
+ghost use Rattle.deadlines.specs.Reading.{Answers};
+
+fn lesser(a: u64, b: u64) -> u64
+    ensures { λ r. ⌜ r ≡ min a b ⌝ }
+{
+    if a < b {
+        return a;
+    }
+    b
+}
+
+fn row_deadline(r: &[u8], i: usize) -> u64
+    requires { ⌜ (i < 32) × (2304 ≤ length (now r)) ⌝ }
+    ensures { λ x. ⌜ x ≡ deadlineOf (decConn (take 70 (drop (i * 70) (now (r .entry))))) ⌝ }
+{
+    let until = layout::until_at(r, i);
+    let due = layout::due_at(r, i);
+    match due {
+        Due::Never => until,
+        Due::At(t) => lesser(until, t),
+    }
+}
+
+fn least(r: &[u8], n: usize) -> u64
+    requires { ⌜ (0 < n) × (n ≤ 32) × (2304 ≤ length (now r)) ⌝ }
+    ensures { λ x. ⌜ deadline (rows 70 decConn n (now (r .entry))) ≡ some x ⌝ }
+{
+    let first = row_deadline(r, 0);
+    let mut m = first;
+    let mut i = 1;
+    while i < n {
+        m = lesser(m, row_deadline(r, i));
+        i += 1;
+    }
+    m
+}
+
+// The answer of a state that passed its test, with the time in the output's first 8 bytes.
+pub fn next_deadline(s: &[u8], out: &mut [u8]) -> u64
+    requires { ⌜ Ready (now s) ⌝ }
+    ensures { λ r. ⌜ Answers deadlineAnswer (now (s .entry)) (now (out .entry)) r (now (out .exit)) ⌝ }
+{
+    let n = cells::u16_at(s, 224) as usize;
+    if n == 0 {
+        return 9;
+    }
+    if out.len() < 8 {
+        return 8;
+    }
+    cells::put_u64(out, 0, least(&s[256..2560], n));
+    2048
+}
