@@ -14,7 +14,7 @@ use Rattle.tables.specs.Tables.{rows, without}
 use Rattle.rules.specs.Lists.{maybe, find, place, any, keep, withoutFirst}
 use Rattle.rules.specs.ListLaws.{by-cases, clash, find-passes, keep-all, all-to, none-found, without-keep-out}
 use Rattle.rules.specs.State.{Events, State, withTable, isListener}
-use Rattle.rules.specs.Events.{infoOf, infoRecord, eventRecord, pushed, pushedAll}
+use Rattle.rules.specs.Events.{infoOf, infoRecord, eventRecord, appended, pushed, pushedAll}
 use Rattle.rules.specs.Removal.{inStream, feeds, closedEvents}
 use Rattle.rules.specs.declared.Conn.{Conn}
 use Rattle.rules.specs.declared.Fixed.{Fixed}
@@ -64,6 +64,7 @@ keep-first p c (x ∷ xs) e = by-cases (p x) (λ t. let f : some x ≡ some c = 
 -- ---- all of them, by the first and the rest
 
 pub all-none : (id : ToId) (st : State) → find (inStream id) (st .table) ≡ none → allClosed id st ≡ st
+unfolding pushedAll
 all-none id st e =
     λ j.
     record {
@@ -78,7 +79,7 @@ all-none id st e =
 
 all-found : (id : ToId) (st : State) (c : Conn) → find (inStream id) (st .table) ≡ some c
     → allClosed id (told 2 (c .fixed) (withTable (withoutFirst (inStream id) (st .table)) st)) ≡ allClosed id st
-unfolding pushed eventRecord
+unfolding pushed eventRecord appended pushedAll
 all-found id st c e =
     let p : Conn → Bool = inStream id in
     let a : keep (λ x. not (p x)) (withoutFirst p (st .table)) ≡ keep (λ x. not (p x)) (st .table) =
@@ -211,6 +212,7 @@ ended k multicast id st =
     }
 
 ended-when : (k : Kind) (multicast : Bool) (id : ToId) (st : State) (b : Bool) → endsFor k multicast id (st .table) ≡ b → cond b (allClosed id st) st ≡ ended k multicast id st
+unfolding pushedAll
 ended-when k multicast id st true e =
     ap (λ (b : Bool). record {
       setup = st .setup;
