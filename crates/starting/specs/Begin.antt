@@ -1,0 +1,110 @@
+-- The fresh state, as code writes it: zeros, then the block, the EDS mark, the next id and the EDS.
+use Prim.Native.Nat.{ℕ, zero, suc, _+_, _*_, _-_, _≤_, _<_}
+use mathlib.Core.Bool.{Bool, true, false, cond}
+use mathlib.Core.List.{List, [], _∷_, _++_, append-nil, append-assoc}
+use mathlib.Core.Path.{_≡_, refl, ap, ap₂, sym, _∙_}
+use native.Mathlib.Omega.{arith}
+use native.Mathlib.Numerals.{add-one}
+use lib.ListN.{length, getD, take, drop, set, replicate, drop-of-length-le}
+use lib.Seq.{sets, sets-eq, length-sets, drop-cons, set-at}
+use Rattle.cells.specs.Numbers.{le, put, bytesLe, length-bytesLe}
+use Rattle.cells.specs.Records.{encFields}
+use Rattle.tables.specs.Slots.{sets-whole}
+use Rattle.tables.specs.Regions.{joined, Sized, none, one, start, sized-set}
+use Rattle.tables.specs.RegionWrites.{region-sets}
+use Rattle.rules.specs.Setup.{firstId}
+use Rattle.layout.specs.Places.{widths, wHead}
+use Rattle.starting.specs.Block.{edsMark, regionOf, zeros, listFresh, regionsFresh, started}
+use Rattle.starting.specs.Fresh.{length-zeros, drop-zeros}
+
+zeros-add : (a b : ℕ) → zeros (a + b) ≡ zeros a ++ zeros b
+unfolding zeros
+zeros-add zero b = ap (λ (n : ℕ). replicate n 0) (let e : 0 + b ≡ b = omega arith in e)
+zeros-add (suc a) b = ap (λ (n : ℕ). replicate n 0) (let e : suc a + b ≡ suc (a + b) = omega arith in e) ∙ ap (λ (z : List ℕ). 0 ∷ z) (zeros-add a b)
+
+abbrev nothing : List (List ℕ)
+nothing = zeros 192 ∷ zeros 48 ∷ zeros 16 ∷ zeros 2304 ∷ zeros 32768 ∷ zeros 8192 ∷ zeros 65536 ∷ []
+
+nothing-sized : Sized widths nothing
+nothing-sized =
+    one (length-zeros 192) (one (length-zeros 48) (one (length-zeros 16) (one (length-zeros 2304) (one (length-zeros 32768) (one (length-zeros 8192) (one (length-zeros 65536) none))))))
+
+all-nothing : zeros 109056 ≡ joined nothing
+unfolding joined
+all-nothing =
+    zeros-add 192 108864
+    ∙ ap (λ (z : List ℕ). zeros 192 ++ z)
+    (zeros-add 48 108816
+    ∙ ap (λ (z : List ℕ). zeros 48 ++ z)
+    (zeros-add 16 108800
+    ∙ ap (λ (z : List ℕ). zeros 16 ++ z)
+    (zeros-add 2304 106496
+    ∙ ap (λ (z : List ℕ). zeros 2304 ++ z)
+    (zeros-add 32768 73728
+    ∙ ap (λ (z : List ℕ). zeros 32768 ++ z)
+    (zeros-add 8192 65536
+    ∙ ap (λ (z : List ℕ). zeros 8192 ++ z) (sym (append-nil (zeros 65536))))))))
+
+-- the head: zeros, but the next id
+head-begun : (seed : ℕ) → sets (zeros 48) 24 (bytesLe 4 (firstId seed)) ≡ encFields wHead (listFresh seed) ++ zeros 12
+unfolding zeros encFields bytesLe
+head-begun seed = refl
+
+-- the EDS's region: its bytes, then zeros
+eds-begun : (eds : List ℕ) → length eds ≤ 65536 → sets (zeros 65536) 0 eds ≡ eds ++ zeros (65536 - length eds)
+eds-begun eds h =
+    let n = length-zeros 65536 in
+    sets-eq eds (zeros 65536) 0 (omega arith)
+    ∙ ap (λ (z : List ℕ). eds ++ z) (drop-zeros (0 + length eds) 65536 ∙ ap (λ (k : ℕ). zeros (65536 - k)) (let e : 0 + length eds ≡ length eds = omega arith in e))
+
+module _ (block eds : List ℕ) (seed mark : ℕ) (long : length block ≡ 192) (short : length eds ≤ 65535) (em : mark ≡ edsMark (le 4 block 4) eds) where
+  abbrev head : List ℕ
+  head = encFields wHead (listFresh seed) ++ zeros 12
+
+  pub begun : (s₀ s₁ s₂ s₃ s₄ : List ℕ) (id : ℕ) → id ≡ firstId seed → s₀ ≡ zeros 109056 → s₁ ≡ sets s₀ 0 block → s₂ ≡ put 4 s₁ 4 mark → s₃ ≡ put 4 s₂ 216 id
+      → s₄ ≡ sets s₃ 43520 eds → s₄ ≡ started block eds seed
+  unfolding put started regionOf start
+  begun s₀ s₁ s₂ s₃ s₄ id ei e₀ e₁ e₂ e₃ e₄ =
+      let r₁ : List (List ℕ) = set nothing 0 block in
+      let z₁ : Sized widths r₁ = sized-set 0 block nothing-sized long in
+      let m : List ℕ = bytesLe 4 mark in
+      let lm = length-bytesLe 4 mark in
+      let b : List ℕ = sets block 4 m in
+      let lb : length b ≡ 192 = length-sets block 4 m ∙ long in
+      let r₂ : List (List ℕ) = set nothing 0 b in
+      let z₂ : Sized widths r₂ = sized-set 0 b nothing-sized lb in
+      let i : List ℕ = bytesLe 4 (firstId seed) in
+      let li = length-bytesLe 4 (firstId seed) in
+      let h : List ℕ = sets (zeros 48) 24 i in
+      let lh : length h ≡ 48 = length-sets (zeros 48) 24 i ∙ length-zeros 48 in
+      let r₃ : List (List ℕ) = set r₂ 1 h in
+      let z₃ : Sized widths r₃ = sized-set 1 h z₂ lh in
+      let q₁ : s₁ ≡ joined r₁ =
+      e₁ ∙ ap (λ (x : List ℕ). sets x 0 block) (e₀ ∙ all-nothing)
+      ∙ region-sets 0 0 block nothing-sized (omega arith) (omega arith)
+      ∙ ap (λ (x : List ℕ). joined (set nothing 0 x)) (sets-whole (zeros 192) block (length-zeros 192 ∙ sym long)) in
+      let q₂ : s₂ ≡ joined r₂ = e₂ ∙ ap (λ (x : List ℕ). sets x 4 m) q₁ ∙ region-sets 0 4 m z₁ (omega arith) (omega arith) in
+      let q₃ : s₃ ≡ joined r₃ =
+      e₃ ∙ ap₂ (λ (x : List ℕ) (n : ℕ). sets x 216 (bytesLe 4 n)) q₂ ei ∙ region-sets 1 24 i z₂ (omega arith) (omega arith) in
+      e₄ ∙ ap (λ (x : List ℕ). sets x 43520 eds) q₃
+      ∙ region-sets 6 0 eds z₃ (omega arith) (omega arith)
+      ∙ (λ j. joined (sets block 4 (bytesLe 4 (em j)) ∷ head-begun seed j ∷ zeros 16 ∷ zeros 2304 ∷ zeros 32768 ∷ zeros 8192 ∷ eds-begun eds (omega arith) j ∷ []))
+
+-- ---- one more byte made zero, and all of them
+
+pub cleared-more : (s₀ s : List ℕ) (k : ℕ) → k < length s₀ → s ≡ zeros k ++ drop k s₀ → set s k 0 ≡ zeros (k + 1) ++ drop (k + 1) s₀
+unfolding zeros
+cleared-more s₀ s k h e =
+    ap (λ (x : List ℕ). set x k 0) (e ∙ ap (λ (x : List ℕ). zeros k ++ x) (drop-cons s₀ k 0 h))
+    ∙ set-at (zeros k) (getD s₀ k 0) (drop (suc k) s₀) 0 k (length-zeros k)
+    ∙ ap (λ (x : List ℕ). zeros k ++ x) (ap (λ (n : ℕ). 0 ∷ drop n s₀) (sym (add-one k)))
+    ∙ sym (append-assoc (zeros k) (zeros 1) (drop (k + 1) s₀))
+    ∙ ap (λ (x : List ℕ). x ++ drop (k + 1) s₀) (sym (zeros-add k 1))
+
+pub cleared-all : (s₀ s : List ℕ) (k : ℕ) → length s₀ ≤ k → k ≤ length s₀ → s ≡ zeros k ++ drop k s₀ → s ≡ zeros (length s₀)
+cleared-all s₀ s k h g e =
+    e ∙ ap (λ (x : List ℕ). zeros k ++ x) (drop-of-length-le s₀ {i = k} h) ∙ append-nil (zeros k) ∙ ap zeros (let q : k ≡ length s₀ = omega arith in q)
+
+pub cleared-none : (s₀ : List ℕ) → s₀ ≡ zeros 0 ++ drop 0 s₀
+unfolding zeros
+cleared-none s₀ = refl

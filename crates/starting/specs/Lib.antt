@@ -1,0 +1,4 @@
+pub mod Block
+pub mod Given
+pub mod Fresh
+pub mod Begin

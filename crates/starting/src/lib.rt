@@ -1,0 +1,53 @@
+// Setup: what the host's block and EDS say, whether that is accepted, and the state's bytes that it leaves.
+ghost use mathlib.Core.Path.{_≡_};
+ghost use mathlib.Core.Bool.{cond};
+ghost use Prim.Native.Nat.{ℕ, _+_, _≤_};
+ghost use lib.Dec.{eqb};
+ghost use lib.ListN.{length};
+ghost use Rattle.rules.specs.Setup.{firstId};
+ghost use Rattle.starting.specs.Block.{zeros, started};
+
+fn clear(s: &mut [u8])
+    ensures { λ _. ⌜ now (s .exit) ≡ zeros (length (now (s .entry))) ⌝ }
+{
+    let mut k = 0;
+    while k < s.len() {
+        s[k] = 0;
+        k += 1;
+    }
+}
+
+// The EDS mark: 0 for no EDS, else its length and one.
+fn eds_mark(flag: u32, n: usize) -> u32
+    requires { ⌜ n ≤ 65535 ⌝ }
+    ensures { λ r. ⌜ r ≡ cond (eqb flag 0) 0 (n + 1) ⌝ }
+{
+    if flag == 0 {
+        return 0;
+    }
+    (n + 1) as u32
+}
+
+// Ids start at the seed with bit 0 set.
+fn first_id(seed: u32) -> u32
+    ensures { λ r. ⌜ r ≡ firstId seed ⌝ }
+{
+    if seed % 2 == 0 {
+        return seed + 1;
+    }
+    seed
+}
+
+// The fresh state, written over whatever the bytes were.
+fn begin(s: &mut [u8], block: &[u8], eds: &[u8], seed: u32)
+    requires { ⌜ (length (now s) ≡ 109056) × (length (now block) ≡ 192) × (length (now eds) ≤ 65535) ⌝ }
+    ensures { λ _. ⌜ now (s .exit) ≡ started (now (block .entry)) (now (eds .entry)) seed ⌝ }
+{
+    let mark = eds_mark(cells::u32_at(block, 4), eds.len());
+    let id = first_id(seed);
+    clear(s);
+    cells::copy_in(s, 0, block);
+    cells::put_u32(s, 4, mark);
+    cells::put_u32(s, 216, id);
+    cells::copy_in(s, 43520, eds);
+}
