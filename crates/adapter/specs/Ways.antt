@@ -1,6 +1,5 @@
 -- The two ways out of a C function: the state test fails, No. 1; else the call's outcome, by its number.
 use Prim.Native.Nat.{ℕ}
-use mathlib.Core.List.{List}
 use mathlib.Core.Path.{_≡_, ap, _∙_}
 use Rattle.application.specs.Outcomes.{outcomeNumber}
 use Rattle.application.specs.declared.answers.Outcome.{Outcome}

@@ -1,12 +1,12 @@
 -- The counters, as code writes them.
 use Prim.Native.Nat.{ℕ, _*_, _^_, _≤_, _<_}
-use mathlib.Core.Bool.{Bool, true}
-use mathlib.Core.List.{List, [], _∷_, _++_, append-nil}
-use mathlib.Core.Path.{_≡_, refl, ap, sym, _∙_}
+use mathlib.Core.Bool.{true}
+use mathlib.Core.List.{List, [], _∷_, _++_}
+use mathlib.Core.Path.{_≡_, refl, sym, _∙_}
 use native.Mathlib.Omega.{arith}
-use lib.ListN.{length, length-append}
+use lib.ListN.{length}
 use lib.Seq.{sets}
-use Rattle.cells.specs.Numbers.{le, put, bytesLe, length-bytesLe}
+use Rattle.cells.specs.Numbers.{le, put, bytesLe}
 use Rattle.cells.specs.Records.{encFields, putFields-eq, puts, done, step}
 use Rattle.rules.specs.Answers.{Wrote, NoRoom}
 use Rattle.rules.specs.Host.{statsBytes, statsAnswer}

@@ -1,23 +1,23 @@
 -- The state test accepts what each of these calls leaves.
-use Prim.Native.Nat.{ℕ, _+_, _-_, _%_, _≤_, _<_}
+use Prim.Native.Nat.{ℕ, _+_, _-_, _≤_}
 use mathlib.Core.Bool.{Bool, true, false, cond}
-use mathlib.Core.List.{List, [], _∷_, _++_}
+use mathlib.Core.List.{List, _++_}
 use mathlib.Core.Option.{Option, none, some}
 use mathlib.Core.Path.{_≡_, refl, ap, sym, _∙_, subst}
 use native.Mathlib.Omega.{arith}
 use lib.Dec.{leb}
-use lib.ListN.{length, drop, replicate, length-append, length-replicate, length-drop}
+use lib.ListN.{length, replicate, length-append, length-replicate, length-drop}
 use borrow.Author.Tests.{leb-true}
 use Rattle.tables.specs.Ring.{by-cases}
 use Rattle.rules.specs.Lists.{changeAt}
-use Rattle.rules.specs.State.{Content, Events, State, shapeAt, contentAt, withContents}
+use Rattle.rules.specs.State.{Content, State, shapeAt, contentAt, withContents}
 use Rattle.rules.specs.Answers.{Answer, isYes, settled}
 use Rattle.rules.specs.Events.{oldestGone}
 use Rattle.rules.specs.Checks.{placeOf}
-use Rattle.rules.specs.Host.{filled, setInputAt, inputSet, setInputAnswer, setInputEffect, setInputCall, read, outputRead, outputAnswer, outputEffect, outputCall, kindTest, nextEventEffect, nextEventAnswer, nextEventCall}
+use Rattle.rules.specs.Host.{filled, setInputAt, inputSet, setInputAnswer, setInputEffect, setInputCall, read, outputRead, outputAnswer, outputEffect, outputCall, nextEventEffect, nextEventAnswer, nextEventCall}
 use Rattle.rules.specs.State.{isInput, isOutput}
-use Rattle.image.specs.Image.{view, store, tested}
-use Rattle.image.specs.Fits.{Fits, Suits}
+use Rattle.image.specs.Image.{view, tested}
+use Rattle.image.specs.Fits.{Suits}
 use Rattle.image.specs.ViewLaws.{suits-view}
 use Rattle.image.specs.Passes.{tested-store}
 use Rattle.image.specs.Kept.{suits-content, suits-events, records-drop}
@@ -34,9 +34,6 @@ unfolding liftedOut
 out-tested call l out t w = rw t (tested-store (call (length out) (view l) .1) l w)
 
 module _ (l : List ℕ) (t : tested l ≡ true) where
-  abbrev st : State
-  st = view l
-
   abbrev w : Suits (view l) l
   w = suits-view l t
 
@@ -75,7 +72,6 @@ module _ (l : List ℕ) (t : tested l ≡ true) where
   unfolding nextEventEffect oldestGone
   gone-suits =
       let f = w .fits in
-      let es : Events = view l .events in
       suits-events (view l) l w (oldestGone (view l .events)) (omega arith)
       (let a = f .waiting in let b = length-drop 1 (view l .events .waiting) in omega arith) (records-drop (view l .events .waiting) (f .records))
 

@@ -1,13 +1,13 @@
 -- The walk along the setup's list: what is passed, what is found, and where that is.
-use Prim.Native.Nat.{ℕ, zero, suc, _+_, _*_, _≤_, _<_}
+use Prim.Native.Nat.{ℕ, zero, suc, _+_, _≤_, _<_}
 use mathlib.Core.Bool.{Bool, true, false, cond, _&&_}
 use mathlib.Core.List.{List, [], _∷_}
 use mathlib.Core.Option.{Option, none, some}
-use mathlib.Core.Path.{_≡_, refl, ap, ap₂, sym, _∙_}
+use mathlib.Core.Path.{_≡_, refl, ap, sym, _∙_}
 use native.Mathlib.Omega.{arith}
 use native.Mathlib.Numerals.{add-one}
 use lib.Dec.{eqb}
-use lib.ListN.{length, getD, take, drop, drop-of-length-le}
+use lib.ListN.{length, drop, drop-of-length-le}
 use lib.Seq.{drop-cons}
 use borrow.Author.Tests.{ne-eqb}
 use Rattle.cells.specs.Numbers.{le}
@@ -16,7 +16,7 @@ use Rattle.tables.specs.Ring.{by-cases}
 use Rattle.rules.specs.Lists.{place, maybe}
 use Rattle.rules.specs.declared.AssemblyKind.{AssemblyKind}
 use Rattle.rules.specs.declared.AssemblyKind.the-variants.{Input, Output, Config}
-use Rattle.rules.specs.State.{Shape, Setup, noShape}
+use Rattle.rules.specs.State.{Shape, noShape}
 use Rattle.rules.specs.Checks.{isAt, placeOf}
 use Rattle.rules.specs.Host.{kindTest}
 use Rattle.layout.specs.Places.{setupIn}
@@ -26,7 +26,7 @@ use Rattle.image.specs.StoreLaws.{length-setupIn}
 use Rattle.image.specs.Holds.{Ready}
 use Rattle.application.specs.Places.{placeIn}
 use Rattle.application.specs.declared.places.Found.{Found}
-use Rattle.application.specs.declared.places.Found.the-variants.{At, Nowhere}
+use Rattle.application.specs.declared.places.Found.the-variants.{At}
 
 pub kind-input : (n : ℕ) → eqb n 1 ≡ kindTest n Input
 kind-input zero = refl

@@ -1,6 +1,6 @@
 -- The oldest event, as code takes it.
 use Prim.Native.Nat.{ℕ, zero, suc, _+_, _*_, _-_, _%_, _^_, _≤_, _<_}
-use mathlib.Core.Bool.{Bool, true}
+use mathlib.Core.Bool.{true}
 use mathlib.Core.List.{List, [], _∷_}
 use mathlib.Core.Path.{_≡_, refl, ap, sym, _∙_}
 use native.Mathlib.Omega.{arith}
@@ -14,7 +14,7 @@ use Rattle.rules.specs.Answers.{Answer, Wrote, Refused, NoRoom, NothingThere, s
 use Rattle.rules.specs.Events.{oldestGone}
 use Rattle.rules.specs.Host.{eventAt, nextEventAnswer, nextEventEffect, nextEventCall}
 use Rattle.layout.specs.Places.{ringIn}
-use Rattle.image.specs.Image.{view, store, tested, record32, asIs}
+use Rattle.image.specs.Image.{view, tested, record32, asIs}
 use Rattle.image.specs.Fits.{is-long, first-slot}
 use Rattle.image.specs.Taken.{taken-stored}
 use Rattle.image.specs.Lift.{liftedOut}

@@ -1,17 +1,17 @@
 -- The records of the connections, one behind the other, as code writes them.
-use Prim.Native.Nat.{ℕ, zero, suc, _+_, _*_, _-_, _^_, _≤_, _<_}
-use mathlib.Core.Bool.{Bool, true}
+use Prim.Native.Nat.{ℕ, _+_, _*_, _-_, _^_, _≤_, _<_}
+use mathlib.Core.Bool.{true}
 use mathlib.Core.List.{List, [], _∷_, _++_, append-assoc, append-nil}
 use mathlib.Core.Path.{_≡_, refl, ap, ap₂, sym, _∙_}
 use native.Mathlib.Omega.{arith}
 use native.Mathlib.Numerals.{add-one}
-use lib.ListN.{length, getD, take, drop, length-append, length-drop}
-use lib.Seq.{sets, length-sets, take-suc, take-all, length-take-le}
+use lib.ListN.{length, getD, take, drop, length-append}
+use lib.Seq.{sets, take-suc, take-all, length-take-le}
 use borrow.Rule.Slice.PartMut.{putMid}
 use Rattle.cells.specs.Numbers.{le, sets-append, lent}
 use Rattle.tables.specs.Tables.{rows, length-rows, row-at}
 use Rattle.rules.specs.Lists.{joined}
-use Rattle.rules.specs.State.{Setup, State}
+use Rattle.rules.specs.State.{Setup}
 use Rattle.rules.specs.declared.Conn.{Conn}
 use Rattle.rules.specs.declared.Fixed.{Fixed}
 use Rattle.rules.specs.Answers.{Wrote, NoRoom}

@@ -1,11 +1,10 @@
 -- The fresh state, as code writes it: zeros, then the block, the EDS mark, the next id and the EDS.
-use Prim.Native.Nat.{ℕ, zero, suc, _+_, _*_, _-_, _≤_, _<_}
-use mathlib.Core.Bool.{Bool, true, false, cond}
+use Prim.Native.Nat.{ℕ, zero, suc, _+_, _-_, _≤_, _<_}
 use mathlib.Core.List.{List, [], _∷_, _++_, append-nil, append-assoc}
 use mathlib.Core.Path.{_≡_, refl, ap, ap₂, sym, _∙_}
 use native.Mathlib.Omega.{arith}
 use native.Mathlib.Numerals.{add-one}
-use lib.ListN.{length, getD, take, drop, set, replicate, drop-of-length-le}
+use lib.ListN.{length, getD, drop, set, replicate, drop-of-length-le}
 use lib.Seq.{sets, sets-eq, length-sets, drop-cons, set-at}
 use Rattle.cells.specs.Numbers.{le, put, bytesLe, length-bytesLe}
 use Rattle.cells.specs.Records.{encFields}
@@ -14,7 +13,7 @@ use Rattle.tables.specs.Regions.{joined, Sized, none, one, start, sized-set}
 use Rattle.tables.specs.RegionWrites.{region-sets}
 use Rattle.rules.specs.Setup.{firstId}
 use Rattle.layout.specs.Places.{widths, wHead}
-use Rattle.starting.specs.Block.{edsMark, regionOf, zeros, listFresh, regionsFresh, started}
+use Rattle.starting.specs.Block.{edsMark, regionOf, zeros, listFresh, started}
 use Rattle.starting.specs.Fresh.{length-zeros, drop-zeros}
 
 zeros-add : (a b : ℕ) → zeros (a + b) ≡ zeros a ++ zeros b

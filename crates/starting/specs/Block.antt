@@ -11,7 +11,7 @@ use Rattle.cells.specs.Pick.{pick}
 use Rattle.tables.specs.Tables.{rows}
 use Rattle.tables.specs.Regions.{joined}
 use Rattle.rules.specs.State.{Setup}
-use Rattle.rules.specs.Answers.{Answer, Done, Refused, BadSetup, answerNumber}
+use Rattle.rules.specs.Answers.{Done, Refused, BadSetup, answerNumber}
 use Rattle.rules.specs.Setup.{within, setupOk, firstId}
 use Rattle.layout.specs.Places.{wHead}
 use Rattle.layout.specs.Setups.{setupFrom}

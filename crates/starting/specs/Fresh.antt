@@ -1,13 +1,12 @@
 -- What an accepted setup leaves is the rules' fresh state, and passes the state test.
 use Prim.Native.Nat.{ℕ, zero, suc, _+_, _*_, _-_, _%_, _≤_, _<_}
-use mathlib.Core.Bool.{Bool, true, false, cond, not, _&&_, _||_}
+use mathlib.Core.Bool.{Bool, true, false, not, _&&_, _||_}
 use mathlib.Core.List.{List, [], _∷_, _++_, append-assoc, map}
 use mathlib.Core.Path.{_≡_, refl, ap, ap₂, sym, _∙_}
 use native.Mathlib.Omega.{arith}
 use lib.Dec.{eqb, leb}
 use lib.ListN.{length, getD, take, drop, replicate, length-append, length-replicate}
-use lib.Seq.{take-at, take-all}
-use borrow.Author.Tests.{leb-true, le-leb, eqb-true, eqb-false}
+use borrow.Author.Tests.{eqb-false}
 use Rattle.cells.specs.Numbers.{le, leOf}
 use Rattle.cells.specs.Records.{encFields, decFields, toBool, sum, dec-enc, length-encFields}
 use Rattle.cells.specs.Back.{all, all-cons, all-nil}
@@ -15,16 +14,16 @@ use Rattle.tables.specs.Tables.{rows, length-rows}
 use Rattle.tables.specs.Ring.{by-cases, ringOf}
 use Rattle.tables.specs.Regions.{joined, Sized, none, one, start, length-joined, region-at}
 use Rattle.rules.specs.Lists.{any}
-use Rattle.rules.specs.State.{Shape, Setup, Content, State, noShape}
+use Rattle.rules.specs.State.{Shape, Setup, noShape}
 use Rattle.rules.specs.Setup.{within, shapeOk, blank, firstId, fresh}
 use Rattle.layout.specs.Places.{widths, setupIn, wHead, marksIn, tableIn, ringIn, dataIn, edsIn}
-use Rattle.layout.specs.Setups.{decShape, identityOf, edsOf, setupFrom, setupOf, goodShape, goodShapes, goodSetup}
+use Rattle.layout.specs.Setups.{decShape, identityOf, setupFrom, setupOf, goodShape, goodShapes, goodSetup}
 use Rattle.layout.specs.Rows.{decConn, goodRow}
 use Rattle.image.specs.Image.{contentOf, contentsOf, record32, asIs, view, goodMark, goodHead, tested}
 use Rattle.image.specs.Fits.{size-short}
 use Rattle.image.specs.TestLaws.{setup-passes, head-passes, state-passes}
-use Rattle.starting.specs.Block.{edsMark, regionOf, setupGiven, accepted, zeros, listFresh, regionsFresh, started}
-use Rattle.starting.specs.Given.{long-block, length-region, mark-is, few, shapes-ok, short-name, short-eds-name, some-transfer, short-eds, small-mark, eds-same}
+use Rattle.starting.specs.Block.{regionOf, setupGiven, accepted, zeros, listFresh, regionsFresh, started}
+use Rattle.starting.specs.Given.{length-region, few, shapes-ok, short-name, short-eds-name, some-transfer, short-eds, small-mark, eds-same}
 
 -- ---- zeros
 

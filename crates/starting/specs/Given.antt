@@ -1,22 +1,22 @@
 -- What an accepted block says, test by test.
-use Prim.Native.Nat.{ℕ, zero, suc, _+_, _*_, _-_, _≤_, _<_}
+use Prim.Native.Nat.{ℕ, _+_, _-_, _≤_, _<_}
 use mathlib.Core.Bool.{Bool, true, false, cond, not, _&&_, _||_}
-use mathlib.Core.List.{List, [], _∷_, _++_, map}
-use mathlib.Core.Option.{Option, none, some}
+use mathlib.Core.List.{List, _++_, map}
+use mathlib.Core.Option.{none, some}
 use mathlib.Core.Path.{_≡_, refl, ap, sym, _∙_}
 use native.Mathlib.Omega.{arith}
 use lib.Dec.{eqb, leb}
 use lib.ListN.{length, take, drop, length-drop}
 use lib.Seq.{length-take-le, take-at, take-all}
-use borrow.Author.Tests.{eqb-true, eqb-false, leb-true, leb-false, eq-eqb, ne-eqb}
-use Rattle.cells.specs.Numbers.{le, put, length-put, le-put-same, le-put-before, le-put-after}
+use borrow.Author.Tests.{eqb-true, leb-true, leb-false, ne-eqb}
+use Rattle.cells.specs.Numbers.{le, length-put, le-put-same}
 use Rattle.cells.specs.Back.{all-at}
 use Rattle.tables.specs.Tables.{rows, length-rows}
 use Rattle.tables.specs.Ring.{by-cases}
-use Rattle.rules.specs.Lists.{any, maybe}
-use Rattle.rules.specs.State.{Shape, Setup}
-use Rattle.rules.specs.Setup.{within, shapeOk, distinct, assembliesOk, nameOk, edsOk, transferOk, setupOk}
-use Rattle.layout.specs.Setups.{decShape, setupFrom, edsOf}
+use Rattle.rules.specs.Lists.{any}
+use Rattle.rules.specs.State.{Shape}
+use Rattle.rules.specs.Setup.{shapeOk, distinct, assembliesOk, nameOk, edsOk, transferOk, setupOk}
+use Rattle.layout.specs.Setups.{decShape, edsOf}
 use Rattle.starting.specs.Block.{edsMark, regionOf, setupGiven, testsBlock, accepted}
 
 -- ---- a chain of tests, one by one

@@ -2,3 +2,4 @@ pub mod Block
 pub mod Given
 pub mod Fresh
 pub mod Begin
+pub mod Shapes

@@ -1,4 +1,6 @@
 // Setup: what the host's block and EDS say, whether that is accepted, and the state's bytes that it leaves.
+pub mod shapes;
+
 ghost use mathlib.Core.Path.{_≡_};
 ghost use mathlib.Core.Bool.{cond};
 ghost use Prim.Native.Nat.{ℕ, _+_, _≤_};

@@ -1,0 +1,72 @@
+// The block's assemblies: kinds, sizes, and that no instance stands twice.
+ghost use mathlib.Core.Path.{_≡_};
+ghost use Prim.Native.Nat.{ℕ, _+_, _*_, _≤_, _<_};
+ghost use lib.Dec.{eqb};
+ghost use lib.ListN.{length, take, drop};
+ghost use Rattle.cells.specs.Back.{all};
+ghost use Rattle.tables.specs.Tables.{rows};
+ghost use Rattle.rules.specs.Lists.{any};
+ghost use Rattle.rules.specs.Setup.{distinct};
+ghost use Rattle.layout.specs.Setups.{shapeIn};
+ghost use Rattle.starting.specs.Shapes.{shapeGiven, instancesIn};
+
+fn shape_given(r: &[u8], i: usize) -> bool
+    requires { ⌜ (i < 16) × (192 ≤ length (now r)) ⌝ }
+    ensures { λ x. ⌜ x ≡ shapeGiven (take 5 (drop (i * 5) (drop 110 (now (r .entry))))) ⌝ }
+{
+    let k = cells::u8_at(r, i * 5 + 114);
+    if k < 1 {
+        return false;
+    }
+    if k > 3 {
+        return false;
+    }
+    let n = layout::instance_at(r, i);
+    if n < 1 {
+        return false;
+    }
+    layout::size_at(r, i) <= 512
+}
+
+pub fn shapes_given(r: &[u8], n: usize) -> bool
+    requires { ⌜ (n ≤ 16) × (192 ≤ length (now r)) ⌝ }
+    ensures { λ x. ⌜ x ≡ all (rows 5 shapeGiven n (drop 110 (now (r .entry)))) ⌝ }
+{
+    let mut i = 0;
+    while i < n {
+        if !shape_given(r, i) {
+            return false;
+        }
+        i += 1;
+    }
+    true
+}
+
+// Whether the instance x stands at a place from j on.
+fn again(r: &[u8], x: u16, j: usize, n: usize) -> bool
+    requires { ⌜ (n ≤ 16) × (192 ≤ length (now r)) ⌝ }
+    ensures { λ y. ⌜ y ≡ any (eqb x) (drop j (instancesIn n (now (r .entry)))) ⌝ }
+{
+    let mut i = j;
+    while i < n {
+        if x == layout::instance_at(r, i) {
+            return true;
+        }
+        i += 1;
+    }
+    false
+}
+
+pub fn once_each(r: &[u8], n: usize) -> bool
+    requires { ⌜ (n ≤ 16) × (192 ≤ length (now r)) ⌝ }
+    ensures { λ y. ⌜ y ≡ distinct (instancesIn n (now (r .entry))) ⌝ }
+{
+    let mut i = 0;
+    while i < n {
+        if again(r, layout::instance_at(r, i), i + 1, n) {
+            return false;
+        }
+        i += 1;
+    }
+    true
+}
