@@ -4,3 +4,4 @@ pub mod Hands
 pub mod Listeners
 pub mod Removals
 pub mod Expiry
+pub mod Calls

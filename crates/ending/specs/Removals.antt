@@ -88,22 +88,10 @@ module _ (p : Conn → Bool) (st : State) (i : ℕ) (g : place p (st .table) ≡
   unfolding removed pushed eventRecord
   timed-at = ap (after true (TimedOut (infoOf (st .setup) (c .fixed))) c st) (without-at p noConn (st .table) i g)
 
--- ---- close: nothing there, or the connection of the triad gone
-
-module _ (t : Triad) (s : List ℕ) (n : ℕ) (x : Found) (en : n ≡ le 2 s 224) (ex : x ≡ foundOf (place (connTriad t) (rows 70 decConn n (tableIn s)))) where
-  pub closed-none : x ≡ Nothing → Turns s s (closed t)
-  unfolding closed
-  closed-none e =
-      turn-none s (closed t)
-      (λ st l o. ap (removedIf false Closed (connTriad t) st) (sym (place-none (connTriad t) (st .table) (found-nowhere (connTriad t) s n x en ex e st l o))))
-
-  pub closed-one : (i : ℕ) → x ≡ At i → (s′ : List ℕ) → Turns s s′ (goneAt 2 i) → Turns s s′ (closed t)
-  unfolding closed
-  closed-one i e s′ d =
-      turn-as s s′ (goneAt 2 i) (closed t) d
-      (λ st l o.
-      let g = found-there (connTriad t) s n x en ex i e st l o in
-      sym (closed-at (connTriad t) st i g) ∙ ap (removedIf false Closed (connTriad t) st) (sym (find-at (connTriad t) noConn (st .table) i g)))
+-- close removes the connection of the triad
+pub closed-is : (t : Triad) (st : State) (i : ℕ) → place (connTriad t) (st .table) ≡ some i → goneAt 2 i st ≡ closed t st
+unfolding closed
+closed-is t st i g = sym (closed-at (connTriad t) st i g) ∙ ap (removedIf false Closed (connTriad t) st) (sym (find-at (connTriad t) noConn (st .table) i g))
 
 -- ---- expiry: none has expired, or the first that has gone
 
