@@ -5,3 +5,4 @@ pub mod Listeners
 pub mod Removals
 pub mod Expiry
 pub mod Calls
+pub mod Accepted

@@ -93,6 +93,11 @@ pub closed-is : (t : Triad) (st : State) (i : ℕ) → place (connTriad t) (st .
 unfolding closed
 closed-is t st i g = sym (closed-at (connTriad t) st i g) ∙ ap (removedIf false Closed (connTriad t) st) (sym (find-at (connTriad t) noConn (st .table) i g))
 
+-- expiry removes the first that has expired, and sets the fault mark
+pub expired-is : (t : ℕ) (st : State) (i : ℕ) → place (expired t) (st .table) ≡ some i → withFault true (goneAt 3 i st) ≡ expiredFirst t st
+unfolding expiredFirst
+expired-is t st i g = sym (timed-at (expired t) st i g) ∙ ap (removedIf true TimedOut (expired t) st) (sym (find-at (expired t) noConn (st .table) i g))
+
 -- ---- expiry: none has expired, or the first that has gone
 
 pub record Ended (t : ℕ) (r : Bool) (s′ : List ℕ) (st : State) (l : List ℕ) : Type 0 where
@@ -113,8 +118,7 @@ module _ (t : ℕ) (s : List ℕ) (n : ℕ) (x : Found) (en : n ≡ le 2 s 224) 
   unfolding expiredFirst
   ends-one i e s₁ s₂ a b st l o =
       let g = found-there (expired t) s n x en ex i e st l o in
-      let q : withFault true (goneAt 3 i st) ≡ expiredFirst t st =
-      sym (timed-at (expired t) st i g) ∙ ap (removedIf true TimedOut (expired t) st) (sym (find-at (expired t) noConn (st .table) i g)) in
+      let q : withFault true (goneAt 3 i st) ≡ expiredFirst t st = expired-is t st i g in
       record {
         held = subst (λ (z : State). Held s₂ z l) q (b (goneAt 3 i st) l (a st l o));
         none-left = λ h. absurd (let z : _≡_ {A = ℕ} 0 1 = cc in omega arith);
