@@ -4,3 +4,5 @@ pub mod Hands
 pub mod Listeners
 pub mod Removals
 pub mod Expiry
+pub mod Calls
+pub mod Accepted

@@ -88,22 +88,15 @@ module _ (p : Conn → Bool) (st : State) (i : ℕ) (g : place p (st .table) ≡
   unfolding removed pushed eventRecord
   timed-at = ap (after true (TimedOut (infoOf (st .setup) (c .fixed))) c st) (without-at p noConn (st .table) i g)
 
--- ---- close: nothing there, or the connection of the triad gone
+-- close removes the connection of the triad
+pub closed-is : (t : Triad) (st : State) (i : ℕ) → place (connTriad t) (st .table) ≡ some i → goneAt 2 i st ≡ closed t st
+unfolding closed
+closed-is t st i g = sym (closed-at (connTriad t) st i g) ∙ ap (removedIf false Closed (connTriad t) st) (sym (find-at (connTriad t) noConn (st .table) i g))
 
-module _ (t : Triad) (s : List ℕ) (n : ℕ) (x : Found) (en : n ≡ le 2 s 224) (ex : x ≡ foundOf (place (connTriad t) (rows 70 decConn n (tableIn s)))) where
-  pub closed-none : x ≡ Nothing → Turns s s (closed t)
-  unfolding closed
-  closed-none e =
-      turn-none s (closed t)
-      (λ st l o. ap (removedIf false Closed (connTriad t) st) (sym (place-none (connTriad t) (st .table) (found-nowhere (connTriad t) s n x en ex e st l o))))
-
-  pub closed-one : (i : ℕ) → x ≡ At i → (s′ : List ℕ) → Turns s s′ (goneAt 2 i) → Turns s s′ (closed t)
-  unfolding closed
-  closed-one i e s′ d =
-      turn-as s s′ (goneAt 2 i) (closed t) d
-      (λ st l o.
-      let g = found-there (connTriad t) s n x en ex i e st l o in
-      sym (closed-at (connTriad t) st i g) ∙ ap (removedIf false Closed (connTriad t) st) (sym (find-at (connTriad t) noConn (st .table) i g)))
+-- expiry removes the first that has expired, and sets the fault mark
+pub expired-is : (t : ℕ) (st : State) (i : ℕ) → place (expired t) (st .table) ≡ some i → withFault true (goneAt 3 i st) ≡ expiredFirst t st
+unfolding expiredFirst
+expired-is t st i g = sym (timed-at (expired t) st i g) ∙ ap (removedIf true TimedOut (expired t) st) (sym (find-at (expired t) noConn (st .table) i g))
 
 -- ---- expiry: none has expired, or the first that has gone
 
@@ -125,8 +118,7 @@ module _ (t : ℕ) (s : List ℕ) (n : ℕ) (x : Found) (en : n ≡ le 2 s 224) 
   unfolding expiredFirst
   ends-one i e s₁ s₂ a b st l o =
       let g = found-there (expired t) s n x en ex i e st l o in
-      let q : withFault true (goneAt 3 i st) ≡ expiredFirst t st =
-      sym (timed-at (expired t) st i g) ∙ ap (removedIf true TimedOut (expired t) st) (sym (find-at (expired t) noConn (st .table) i g)) in
+      let q : withFault true (goneAt 3 i st) ≡ expiredFirst t st = expired-is t st i g in
       record {
         held = subst (λ (z : State). Held s₂ z l) q (b (goneAt 3 i st) l (a st l o));
         none-left = λ h. absurd (let z : _≡_ {A = ℕ} 0 1 = cc in omega arith);

@@ -12,7 +12,7 @@ ghost use Rattle.cells.specs.Numbers.{le};
 ghost use Rattle.tables.specs.Tables.{rows};
 ghost use Rattle.rules.specs.Lists.{place};
 ghost use Rattle.rules.specs.State.{isOwner, produces};
-ghost use Rattle.rules.specs.Removal.{inStream, feeds, expired, connTriad, closed};
+ghost use Rattle.rules.specs.Removal.{inStream, feeds, expired, connTriad};
 ghost use Rattle.layout.specs.Rows.{decConn, ofDue};
 ghost use Rattle.image.specs.Holds.{Ready};
 ghost use Rattle.image.specs.Kept.{Kept};
@@ -22,6 +22,7 @@ ghost use Rattle.ending.specs.Hands.{handed, idled};
 ghost use Rattle.ending.specs.Listeners.{Dropped, Closes, allClosed, feeder, ended};
 ghost use Rattle.ending.specs.Removals.{without-it, goneAt, Ends};
 ghost use Rattle.ending.specs.Expiry.{EndsAll};
+ghost use Rattle.ending.specs.Calls.{ClosesAt, ClosesFor};
 
 // The place of the first connection that a search looks for.
 pub enum Found {
@@ -297,16 +298,28 @@ pub fn remove_conn(s: &mut [u8], i: usize, what: u8)
 
 // ---- close
 
-pub fn close_conn(s: &mut [u8], t: Triad)
+// The connection at a place closed, and the reply at the start of the output; 8 where the reply does not fit.
+fn close_at(s: &mut [u8], i: usize, t: Triad, out: &mut [u8]) -> u64
+    requires { ⌜ Ready (now s) × (i < le 2 (now s) 224) ⌝ }
+    ensures { λ r. ⌜ ClosesAt i t r (now (s .entry)) (now (s .exit)) (now (out .entry)) (now (out .exit)) ⌝ }
+{
+    if out.len() < 10 {
+        return 8;
+    }
+    remove_conn(s, i, 2);
+    wire_replies::close_reply(out, t);
+    2560
+}
+
+// The connection of the triad closed; 9 where there is none.
+pub fn close(s: &mut [u8], t: Triad, out: &mut [u8]) -> u64
     requires { ⌜ Ready (now s) ⌝ }
-    ensures { λ _. ⌜ Fewer (now (s .entry)) (now (s .exit)) × Turns (now (s .entry)) (now (s .exit)) (closed t) ⌝ }
+    ensures { λ r. ⌜ ClosesFor t r (now (s .entry)) (now (s .exit)) (now (out .entry)) (now (out .exit)) ⌝ }
 {
     let n = cells::u16_at(s, 224) as usize;
     match find_triad(&s[256..2560], n, t) {
-        Found::Nothing => {}
-        Found::At(i) => {
-            remove_conn(s, i, 2);
-        }
+        Found::Nothing => 9,
+        Found::At(i) => close_at(s, i, t, out),
     }
 }
 
@@ -329,7 +342,7 @@ fn expire_one(s: &mut [u8], time: u64) -> bool
 }
 
 // Removes every connection that has expired, one after the other, and says how many went.
-pub fn expire_all(s: &mut [u8], time: u64) -> u64
+pub fn expire_all(s: &mut [u8], time: u64) -> u16
     requires { ⌜ Ready (now s) ⌝ }
     ensures { λ r. ⌜ Fewer (now (s .entry)) (now (s .exit)) × EndsAll time r (now (s .entry)) (now (s .exit)) ⌝ }
 {
@@ -337,9 +350,9 @@ pub fn expire_all(s: &mut [u8], time: u64) -> u64
     let mut k: u16 = 0;
     while k < n {
         if !expire_one(s, time) {
-            return (n - cells::u16_at(s, 224)) as u64;
+            return n - cells::u16_at(s, 224);
         }
         k += 1;
     }
-    (n - cells::u16_at(s, 224)) as u64
+    n - cells::u16_at(s, 224)
 }

@@ -36,10 +36,6 @@ sub-result : tie.Need-sub-result Inv-loop μ-loop
 sub-result c =
     let e = c .before .before .before .before .before .expire-one .ensures .0 .fewer in let f = c .before .before .before .before .before .before .before .before .loop .inv .1 .fewer in let g = c .before .before .before .before .before .before .before .before .loop .inv .2 in let h = c .u16-at2 .ensures in omega arith
 
-cast-result : tie.Need-cast-result Inv-loop μ-loop
-cast-result c =
-    omega arith
-
 same-length : tie.Need-same-length Inv-loop μ-loop
 same-length c =
     c .before .before .before .before .before .expire-one .ensures .0 .ready .long ∙ sym (c .before .before .before .before .before .before .before .before .before .before .before .before .pre .long)
@@ -75,10 +71,6 @@ sub-result-2 : tie.Need-sub-result-2 Inv-loop μ-loop
 sub-result-2 c =
     let f = c .before .before .before .loop .inv .1 .fewer in let g = c .before .before .before .loop .inv .2 in let h = c .u16-at3 .ensures in omega arith
 
-cast-result-2 : tie.Need-cast-result-2 Inv-loop μ-loop
-cast-result-2 c =
-    omega arith
-
 same-length-2 : tie.Need-same-length-2 Inv-loop μ-loop
 same-length-2 c =
     c .before .before .before .loop .inv .1 .ready .long ∙ sym (c .before .before .before .before .before .before .before .pre .long)
@@ -100,7 +92,6 @@ expire-all-spec =
     expire-one-requires
     u16-at-requires-2
     sub-result
-    cast-result
     same-length
     returns
     add-k
@@ -108,6 +99,5 @@ expire-all-spec =
     loop-again
     u16-at-requires-3
     sub-result-2
-    cast-result-2
     same-length-2
     returns-2)
