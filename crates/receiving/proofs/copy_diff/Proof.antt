@@ -6,8 +6,6 @@ use borrow.Author.Needs.{needs}
 use native.Mathlib.Omega.{arith}
 use Rattle.receiving.proofs.copy_diff.Statement.{statement}
 use Rattle.receiving.proofs.copy_diff.Tie as tie
-use Rattle.receiving.proofs.copy_diff.Reads as reads
-use Rattle.receiving.proofs.copy_diff.Lts as lts
 
 abbrev Inv-loop : tie.InvT-loop
 Inv-loop dst₀ src d₀ i₀ dst d i = (i ≤ length src) × (length dst ≡ length dst₀) × ((k : ℕ) → k < i → getD dst k 0 ≡ getD src k 0) × ((k : ℕ) → i ≤ k → getD dst k 0 ≡ getD dst₀ k 0) × (d ≡ 0 → (k : ℕ) → k < i → getD dst₀ k 0 ≡ getD src k 0) × (dst₀ ≡ src → d ≡ 0)
@@ -15,57 +13,51 @@ Inv-loop dst₀ src d₀ i₀ dst d i = (i ≤ length src) × (length dst ≡ le
 abbrev μ-loop : tie.MeasureT-loop
 μ-loop dst₀ src d₀ i₀ dst d i = length src - i
 
--- src/lib.rt:14:5
 loop-holds : tie.Need-loop-holds Inv-loop μ-loop
 loop-holds c = search needs
 
--- src/lib.rt:15:17
 shared-slice-read-b : tie.Need-shared-slice-read-b Inv-loop μ-loop
 shared-slice-read-b c = search needs
 
--- src/lib.rt:16:18
 slice-read-d : tie.Need-slice-read-d Inv-loop μ-loop
 slice-read-d c = search needs
 
--- src/lib.rt:17:9
 slice-write-dst : tie.Need-slice-write-dst Inv-loop μ-loop
 slice-write-dst c = search needs
 
--- src/lib.rt:18:9
 add-i : tie.Need-add-i Inv-loop μ-loop
 add-i c = search needs
 
--- src/lib.rt:14:5
 loop-less : tie.Need-loop-less Inv-loop μ-loop
 loop-less c = search needs
 
--- src/lib.rt:14:5
 loop-again : tie.Need-loop-again Inv-loop μ-loop
 loop-again c =
     let l = c .before .before .before .loop in
     let a = c .before .before .before .before .args in
     let hi : l .i < length (a .src .now) = search needs in
-    let hl : length (l .dst) ≡ length (a .src .now) = search needs in
-    (search needs, simp length-set (search needs),
-    copied (a .dst .now) (a .src .now) (l .dst) (l .d) (l .i) hi hl (l .inv .2),
-    untouched (a .dst .now) (a .src .now) (l .dst) (l .d) (l .i) hi hl (l .inv .3),
-    same-so-far (a .dst .now) (a .src .now) (l .dst) (l .d) (l .i) hi hl (l .inv .3) (l .inv .4),
-    no-change (a .dst .now) (a .src .now) (l .dst) (l .d) (l .i) hi hl (l .inv .3) (l .inv .5))
+    let hl : length (l .dst) ≡ length (a .src .now) = search needs in (
+      search needs,
+      simp length-set (search needs),
+      copied (a .dst .now) (a .src .now) (l .dst) (l .d) (l .i) hi hl (l .inv .2),
+      untouched (a .dst .now) (a .src .now) (l .dst) (l .d) (l .i) hi hl (l .inv .3),
+      same-so-far (a .dst .now) (a .src .now) (l .dst) (l .d) (l .i) hi hl (l .inv .3) (l .inv .4),
+      no-change (a .dst .now) (a .src .now) (l .dst) (l .d) (l .i) hi hl (l .inv .3) (l .inv .5),
+    )
 
--- src/lib.rt:6:1
 same-length : tie.Need-same-length Inv-loop μ-loop
 same-length c = search needs
 
--- src/lib.rt:6:1
 returns : tie.Need-returns Inv-loop μ-loop
 returns c =
     let l = c .before .loop in
     let a = c .before .before .args in
     let hi : length (a .src .now) ≤ l .i = search needs in
     let hl : length (l .dst) ≡ length (a .src .now) = search needs in
-    let h₀ : length (a .dst .now) ≡ length (a .src .now) = search needs in
-    (whole (l .dst) (a .src .now) (l .i) hi hl (l .inv .2),
-    diff-told (l .d) (a .dst .now) (a .src .now) (λ z. whole (a .dst .now) (a .src .now) (l .i) hi h₀ (l .inv .4 z)) (l .inv .5))
+    let h₀ : length (a .dst .now) ≡ length (a .src .now) = search needs in (
+      whole (l .dst) (a .src .now) (l .i) hi hl (l .inv .2),
+      diff-told (l .d) (a .dst .now) (a .src .now) (λ z. whole (a .dst .now) (a .src .now) (l .i) hi h₀ (l .inv .4 z)) (l .inv .5),
+    )
 
 pub copy-diff-spec : {M : Type 1} → statement M
 copy-diff-spec =

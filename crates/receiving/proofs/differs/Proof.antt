@@ -2,18 +2,13 @@ use Rattle.receiving.specs.DecisionLaws.{differs-was, differs-was-not}
 use borrow.Author.Needs.{needs}
 use Rattle.receiving.proofs.differs.Statement.{statement}
 use Rattle.receiving.proofs.differs.Tie as tie
-use Rattle.receiving.proofs.differs.Reads as reads
-use Rattle.receiving.proofs.differs.Lts as lts
 
--- src/lib.rt:110:9
 returns : tie.Need-returns
 returns c = search needs
 
--- src/lib.rt:113:9
 returns-2 : tie.Need-returns-2
 returns-2 c = differs-was (c .before .before .args .changed) (c .before .before .args .was) (c .before .before .args .run) (c .before .if1 .left) (c .if2 .taken)
 
--- src/lib.rt:106:1
 returns-3 : tie.Need-returns-3
 returns-3 c = differs-was-not (c .before .before .args .changed) (c .before .before .args .was) (c .before .before .args .run) (c .before .if1 .left) (c .if2 .left)
 

@@ -10,9 +10,6 @@ use Rattle.receiving.specs.Steps.{hears}
 use borrow.Author.Needs.{needs}
 use Rattle.receiving.proofs.find.Statement.{statement}
 use Rattle.receiving.proofs.find.Tie as tie
-use Rattle.receiving.proofs.find.Reads as reads
-use Rattle.receiving.proofs.find.Lts as lts
-use Rattle.receiving.proofs.is_for.Reads as is-for-reads
 
 abbrev Inv-loop : tie.InvT-loop
 Inv-loop r n id from i₀ i = (i ≤ n) × (place (hears id from) (rows 70 decConn n r) ≡ later i (place (hears id from) (drop i (rows 70 decConn n r))))
@@ -20,31 +17,24 @@ Inv-loop r n id from i₀ i = (i ≤ n) × (place (hears id from) (rows 70 decCo
 abbrev μ-loop : tie.MeasureT-loop
 μ-loop r n id from i₀ i = n - i
 
--- src/lib.rt:48:5
 loop-holds : tie.Need-loop-holds Inv-loop μ-loop
 loop-holds c = let a = c .before .args in (omega arith, sym (later-zero (place (hears (a .id) (a .from)) (rows 70 decConn (a .n) (a .r .now)))))
 
--- src/lib.rt:49:12
 is-for-requires : tie.Need-is-for-requires Inv-loop μ-loop
 is-for-requires c κs = (omega arith, omega arith)
 
--- src/lib.rt:50:13
 returns : tie.Need-returns Inv-loop μ-loop
 returns c = let a = c .before .before .before .before .before .args in let w = c .before .before .before .loop in sym (w .inv .1 ∙ search-hit 70 decConn (hears (a .id) (a .from)) (a .n) (a .r .now) (w .i) (c .before .before .loop-test .taken) (sym (c .before .is-for .ensures) ∙ c .if1 .taken))
 
--- src/lib.rt:52:9
 add-i : tie.Need-add-i Inv-loop μ-loop
 add-i c = search needs
 
--- src/lib.rt:48:5
 loop-less : tie.Need-loop-less Inv-loop μ-loop
 loop-less c = search needs
 
--- src/lib.rt:48:5
 loop-again : tie.Need-loop-again Inv-loop μ-loop
 loop-again c = let a = c .before .before .before .before .before .args in let w = c .before .before .before .loop in (omega arith, w .inv .1 ∙ search-miss 70 decConn (hears (a .id) (a .from)) (a .n) (a .r .now) (w .i) (c .before .before .loop-test .taken) (sym (c .before .is-for .ensures) ∙ c .if1 .left))
 
--- src/lib.rt:43:1
 returns-2 : tie.Need-returns-2 Inv-loop μ-loop
 returns-2 c = let a = c .before .before .before .args in let w = c .before .loop in sym (w .inv .1 ∙ search-ends 70 decConn (hears (a .id) (a .from)) (a .n) (a .r .now) (w .i) (c .loop-test .left))
 

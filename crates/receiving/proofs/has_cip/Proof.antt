@@ -3,19 +3,13 @@ use Rattle.receiving.specs.DecisionLaws.{cip-not, cip-rest}
 use borrow.Author.Needs.{needs}
 use Rattle.receiving.proofs.has_cip.Statement.{statement}
 use Rattle.receiving.proofs.has_cip.Tie as tie
-use Rattle.receiving.proofs.has_cip.Reads as reads
-use Rattle.receiving.proofs.has_cip.Lts as lts
-use Rattle.receiving.proofs.is_owner.Reads as is-owner-reads
 
--- src/lib.rt:84:9
 is-owner-requires : tie.Need-is-owner-requires
 is-owner-requires c κs = search needs
 
--- src/lib.rt:85:9
 returns : tie.Need-returns
 returns c = cip-not (c .before .before .before .args .k) (c .before .is-owner .result) (c .before .is-owner .ensures) (c .before .before .before .args .d .now) (not-true (c .before .is-owner .result) (c .if1 .taken))
 
--- src/lib.rt:81:1
 returns-2 : tie.Need-returns-2
 returns-2 c = cip-rest (c .before .before .before .args .k) (c .before .is-owner .result) (c .before .is-owner .ensures) (c .before .before .before .args .d .now) (not-false (c .before .is-owner .result) (c .if1 .left))
 

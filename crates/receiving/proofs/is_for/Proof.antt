@@ -4,24 +4,16 @@ use Rattle.receiving.specs.DecisionLaws.{other-id, same-id}
 use borrow.Author.Needs.{needs}
 use Rattle.receiving.proofs.is_for.Statement.{statement}
 use Rattle.receiving.proofs.is_for.Tie as tie
-use Rattle.receiving.proofs.is_for.Reads as reads
-use Rattle.receiving.proofs.is_for.Lts as lts
-use Rattle.layout.proofs.originator_at.Reads as originator-at-reads
-use Rattle.layout.proofs.otid_at.Reads as otid-at-reads
 
--- src/lib.rt:36:9
 otid-at-requires : tie.Need-otid-at-requires
 otid-at-requires c κs = search needs
 
--- src/lib.rt:38:9
 returns : tie.Need-returns
 returns c = let a = c .before .before .before .before .before .args in other-id (take 70 (drop (a .i * 70) (a .r .now))) (c .before .before .before .otid-at .result) (a .id) (a .from) (c .before .before .before .otid-at .ensures) (c .if1 .taken)
 
--- src/lib.rt:40:5
 originator-at-requires : tie.Need-originator-at-requires
 originator-at-requires c κs = search needs
 
--- src/lib.rt:32:1
 returns-2 : tie.Need-returns-2
 returns-2 c = let a = c .before .before .before .before .before .before .args in same-id (take 70 (drop (a .i * 70) (a .r .now))) (c .before .before .before .before .otid-at .result) (a .id) (a .from) (c .before .before .before .before .otid-at .ensures) (c .before .if1 .left) (c .originator-at .result) (c .originator-at .ensures)
 

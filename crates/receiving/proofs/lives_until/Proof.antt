@@ -3,19 +3,13 @@ use Rattle.receiving.specs.DecisionLaws.{timeout-small}
 use borrow.Author.Needs.{needs}
 use Rattle.receiving.proofs.lives_until.Statement.{statement}
 use Rattle.receiving.proofs.lives_until.Tie as tie
-use Rattle.receiving.proofs.lives_until.Reads as reads
-use Rattle.receiving.proofs.lives_until.Lts as lts
-use Rattle.wire_opens.proofs.timeout.Reads as timeout-reads
 
--- src/lib.rt:103:12
 timeout-requires : tie.Need-timeout-requires
 timeout-requires c κs = search needs
 
--- src/lib.rt:103:5
 add-result : tie.Need-add-result
 add-result c = let b = timeout-small (c .before .args .rpi) (c .before .args .multiplier) (omega arith) in let e = c .timeout .ensures in omega arith
 
--- src/lib.rt:99:1
 returns : tie.Need-returns
 returns c = search needs
 

@@ -3,57 +3,40 @@ use Rattle.receiving.specs.TakeLaws.{offer-nowhere, offer-other, offer-t
 use borrow.Author.Needs.{needs}
 use Rattle.receiving.proofs.offer.Statement.{statement}
 use Rattle.receiving.proofs.offer.Tie as tie
-use Rattle.receiving.proofs.offer.Reads as reads
-use Rattle.receiving.proofs.offer.Lts as lts
-use Rattle.cells.proofs.u8_at.Reads as u8-at-reads
-use Rattle.layout.proofs.size_at.Reads as size-at-reads
-use Rattle.receiving.proofs.take_in.Reads as take-in-reads
 
--- src/lib.rt:170:13
 u8-at-requires : tie.Need-u8-at-requires
 u8-at-requires c κs = search needs
 
--- src/lib.rt:170:13
 cast-n : tie.Need-cast-n
 cast-n c = search needs
 
--- src/lib.rt:173:9
 same-length : tie.Need-same-length
 same-length c = search needs
 
--- src/lib.rt:173:9
 returns : tie.Need-returns
 returns c = let a = c .before .before .before .before .before .args in offer-nowhere (a .s .now) (a .output) (a .d .now) (c .before .u8-at .result) (c .before .u8-at .ensures) (c .if1 .taken)
 
--- src/lib.rt:175:16
 size-at-requires : tie.Need-size-at-requires
 size-at-requires c κs = search needs
 
--- src/lib.rt:175:16
 cast-size : tie.Need-cast-size
 cast-size c = search needs
 
--- src/lib.rt:176:19
 add-if2 : tie.Need-add-if2
 add-if2 c = search needs
 
--- src/lib.rt:177:9
 same-length-2 : tie.Need-same-length-2
 same-length-2 c = search needs
 
--- src/lib.rt:177:9
 returns-2 : tie.Need-returns-2
 returns-2 c = let a = c .before .before .before .before .before .before .before .before .args in offer-other (a .s .now) (a .output) (a .d .now) (c .before .before .before .before .u8-at .result) (c .before .before .before .before .u8-at .ensures) (c .before .before .before .if1 .left) (c .before .size-at .result) (c .before .size-at .ensures) (c .if2 .taken)
 
--- src/lib.rt:179:5
 take-in-requires : tie.Need-take-in-requires
 take-in-requires c κs = let p = c .before .before .before .before .before .before .before .before .before .pre in let e = c .before .before .before .before .before .u8-at .ensures in let g = c .before .before .before .before .if1 .left in let z = c .before .before .size-at .ensures in let w = c .before .if2 .left in let b = p .1 (c .before .before .before .before .before .before .before .before .before .args .output) (omega (arith, e, g)) in (p .0, omega (arith, e, g), omega (arith, w), omega (arith, w, z, b))
 
--- src/lib.rt:166:1
 same-length-3 : tie.Need-same-length-3
 same-length-3 c = search needs
 
--- src/lib.rt:166:1
 returns-3 : tie.Need-returns-3
 returns-3 c = let a = c .before .before .before .before .before .before .before .before .before .before .before .before .args in offer-taken (a .s .now) (a .output) (a .d .now) (c .before .before .before .before .before .before .before .before .u8-at .result) (c .before .before .before .before .before .before .before .before .u8-at .ensures) (c .before .before .before .before .before .before .before .if1 .left) (c .before .before .before .before .before .size-at .result) (c .before .before .before .before .before .size-at .ensures) (c .before .before .before .before .if2 .left) (c .before .before .take-in .last .0) (c .before .before .take-in .ensures)
 

@@ -3,14 +3,10 @@ use Rattle.receiving.specs.DecisionLaws.{repeats-not, repeats-rest}
 use borrow.Author.Needs.{needs}
 use Rattle.receiving.proofs.repeats.Statement.{statement}
 use Rattle.receiving.proofs.repeats.Tie as tie
-use Rattle.receiving.proofs.repeats.Reads as reads
-use Rattle.receiving.proofs.repeats.Lts as lts
 
--- src/lib.rt:94:9
 returns : tie.Need-returns
 returns c = repeats-not (c .before .before .args .h) (c .before .before .args .cip) (not-true (c .before .before .args .h .anycip) (c .if1 .taken))
 
--- src/lib.rt:90:1
 returns-2 : tie.Need-returns-2
 returns-2 c = repeats-rest (c .before .before .before .args .h) (c .before .before .before .args .cip) (not-false (c .before .before .before .args .h .anycip) (c .before .if1 .left))
 

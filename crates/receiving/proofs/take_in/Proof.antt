@@ -12,79 +12,55 @@ use Rattle.receiving.specs.TakeLaws.{kept-few, take-same, take-quiet, ta
 use borrow.Author.Needs.{needs}
 use Rattle.receiving.proofs.take_in.Statement.{statement}
 use Rattle.receiving.proofs.take_in.Tie as tie
-use Rattle.receiving.proofs.take_in.Reads as reads
-use Rattle.receiving.proofs.take_in.Lts as lts
-use Rattle.changes.proofs.put_mark.Reads as put-mark-reads
-use Rattle.events.proofs.push.Reads as push-reads
-use Rattle.layout.proofs.instance_at.Reads as instance-at-reads
-use Rattle.receiving.proofs.differs.Reads as differs-reads
-use Rattle.receiving.proofs.put_data.Reads as put-data-reads
 
--- src/lib.rt:151:18
 add-mark : tie.Need-add-mark
 add-mark c = search needs
 
--- src/lib.rt:151:16
 slice-read-mark : tie.Need-slice-read-mark
 slice-read-mark c = search needs
 
--- src/lib.rt:152:15
 shared-slice-read-run : tie.Need-shared-slice-read-run
 shared-slice-read-run c = search needs
 
--- src/lib.rt:153:9
 instance-at-requires : tie.Need-instance-at-requires
 instance-at-requires c κs = search needs
 
--- src/lib.rt:154:34
 sub-put-data : tie.Need-sub-put-data
 sub-put-data c = search needs
 
--- src/lib.rt:154:34
 part-put-data-start : tie.Need-part-put-data-start
 part-put-data-start c = search needs
 
--- src/lib.rt:154:34
 part-put-data-end : tie.Need-part-put-data-end
 part-put-data-end c = search needs
 
--- src/lib.rt:154:9
 put-data-requires : tie.Need-put-data-requires
 put-data-requires c κs = search needs
 
--- src/lib.rt:155:9
 differs-requires : tie.Need-differs-requires
 differs-requires c κs = search needs
 
--- src/lib.rt:156:9
 same-length : tie.Need-same-length
 same-length c = search needs
 
--- src/lib.rt:156:9
 returns : tie.Need-returns
 returns c = let a = c .before .before .before .before .before .before .before .before .before .before .before .before .before .args in let s = a .s .now in let d = a .d .now in let x : List ℕ = take (length d - 6) (drop 6 d) in let ex : x ≡ drop 6 d = take-all (length d - 6) (drop 6 d) (let k = length-drop 6 d in omega arith) in λ f ef st l h n. take-same s (a .i) (c .before .before .before .before .before .before .before .before .before .before .before .before .before .pre .1) d (getD s (240 + a .i) 0) refl (eqb (getD d 2 0 % 2) 1) refl (c .before .before .before .before .put-data .last .0) (c .before .before .before .before .put-data .result) x ex (c .before .before .before .before .put-data .ensures .1) (c .before .differs .result) (c .before .differs .ensures) f ef st l h n (not-true (c .before .differs .result) (c .if1 .taken))
 
--- src/lib.rt:158:5
 put-mark-requires : tie.Need-put-mark-requires
 put-mark-requires c κs = let k = c .before .before .before .before .before .put-data .ensures .0 in let s = c .before .before .before .before .before .before .before .before .before .before .before .before .before .before .args .s .now in (k .ready, let e = kept-few (le 2 s 224) s (c .before .before .before .before .before .put-data .last .0) k in let p = c .before .before .before .before .before .before .before .before .before .before .before .before .before .before .pre .1 in omega (arith, e, p))
 
--- src/lib.rt:160:9
 same-length-2 : tie.Need-same-length-2
 same-length-2 c = search needs
 
--- src/lib.rt:160:9
 returns-2 : tie.Need-returns-2
 returns-2 c = let a = c .before .before .before .before .before .before .before .before .before .before .before .before .before .before .before .before .before .before .args in let s = a .s .now in let d = a .d .now in let x : List ℕ = take (length d - 6) (drop 6 d) in let ex : x ≡ drop 6 d = take-all (length d - 6) (drop 6 d) (let k = length-drop 6 d in omega arith) in let m : ℕ = getD s (240 + a .i) 0 in λ f ef st l h n. take-quiet s (a .i) (c .before .before .before .before .before .before .before .before .before .before .before .before .before .before .before .before .before .before .pre .1) d m refl (eqb (getD d 2 0 % 2) 1) refl (c .before .before .before .before .before .before .before .before .before .put-data .last .0) (c .before .before .before .before .before .before .before .before .before .put-data .result) x ex (c .before .before .before .before .before .before .before .before .before .put-data .ensures .1) (c .before .before .before .before .before .before .differs .result) (c .before .before .before .before .before .before .differs .ensures) f ef st l h n (c .before .before .before .put-mark .last .0) (c .before .before .before .put-mark .ensures .1) (not-false (c .before .before .before .before .before .before .differs .result) (c .before .before .before .before .before .if1 .left)) (ap not (ne-eqb (m / 2 % 2) 0 (c .if2 .taken)))
 
--- src/lib.rt:162:5
 push-requires : tie.Need-push-requires
 push-requires c κs = search needs
 
--- src/lib.rt:147:1
 same-length-3 : tie.Need-same-length-3
 same-length-3 c = search needs
 
--- src/lib.rt:147:1
 returns-3 : tie.Need-returns-3
 returns-3 c = let a = c .before .before .before .before .before .before .before .before .before .before .before .before .before .before .before .before .before .before .before .before .before .before .args in let s = a .s .now in let d = a .d .now in let x : List ℕ = take (length d - 6) (drop 6 d) in let ex : x ≡ drop 6 d = take-all (length d - 6) (drop 6 d) (let k = length-drop 6 d in omega arith) in let m : ℕ = getD s (240 + a .i) 0 in λ f ef st l h n. take-told s (a .i) (c .before .before .before .before .before .before .before .before .before .before .before .before .before .before .before .before .before .before .before .before .before .before .pre .1) d m refl (eqb (getD d 2 0 % 2) 1) refl (c .before .before .before .before .before .before .before .before .before .before .before .before .before .put-data .last .0) (c .before .before .before .before .before .before .before .before .before .before .before .before .before .put-data .result) x ex (c .before .before .before .before .before .before .before .before .before .before .before .before .before .put-data .ensures .1) (c .before .before .before .before .before .before .before .before .before .before .differs .result) (c .before .before .before .before .before .before .before .before .before .before .differs .ensures) f ef st l h n (c .before .before .before .before .before .before .before .put-mark .last .0) (c .before .before .before .before .before .before .before .put-mark .ensures .1) (not-false (c .before .before .before .before .before .before .before .before .before .before .differs .result) (c .before .before .before .before .before .before .before .before .before .if1 .left)) (ap not (eq-eqb (m / 2 % 2) 0 (c .before .before .before .before .if2 .left))) (c .before .before .before .before .before .before .before .before .before .before .before .before .before .before .before .before .instance-at .result) (c .before .before .before .before .before .before .before .before .before .before .before .before .before .before .before .before .instance-at .ensures) (c .before .before .push .last .0) (c .before .before .push .ensures .1)
 
