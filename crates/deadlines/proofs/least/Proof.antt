@@ -10,10 +10,6 @@ use Rattle.deadlines.specs.Deadlines.{least-turn, least-end, least-whole
 use borrow.Author.Needs.{needs}
 use Rattle.deadlines.proofs.least.Statement.{statement}
 use Rattle.deadlines.proofs.least.Tie as tie
-use Rattle.deadlines.proofs.least.Reads as reads
-use Rattle.deadlines.proofs.least.Lts as lts
-use Rattle.deadlines.proofs.lesser.Reads as lesser-reads
-use Rattle.deadlines.proofs.row_deadline.Reads as row-deadline-reads
 
 abbrev Inv-loop : tie.InvT-loop
 Inv-loop r n first m₀ i₀ m i = (1 ≤ i) × (i ≤ n) × (leastOf m (drop i (rows 70 decConn n r)) ≡ leastOf m₀ (drop 1 (rows 70 decConn n r)))
@@ -21,35 +17,27 @@ Inv-loop r n first m₀ i₀ m i = (1 ≤ i) × (i ≤ n) × (leastOf m (drop i 
 abbrev μ-loop : tie.MeasureT-loop
 μ-loop r n first m₀ i₀ m i = n - i
 
--- src/lib.rt:38:9
 row-deadline-requires : tie.Need-row-deadline-requires Inv-loop μ-loop
 row-deadline-requires c κs = search needs
 
--- src/lib.rt:41:5
 loop-holds : tie.Need-loop-holds Inv-loop μ-loop
 loop-holds c = (omega arith, omega arith, refl)
 
--- src/lib.rt:42:23
 row-deadline-requires-2 : tie.Need-row-deadline-requires-2 Inv-loop μ-loop
 row-deadline-requires-2 c κs = search needs
 
--- src/lib.rt:42:9
 lesser-requires : tie.Need-lesser-requires Inv-loop μ-loop
 lesser-requires c κs = search needs
 
--- src/lib.rt:43:9
 add-i : tie.Need-add-i Inv-loop μ-loop
 add-i c = search needs
 
--- src/lib.rt:41:5
 loop-less : tie.Need-loop-less Inv-loop μ-loop
 loop-less c = search needs
 
--- src/lib.rt:41:5
 loop-again : tie.Need-loop-again Inv-loop μ-loop
 loop-again c = let w = c .before .before .before .loop in let a = c .before .before .before .before .before .before .args in (omega arith, omega arith, ap (λ z. leastOf z (drop (w .i + 1) (rows 70 decConn (a .n) (a .r .now)))) (c .lesser .ensures) ∙ sym (least-turn (a .n) (a .r .now) (w .m) (c .before .row-deadline2 .result) (w .i) (c .before .before .loop-test .taken) (c .before .row-deadline2 .ensures)) ∙ w .inv .2)
 
--- src/lib.rt:34:1
 returns : tie.Need-returns Inv-loop μ-loop
 returns c = let w = c .before .loop in let a = c .before .before .before .before .args in least-whole (a .n) (a .r .now) (c .before .before .row-deadline .result) (c .before .before .before .before .pre .0) (c .before .before .row-deadline .ensures) ∙ ap some (sym (w .inv .2) ∙ least-end (a .n) (a .r .now) (w .m) (w .i) (c .loop-test .left))
 

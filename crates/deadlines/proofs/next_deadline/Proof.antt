@@ -2,53 +2,37 @@ use Rattle.deadlines.specs.Deadlines.{none-waits, short, answered}
 use borrow.Author.Needs.{needs}
 use Rattle.deadlines.proofs.next_deadline.Statement.{statement}
 use Rattle.deadlines.proofs.next_deadline.Tie as tie
-use Rattle.deadlines.proofs.next_deadline.Reads as reads
-use Rattle.deadlines.proofs.next_deadline.Lts as lts
-use Rattle.cells.proofs.put_u64.Reads as put-u64-reads
-use Rattle.cells.proofs.u16_at.Reads as u16-at-reads
-use Rattle.deadlines.proofs.least.Reads as least-reads
 
--- src/lib.rt:53:13
 u16-at-requires : tie.Need-u16-at-requires
 u16-at-requires c κs = search needs
 
--- src/lib.rt:53:13
 cast-n : tie.Need-cast-n
 cast-n c = search needs
 
--- src/lib.rt:55:9
 returns : tie.Need-returns
 returns c = none-waits (c .before .before .before .before .args .s .now) (c .before .before .before .before .args .out .now) (c .before .u16-at .result) (c .before .u16-at .ensures) (c .if1 .taken)
 
--- src/lib.rt:58:9
 returns-2 : tie.Need-returns-2
 returns-2 c = short (c .before .before .before .before .before .args .s .now) (c .before .before .before .before .before .args .out .now) (c .before .before .u16-at .result) (c .before .before .u16-at .ensures) (c .before .if1 .left) (c .if2 .taken)
 
--- src/lib.rt:60:34
 sub-least : tie.Need-sub-least
 sub-least c = search needs
 
--- src/lib.rt:60:34
 part-least-start : tie.Need-part-least-start
 part-least-start c = search needs
 
--- src/lib.rt:60:34
 part-least-end : tie.Need-part-least-end
 part-least-end c = search needs
 
--- src/lib.rt:60:28
 least-requires : tie.Need-least-requires
 least-requires c κs = search needs
 
--- src/lib.rt:60:5
 put-u64-requires : tie.Need-put-u64-requires
 put-u64-requires c κs = search needs
 
--- src/lib.rt:49:1
 same-length : tie.Need-same-length
 same-length c = search needs
 
--- src/lib.rt:49:1
 returns-3 : tie.Need-returns-3
 returns-3 c = answered (c .before .before .before .before .before .before .before .before .before .before .before .args .s .now) (c .before .before .before .before .before .before .before .before .before .before .before .args .out .now) (c .before .before .before .before .before .before .before .before .u16-at .result) (c .before .before .before .before .before .before .before .before .u16-at .ensures) (c .before .before .before .least .result) (c .before .before .before .least .ensures) (c .before .before .before .before .before .before .if2 .left) (c .before .before .put-u64 .last .0) (c .before .before .put-u64 .ensures)
 

@@ -1,0 +1,211 @@
+-- Data at an output: what code leaves is the store of what the rule says.
+use Prim.Native.Nat.{ℕ, _+_, _*_, _-_, _/_, _%_, _≤_, _<_}
+use mathlib.Core.Bool.{Bool, true, false, cond, not, _&&_, _||_, Bool·beq}
+use mathlib.Core.List.{List, [], _∷_}
+use mathlib.Core.Path.{_≡_, refl, ap, sym, _∙_, subst}
+use native.Mathlib.Omega.{arith}
+use borrow.Author.Tests.{le-leb, lt-leb, le-ltb, lt-ltb, eq-eqb, ne-eqb}
+use borrow.Rule.Slice.PartMut.{midOf, putMid}
+use lib.Dec.{eqb, ltb}
+use lib.ListN.{length, getD, take, drop, set, length-drop}
+use lib.Seq.{sets, set-getD, set-set, getD-set-same, length-take-le}
+use Rattle.cells.specs.Numbers.{le, le-same, lent}
+use Rattle.cells.specs.Records.{ofBool, toBool}
+use Rattle.tables.specs.Slots.{sets-whole}
+use Rattle.rules.specs.Lists.{same}
+use Rattle.rules.specs.State.{Shape, Setup, Content, State, contentAt, noContent, shapeAt, withContents}
+use Rattle.rules.specs.Events.{pushed, pushedAll}
+use Rattle.rules.specs.Receiving.{Frame, runBit, dataOf, changes, deliver, announces}
+use Rattle.rules.specs.declared.Event.{Event}
+use Rattle.rules.specs.declared.Event.the-variants.{OutputChanged}
+use Rattle.layout.specs.Setups.{shapeIn}
+use Rattle.image.specs.Image.{runIn, notifiedIn, markOf, store}
+use Rattle.image.specs.Contents.{run-of-mark, notified-of-mark}
+use Rattle.image.specs.Fits.{Suits}
+use Rattle.image.specs.Holds.{Holds, Ready, Slotted, Becomes, assemblies-held, shape-held, mark-held, bytes-held}
+use Rattle.image.specs.Kept.{Kept, kept-sets, suits-content}
+use Rattle.image.specs.Changes.{bytesAs, markAs, marked, bytes-become}
+use Rattle.events.specs.Pushes.{eventTold}
+use Rattle.receiving.specs.DecisionLaws.{same-eq}
+use Rattle.receiving.specs.Steps.{Replaced, Replaces, TakesIn, Offers, told, accepted, offered}
+
+-- ---- put_data
+
+module _ (s : List ℕ) (r : Ready s) (i : ℕ) (p : i < le 1 s 0) (d : List ℕ) (q : length d ≤ 512) (x : List ℕ) (ex : x ≡ d) where
+  abbrev a : ℕ
+  a = 35328 + i * 512
+
+  put-is : putMid (35328 + i * 512) (35328 + i * 512 + length d - (35328 + i * 512)) s x ≡ sets s (35328 + i * 512) d
+  put-is =
+      let n = r .long in let b = r .assemblies in
+      let k : ℕ = a + length d - a in
+      let e : k ≡ length d = omega arith in
+      let m : length (take k (drop a s)) ≡ k = length-take-le k (drop a s) (rw length-drop (omega arith)) in
+      ap (putMid a k s) (ex ∙ sym (sets-whole (take k (drop a s)) d (omega arith))) ∙ lent s a k d (omega arith) (omega arith)
+
+  pub data-kept : Kept (le 2 s 224) s (putMid (35328 + i * 512) (35328 + i * 512 + length d - (35328 + i * 512)) s x)
+  data-kept = rw put-is (kept-sets s r (35328 + i * 512) d (omega arith))
+
+  pub data-put : (v : ℕ) → eqb v 0 ≡ same (take (35328 + i * 512 + length d - (35328 + i * 512)) (drop (35328 + i * 512) s)) d
+      → Replaces i d s (putMid (35328 + i * 512) (35328 + i * 512 + length d - (35328 + i * 512)) s x) (not (eqb v 0))
+  data-put v ev st l h n =
+      let k : ℕ = a + length d - a in
+      let e : k ≡ length (contentAt st i .bytes) = omega arith in
+      let m = assemblies-held s st l h in
+      record {
+        is = put-is ∙ bytes-become s i d p st l h n;
+        changed = ap not (ev ∙ ap (λ (z : List ℕ). same z d) (ap (λ (j : ℕ). take j (drop a s)) e ∙ bytes-held s st l h i (omega arith)));
+      }
+
+-- ---- take_in
+
+pub kept-few : (n : ℕ) (s s′ : List ℕ) → Kept n s s′ → le 1 s′ 0 ≡ le 1 s 0
+kept-few n s s′ k = le-same 1 s′ s 0 192 (omega arith) (k .setup)
+
+not-and : (x y : Bool) → not x || not y ≡ not (x && y)
+not-and true y = refl
+not-and false y = refl
+
+not-false-is : (b : Bool) → not b ≡ false → b ≡ true
+not-false-is true e = refl
+not-false-is false e = absurd (let z : _≡_ {A = ℕ} 0 1 = cc in omega arith)
+
+or-left : (x y : Bool) → x || y ≡ false → x ≡ false
+or-left true y e = e
+or-left false y e = refl
+
+module _ (f : Frame) (o : ℕ) (st : State) where
+  same-state : changes f (contentAt st o) ≡ false → accepted f o st ≡ st
+  unfolding accepted deliver
+  same-state e =
+      let c : set (st .contents) o (deliver f (contentAt st o)) ≡ st .contents =
+      ap (set (st .contents) o) (rw e) ∙ set-getD (st .contents) o noContent in
+      let v : told f o st ≡ [] = rw e in
+      λ j. record { setup = st .setup; contents = c j; table = st .table; events = pushedAll (v j) (st .events); fault = st .fault; nextId = st .nextId; counters = st .counters }
+
+  abbrev fresh : State
+  fresh = withContents (set (st .contents) o (record { bytes = dataOf f; run = runBit f; notified = true })) st
+
+  quiet-state : changes f (contentAt st o) ≡ true → contentAt st o .notified ≡ true → accepted f o st ≡ fresh
+  unfolding accepted deliver
+  quiet-state e n =
+      let c : deliver f (contentAt st o) ≡ record { bytes = dataOf f; run = runBit f; notified = true } = rw e in
+      let v : told f o st ≡ [] = rw (e, n) in
+      λ j. record { setup = st .setup; contents = set (st .contents) o (c j); table = st .table; events = pushedAll (v j) (st .events); fault = st .fault; nextId = st .nextId; counters = st .counters }
+
+  told-state : changes f (contentAt st o) ≡ true → contentAt st o .notified ≡ false → accepted f o st ≡ eventTold (OutputChanged (shapeAt (st .setup) o .instance)) fresh
+  unfolding accepted deliver
+  told-state e n =
+      let c : deliver f (contentAt st o) ≡ record { bytes = dataOf f; run = runBit f; notified = true } = rw e in
+      let v : told f o st ≡ OutputChanged (shapeAt (st .setup) o .instance) ∷ [] = rw (e, n) in
+      λ j. record { setup = st .setup; contents = set (st .contents) o (c j); table = st .table; events = pushedAll (v j) (st .events); fault = st .fault; nextId = st .nextId; counters = st .counters }
+
+module _ (s : List ℕ) (o : ℕ) (p : o < le 1 s 0) (d : List ℕ) (m : ℕ) (em : m ≡ getD s (240 + o) 0)
+    (run : Bool) (er : run ≡ eqb (getD d 2 0 % 2) 1) (s₁ : List ℕ) (ch : Bool) (x : List ℕ) (ex : x ≡ drop 6 d) (rep₀ : Replaces o x s s₁ ch)
+    (b : Bool) (eb : b ≡ ch || not (Bool·beq (toBool (m % 2)) run)) where
+  rep : Replaces o (drop 6 d) s s₁ ch
+  rep = subst (λ (z : List ℕ). Replaces o z s s₁ ch) ex rep₀
+
+  module _ (f : Frame) (ef : f .payload ≡ d) (st : State) (l : List ℕ) (h : Holds s st l) (n : length d ≡ length (contentAt st o .bytes) + 6) where
+    abbrev old : Content
+    old = contentAt st o
+
+    there : o < length (st .contents)
+    there = let e = assemblies-held s st l h in omega arith
+
+    long : length (drop 6 d) ≡ length (contentAt st o .bytes)
+    long = length-drop 6 d ∙ omega arith
+
+    data-is : drop 6 d ≡ dataOf f
+    data-is = ap (drop 6) (sym ef)
+
+    run-is : run ≡ runBit f
+    run-is = er ∙ ap (λ (z : List ℕ). eqb (getD z 2 0 % 2) 1) (sym ef)
+
+    mark-is : m ≡ markOf (contentAt st o)
+    mark-is = em ∙ mark-held s st l h o there
+
+    was-is : toBool (m % 2) ≡ contentAt st o .run
+    was-is = ap runIn mark-is ∙ run-of-mark (contentAt st o)
+
+    told-is : toBool (m / 2 % 2) ≡ contentAt st o .notified
+    told-is = ap notifiedIn mark-is ∙ notified-of-mark (contentAt st o)
+
+    test-is : b ≡ changes f (contentAt st o)
+    unfolding changes
+    test-is =
+        eb
+        ∙ (λ j. rep st l h long .changed j || not (Bool·beq (was-is j) (run-is j)))
+        ∙ (λ j. not (same (contentAt st o .bytes) (data-is j)) || not (Bool·beq (contentAt st o .run) (runBit f)))
+        ∙ not-and (same (contentAt st o .bytes) (dataOf f)) (Bool·beq (contentAt st o .run) (runBit f))
+
+    pub take-same : b ≡ false → s₁ ≡ store (accepted f o st) l
+    take-same e =
+        let c : ch ≡ false = or-left ch (not (Bool·beq (toBool (m % 2)) run)) (sym eb ∙ e) in
+        let w : contentAt st o .bytes ≡ drop 6 d =
+        same-eq (contentAt st o .bytes) (drop 6 d) (not-false-is (same (contentAt st o .bytes) (drop 6 d)) (sym (rep st l h long .changed) ∙ c)) in
+        let k : bytesAs o (drop 6 d) st ≡ st =
+        ap (λ (z : List ℕ). bytesAs o z st) (sym w) ∙ ap (λ (z : List Content). withContents z st) (set-getD (st .contents) o noContent) in
+        rep st l h long .is ∙ ap (λ (z : State). store z l) (k ∙ sym (same-state f o st (sym test-is ∙ e)))
+
+    held : Holds s₁ (bytesAs o (drop 6 d) st) l
+    held = record { is = rep st l h long .is; suits = suits-content st l (h .suits) o (record { bytes = drop 6 d; run = old .run; notified = old .notified }) long }
+
+    marked-is : markAs o run true (bytesAs o (drop 6 d) st) ≡ fresh f o st
+    marked-is =
+        let x : Content = record { bytes = drop 6 d; run = old .run; notified = old .notified } in
+        let g : getD (set (st .contents) o x) o noContent ≡ x = getD-set-same (st .contents) o x noContent there in
+        ap (λ (z : List Content). withContents z st)
+        (ap (λ (z : Content). set (set (st .contents) o x) o (marked run true z)) g
+        ∙ set-set (st .contents) o x (marked run true x)
+        ∙ (λ j. set (st .contents) o (record { bytes = data-is j; run = run-is j; notified = true })))
+
+    module _ (s₂ : List ℕ) (be : Becomes s₁ s₂ (markAs o run true)) (e : b ≡ true) where
+      is₂ : s₂ ≡ store (fresh f o st) l
+      is₂ = be (bytesAs o (drop 6 d) st) l held ∙ ap (λ (z : State). store z l) marked-is
+
+      pub take-quiet : toBool (m / 2 % 2) ≡ true → s₂ ≡ store (accepted f o st) l
+      take-quiet y = is₂ ∙ ap (λ (z : State). store z l) (sym (quiet-state f o st (sym test-is ∙ e) (sym told-is ∙ y)))
+
+      pub take-told : toBool (m / 2 % 2) ≡ false → (v : ℕ) → v ≡ shapeIn s o .instance → (s₃ : List ℕ) → Becomes s₂ s₃ (eventTold (OutputChanged v)) → s₃ ≡ store (accepted f o st) l
+      take-told y v ev s₃ bp =
+          let w : Suits (fresh f o st) l = suits-content st l (h .suits) o (record { bytes = dataOf f; run = runBit f; notified = true }) (ap length (sym data-is) ∙ long) in
+          bp (fresh f o st) l (record { is = is₂; suits = w })
+          ∙ ap (λ (z : ℕ). store (eventTold (OutputChanged z) (fresh f o st)) l) (ev ∙ ap (λ (z : Shape). z .instance) (shape-held s st l h o p))
+          ∙ ap (λ (z : State). store z l) (sym (told-state f o st (sym test-is ∙ e) (sym told-is ∙ y)))
+
+-- ---- offer
+
+module _ (s : List ℕ) (o : ℕ) (d : List ℕ) (n : ℕ) (en : n ≡ le 1 s 0) where
+  pub offer-nowhere : n ≤ o → Offers o d s s
+  unfolding offered
+  offer-nowhere p f ef st l h =
+      let a = assemblies-held s st l h in
+      let c = h .suits .fits .contents in
+      let t : ltb o (length (st .setup .assemblies)) ≡ false = le-ltb o (length (st .setup .assemblies)) (omega arith) in
+      h .is ∙ ap (λ (z : State). store z l) (sym (rw t))
+
+  module _ (p : o < n) (v : ℕ) (ev : v ≡ shapeIn s o .size) where
+    in-range : (st : State) (l : List ℕ) → Holds s st l → ltb o (length (st .setup .assemblies)) ≡ true
+    in-range st l h =
+        let a = assemblies-held s st l h in
+        let c = h .suits .fits .contents in
+        lt-ltb o (length (st .setup .assemblies)) (omega arith)
+
+    size-is : (st : State) (l : List ℕ) → Holds s st l → v ≡ shapeAt (st .setup) o .size
+    size-is st l h = ev ∙ ap (λ (z : Shape). z .size) (shape-held s st l h o (omega arith))
+
+    pub offer-other : (length d ≡ v + 6 → ⊥) → Offers o d s s
+    unfolding offered
+    offer-other ne f ef st l h =
+        let e : eqb (length (f .payload)) (shapeAt (st .setup) o .size + 6) ≡ false =
+        ne-eqb (length (f .payload)) (shapeAt (st .setup) o .size + 6) (λ q. ne (let a = ap length ef in let b = size-is st l h in omega arith)) in
+        h .is ∙ ap (λ (z : State). store z l) (sym (rw (in-range st l h, e)))
+
+    pub offer-taken : length d ≡ v + 6 → (s₂ : List ℕ) → TakesIn o d s s₂ → Offers o d s s₂
+    unfolding offered
+    offer-taken q s₂ b f ef st l h =
+        let e : eqb (length (f .payload)) (shapeAt (st .setup) o .size + 6) ≡ true =
+        eq-eqb (length (f .payload)) (shapeAt (st .setup) o .size + 6) (let a = ap length ef in let w = size-is st l h in omega arith) in
+        b f ef st l h (let w = size-is st l h in let z = h .suits .fits .sized o in omega arith)
+        ∙ ap (λ (z : State). store z l) (sym (rw (in-range st l h, e)))
