@@ -42,7 +42,7 @@ module _ (t : ℕ) (f : Frame) (i : ℕ) (st : State) where
   conn = getD (st .table) i noConn
 
   untaken : taken (st .setup) f (getD (st .table) i noConn) ≡ false → (cs : List Conn) → set (st .table) i (hear t f (getD (st .table) i noConn)) ≡ cs → heardAt t f i st ≡ withTable cs st
-  unfolding heardAt
+  unfolding heardAt pushedAll
   untaken e cs q =
       let a : delivered (st .setup) f (getD (st .table) i noConn) (st .contents) ≡ st .contents = rw e in
       let b : outputEvents (st .setup) f (getD (st .table) i noConn) (st .contents) ≡ [] = rw e in
@@ -74,7 +74,7 @@ module _ (t : ℕ) (f : Frame) (i : ℕ) (st : State) where
 
     offer-state : hasCip f (getD (st .table) i noConn) ≡ true → repeats f (getD (st .table) i noConn .heard) ≡ false
         → heardAt t f i st ≡ offered f (getD (st .table) i noConn .fixed .output) (heardAs i y st)
-    unfolding taken heardAt offered accepted
+    unfolding taken heardAt offered accepted pushedAll
     offer-state e g =
         let c : Conn = getD (st .table) i noConn in
         let o : ℕ = c .fixed .output in
@@ -194,7 +194,7 @@ module _ (pr : Conn → Bool) where
 
 module _ (t from : ℕ) (f : Frame) (st : State) where
   there-state : (i : ℕ) → place (meantFor from f) (st .table) ≡ some i → received t from f st ≡ heardAt t f i st
-  unfolding received heardAt
+  unfolding received heardAt pushedAll
   there-state i e =
       let fd = find-at (meantFor from f) noConn (st .table) i e in
       let ch = change-at (meantFor from f) noConn (hear t f) (st .table) i e in
@@ -209,7 +209,7 @@ module _ (t from : ℕ) (f : Frame) (st : State) where
       }
 
   nowhere-state : place (meantFor from f) (st .table) ≡ none → received t from f st ≡ st
-  unfolding received
+  unfolding received pushedAll
   nowhere-state e =
       let fd = find-none (meantFor from f) (st .table) e in
       let ch = change-none (meantFor from f) (hear t f) (st .table) e in

@@ -76,7 +76,7 @@ or-left false y e = refl
 
 module _ (f : Frame) (o : ℕ) (st : State) where
   same-state : changes f (contentAt st o) ≡ false → accepted f o st ≡ st
-  unfolding accepted deliver
+  unfolding accepted deliver pushedAll
   same-state e =
       let c : set (st .contents) o (deliver f (contentAt st o)) ≡ st .contents =
       ap (set (st .contents) o) (rw e) ∙ set-getD (st .contents) o noContent in
@@ -87,14 +87,14 @@ module _ (f : Frame) (o : ℕ) (st : State) where
   fresh = withContents (set (st .contents) o (record { bytes = dataOf f; run = runBit f; notified = true })) st
 
   quiet-state : changes f (contentAt st o) ≡ true → contentAt st o .notified ≡ true → accepted f o st ≡ fresh
-  unfolding accepted deliver
+  unfolding accepted deliver pushedAll
   quiet-state e n =
       let c : deliver f (contentAt st o) ≡ record { bytes = dataOf f; run = runBit f; notified = true } = rw e in
       let v : told f o st ≡ [] = rw (e, n) in
       λ j. record { setup = st .setup; contents = set (st .contents) o (c j); table = st .table; events = pushedAll (v j) (st .events); fault = st .fault; nextId = st .nextId; counters = st .counters }
 
   told-state : changes f (contentAt st o) ≡ true → contentAt st o .notified ≡ false → accepted f o st ≡ eventTold (OutputChanged (shapeAt (st .setup) o .instance)) fresh
-  unfolding accepted deliver
+  unfolding accepted deliver pushedAll
   told-state e n =
       let c : deliver f (contentAt st o) ≡ record { bytes = dataOf f; run = runBit f; notified = true } = rw e in
       let v : told f o st ≡ OutputChanged (shapeAt (st .setup) o .instance) ∷ [] = rw (e, n) in
