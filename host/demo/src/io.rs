@@ -58,8 +58,7 @@ mod tests {
 
     #[test]
     fn writes_and_reads_the_fixed_bytes() {
-        let frame =
-            IoFrame { id: 0x1122_3344, sequence: 1, cip_sequence: 7, data: with_header(true, &[0xCA, 0xFE]) };
+        let frame = IoFrame { id: 0x1122_3344, sequence: 1, cip_sequence: 7, data: with_header(true, &[0xCA, 0xFE]) };
         assert_eq!(frame.bytes(), FRAME);
         assert_eq!(IoFrame::read(&FRAME), Some(frame));
     }

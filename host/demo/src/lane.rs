@@ -3,8 +3,8 @@
 use crate::host::{Application, Inputs};
 use crate::timeline::Timeline;
 use std::net::Ipv4Addr;
-use std::sync::mpsc::Sender;
 use std::sync::Arc;
+use std::sync::mpsc::Sender;
 use threshtide::{Assembly, Connection, ConnectionKind, Event, Output, Refusal, Setup};
 
 /// The input assembly: the word that the lane moves by (0 while it stands), and whether it moves.
@@ -23,7 +23,7 @@ pub const CONFIGURATION_SIZE: u16 = 4;
 /// What the lane is set up with.
 pub fn setup() -> Setup {
     Setup {
-        vendor: 1_234,
+        vendor: 65_000,    // no vendor has this number
         device_type: 0x0C, // communications adapter
         product_code: 44,
         revision: (4, 1),
@@ -37,6 +37,21 @@ pub fn setup() -> Setup {
         mac: [0x02, 0, 127, 0, 0, 1],
         ..Setup::default()
     }
+}
+
+/// Who the lane is, in words.
+pub fn identity() -> String {
+    let s = setup();
+    format!(
+        "is \"{}\": vendor {}, device type {}, product code {}, revision {}.{}, serial number 0x{:08x}",
+        String::from_utf8_lossy(&s.product_name),
+        s.vendor,
+        s.device_type,
+        s.product_code,
+        s.revision.0,
+        s.revision.1,
+        s.serial
+    )
 }
 
 /// Something that the lane was told, with its time.

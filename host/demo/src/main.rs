@@ -95,6 +95,7 @@ fn serve(options: &Options, timeline: &Arc<Timeline>, notes: Notes) -> Result<()
         seed: RandomState::new().build_hasher().finish() as u32,
     };
     let host = Host::start(config, Box::new(Lane::new(Arc::clone(timeline), None)), timeline.clock(), notes)?;
+    timeline.say("adapter", lane::identity());
     timeline.say("adapter", story::listening(options.address, &host));
     let Some(seconds) = options.seconds else {
         loop {

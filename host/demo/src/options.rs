@@ -10,7 +10,7 @@ usage: demo [--pcap FILE] [--said FILE] [--port N] [--io-port N]
        demo serve [--address A] [--mask M] [--port N] [--io-port N] [--seconds N] [--pcap FILE] [--said FILE]
 
 Without `serve`: plays a story on loopback by itself, as a timeline, and checks it; status 1 if something is not as it
-must be. Ports are free ones unless given.
+must be. Ports are free ones unless given; with --pcap they are 44818 and 2222, by which Wireshark knows the protocol.
 With `serve`: the lane on a network until it is ended, on TCP and UDP port 44818 and I/O port 2222 unless given.
 
   --pcap FILE    write what went over the wire, for Wireshark (classic pcap)
@@ -55,13 +55,13 @@ pub enum Asked {
 pub fn read(words: impl IntoIterator<Item = String>) -> Result<Asked, String> {
     let mut words = words.into_iter().peekable();
     let serve = words.next_if(|word| word == "serve").is_some();
-    let (port, io_port) = if serve { (PORT, IO_PORT) } else { (0, 0) };
+    let (mut port, mut io_port) = (None, None);
     let mut options = Options {
         serve,
         address: Ipv4Addr::LOCALHOST,
         mask: Ipv4Addr::new(255, 255, 255, 0),
-        port,
-        io_port,
+        port: 0,
+        io_port: 0,
         seconds: None,
         pcap: None,
         said: None,
@@ -76,14 +76,17 @@ pub fn read(words: impl IntoIterator<Item = String>) -> Result<Asked, String> {
             "-h" | "--help" => return Ok(Asked::Help),
             "--pcap" => options.pcap = Some(value()?.into()),
             "--said" => options.said = Some(value()?.into()),
-            "--port" => options.port = parsed(&word, &value()?, "a port, 0 to 65535")?,
-            "--io-port" => options.io_port = parsed(&word, &value()?, "a port, 0 to 65535")?,
+            "--port" => port = Some(parsed(&word, &value()?, "a port, 0 to 65535")?),
+            "--io-port" => io_port = Some(parsed(&word, &value()?, "a port, 0 to 65535")?),
             "--address" => options.address = parsed(&word, &value()?, "an address such as 192.168.1.10")?,
             "--mask" => options.mask = mask(&value()?)?,
             "--seconds" => options.seconds = Some(parsed(&word, &value()?, "a number of seconds")?),
             _ => return Err(format!("'{word}' is no option")),
         }
     }
+    let usual = serve || options.pcap.is_some();
+    options.port = port.unwrap_or(if usual { PORT } else { 0 });
+    options.io_port = io_port.unwrap_or(if usual { IO_PORT } else { 0 });
     if options.port != 0 && options.port == options.io_port {
         return Err(format!("--port and --io-port are both {}: each needs one of its own", options.port));
     }
@@ -126,8 +129,15 @@ mod tests {
     }
 
     #[test]
+    fn a_capture_has_the_usual_ports_unless_others_are_given() {
+        assert_eq!((run("--pcap a").port, run("--pcap a").io_port), (44_818, 2_222));
+        assert_eq!((run("--port 0 --pcap a").port, run("--pcap a --io-port 0").io_port), (0, 0));
+    }
+
+    #[test]
     fn options_are_taken() {
-        let options = run("serve --address 10.0.0.4 --mask 255.255.0.0 --port 1 --io-port 2 --seconds 3 --pcap a --said b");
+        let options =
+            run("serve --address 10.0.0.4 --mask 255.255.0.0 --port 1 --io-port 2 --seconds 3 --pcap a --said b");
         assert_eq!(options.address, Ipv4Addr::new(10, 0, 0, 4));
         assert_eq!(options.mask, Ipv4Addr::new(255, 255, 0, 0));
         assert_eq!((options.port, options.io_port, options.seconds), (1, 2, Some(3)));

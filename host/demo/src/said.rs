@@ -1,16 +1,19 @@
 //! What each side says it sent, one line for a message: held against a capture by `host/judge`.
 //!
-//! The words of a line are parted by tabs; numbers are decimal, ids, words and data hexadecimal.
+//! The words of a line are parted by tabs and written as tshark writes the fields that they are held against; a word that
+//! a message has not is empty.
 //!
 //! | Line | Said by | Words after the first |
 //! |---|---|---|
+//! | `identity` | whoever browsed | vendor, device type, product code, revision, serial, name |
 //! | `open` | originator | from, service, T→O id, serial, vendor, originator, multiplier, O→T RPI, T→O RPI, O→T parameters, T→O parameters |
-//! | `opened` | host | to, service, O→T id, T→O id, serial, vendor, originator, O→T RPI, T→O RPI, T→O socket or `-` |
-//! | `refused` | host | to, service, general status, words parted by commas, serial, vendor, originator |
+//! | `opened` | host | to, service, O→T id, T→O id, serial, vendor, originator, O→T RPI, T→O RPI, address and port of the T→O socket |
+//! | `refused` | host | to, service, general status, number of words, first word, serial, vendor, originator |
 //! | `close` | originator | from, serial, vendor, originator |
 //! | `closed` | host | to, general status, serial, vendor, originator |
-//! | `o-t` | originator | from, id, sequence, CIP sequence, run (`-` without a header), data |
-//! | `t-o` | host | to, id, sequence, CIP sequence, `-`, data |
+//! | `o-t` | originator | from, id, sequence, CIP sequence, run, data |
+//! | `strange` | someone without a connection | from, id, sequence |
+//! | `t-o` | host | to, id, sequence, CIP sequence, run, data |
 
 use crate::cip::{ForwardOpen, OpenReply, Triad};
 use crate::io::IoFrame;
@@ -19,6 +22,7 @@ use std::io::{self, Write};
 use std::net::{Ipv4Addr, SocketAddrV4};
 use std::path::Path;
 use std::sync::{Mutex, PoisonError};
+use threshtide::Setup;
 
 /// A file of such lines; one without a file says nothing.
 #[derive(Default)]
@@ -27,11 +31,15 @@ pub struct Said {
 }
 
 fn triad(t: Triad) -> String {
-    format!("{}\t{}\t{}", t.serial, t.vendor, t.originator)
+    format!("0x{:04x}\t0x{:04x}\t0x{:08x}", t.serial, t.vendor, t.originator)
 }
 
 fn hex(data: &[u8]) -> String {
     data.iter().map(|byte| format!("{byte:02x}")).collect()
+}
+
+fn numbers(frame: &IoFrame) -> String {
+    format!("0x{:08x}\t{}", frame.id, frame.sequence)
 }
 
 impl Said {
@@ -55,19 +63,29 @@ impl Said {
         inner.1.take().map_or(Ok(()), Err)
     }
 
+    /// A browser was told the identity of a setup.
+    pub fn identity(&self, setup: &Setup) {
+        self.line(|| {
+            let name = String::from_utf8_lossy(&setup.product_name);
+            let Setup { vendor, device_type, product_code, revision, serial, .. } = setup;
+            let revision = u16::from_be_bytes([revision.0, revision.1]);
+            format!("identity\t0x{vendor:04x}\t{device_type}\t{product_code}\t{revision}\t0x{serial:08x}\t{name}")
+        });
+    }
+
     /// An originator opens.
     pub fn open(&self, from: Ipv4Addr, open: &ForwardOpen) {
+        let width = if open.large { 10 } else { 6 };
+        let (o_t, t_o) = (open.parameters(open.o_t), open.parameters(open.t_o));
         self.line(|| {
             format!(
-                "open\t{from}\t{:02x}\t{:08x}\t{}\t{}\t{}\t{}\t{:x}\t{:x}",
+                "open\t{from}\t0x{:02x}\t0x{:08x}\t{}\t{}\t{}\t{}\t{o_t:#0width$x}\t{t_o:#0width$x}",
                 open.service(),
                 open.t_o_id,
                 triad(open.triad),
                 open.multiplier,
                 open.o_t.rpi,
                 open.t_o.rpi,
-                open.parameters(open.o_t),
-                open.parameters(open.t_o),
             )
         });
     }
@@ -75,9 +93,9 @@ impl Said {
     /// The host accepts.
     pub fn opened(&self, to: Ipv4Addr, service: u8, reply: &OpenReply, socket: Option<SocketAddrV4>) {
         self.line(|| {
-            let socket = socket.map_or("-".to_string(), |s| s.to_string());
+            let socket = socket.map_or("\t".to_string(), |s| format!("{}\t{}", s.ip(), s.port()));
             format!(
-                "opened\t{to}\t{service:02x}\t{:08x}\t{:08x}\t{}\t{}\t{}\t{socket}",
+                "opened\t{to}\t0x{service:02x}\t0x{:08x}\t0x{:08x}\t{}\t{}\t{}\t{socket}",
                 reply.o_t_id,
                 reply.t_o_id,
                 triad(reply.triad),
@@ -90,8 +108,9 @@ impl Said {
     /// The host refuses.
     pub fn refused(&self, to: Ipv4Addr, service: u8, general: u8, words: &[u16], t: Triad) {
         self.line(|| {
-            let words: Vec<String> = words.iter().map(|word| format!("{word:04x}")).collect();
-            format!("refused\t{to}\t{service:02x}\t{general:02x}\t{}\t{}", words.join(","), triad(t))
+            let word = words.first().copied().unwrap_or(0);
+            let count = words.len();
+            format!("refused\t{to}\t0x{service:02x}\t0x{general:02x}\t{count}\t0x{word:04x}\t{}", triad(t))
         });
     }
 
@@ -102,22 +121,25 @@ impl Said {
 
     /// The host has closed, or knows no such connection.
     pub fn closed(&self, to: Ipv4Addr, general: u8, t: Triad) {
-        self.line(|| format!("closed\t{to}\t{general:02x}\t{}", triad(t)));
+        self.line(|| format!("closed\t{to}\t0x{general:02x}\t{}", triad(t)));
     }
 
     /// An originator sends a frame; with `header`, its data begins with the 32-bit header.
     pub fn o_t(&self, from: Ipv4Addr, frame: &IoFrame, header: bool) {
-        let run = if header { (frame.data[0] & 1).to_string() } else { "-".to_string() };
-        let data = if header { &frame.data[4..] } else { &frame.data };
-        self.line(|| {
-            format!("o-t\t{from}\t{:08x}\t{}\t{}\t{run}\t{}", frame.id, frame.sequence, frame.cip_sequence, hex(data))
-        });
+        let (run, data) = match frame.data.split_first_chunk::<4>() {
+            Some((head, rest)) if header => (format!("0x{:08x}", head[0] & 1), rest),
+            _ => (String::new(), &frame.data[..]),
+        };
+        self.line(|| format!("o-t\t{from}\t{}\t{}\t{run}\t{}", numbers(frame), frame.cip_sequence, hex(data)));
+    }
+
+    /// Someone without a connection sends a frame.
+    pub fn strange(&self, from: Ipv4Addr, frame: &IoFrame) {
+        self.line(|| format!("strange\t{from}\t{}", numbers(frame)));
     }
 
     /// The host sends a packet.
     pub fn t_o(&self, to: Ipv4Addr, frame: &IoFrame) {
-        self.line(|| {
-            format!("t-o\t{to}\t{:08x}\t{}\t{}\t-\t{}", frame.id, frame.sequence, frame.cip_sequence, hex(&frame.data))
-        });
+        self.line(|| format!("t-o\t{to}\t{}\t{}\t\t{}", numbers(frame), frame.cip_sequence, hex(&frame.data)));
     }
 }

@@ -105,7 +105,9 @@ pub struct StartError {
 impl fmt::Display for StartError {
     fn fmt(&self, f: &mut fmt::Formatter<'_>) -> fmt::Result {
         let hint = match self.error.kind() {
-            io::ErrorKind::AddrInUse => " (another EtherNet/IP program has the port; choose others with --port and --io-port)",
+            io::ErrorKind::AddrInUse => {
+                " (another EtherNet/IP program has the port; choose others with --port and --io-port)"
+            }
             io::ErrorKind::AddrNotAvailable => " (this machine has no such address)",
             io::ErrorKind::PermissionDenied => " (not allowed; ports below 1024 need rights)",
             _ => "",
@@ -216,8 +218,7 @@ pub struct Host {
 fn bind_pair(address: Ipv4Addr, port: u16) -> Result<(TcpListener, UdpSocket), StartError> {
     let mut tries = if port == 0 { 64 } else { 1 };
     loop {
-        let listener =
-            TcpListener::bind((address, port)).map_err(cannot(format!("listen on TCP {address}:{port}")))?;
+        let listener = TcpListener::bind((address, port)).map_err(cannot(format!("listen on TCP {address}:{port}")))?;
         let got = listener.local_addr().map_err(cannot("read a port".into()))?.port();
         tries -= 1;
         match UdpSocket::bind((address, got)) {

@@ -63,11 +63,8 @@ fn serve(shared: &Shared, mut stream: TcpStream) {
     let (Ok(SocketAddr::V4(peer)), Ok(SocketAddr::V4(local))) = (stream.peer_addr(), stream.local_addr()) else {
         return;
     };
-    let timeouts = [
-        stream.set_nodelay(true),
-        stream.set_read_timeout(Some(IDLE)),
-        stream.set_write_timeout(Some(UNREAD)),
-    ];
+    let timeouts =
+        [stream.set_nodelay(true), stream.set_read_timeout(Some(IDLE)), stream.set_write_timeout(Some(UNREAD))];
     if timeouts.iter().any(Result::is_err) {
         return;
     }

@@ -34,7 +34,10 @@ pub(super) fn play(stage: &Stage) -> Result<(), Failure> {
     heartbeat.stop();
     drop(screen);
     let status = scanner.attribute(0x01, 1, 5)?;
-    stage.check(status == [0x20, 0], format!("the identity's status tells of a timed-out connection: 0x0020, not {status:02X?}"));
+    stage.check(
+        status == [0x20, 0],
+        format!("the identity's status tells of a timed-out connection: 0x0020, not {status:02X?}"),
+    );
     listens_too_early(stage, &mut display)?;
 
     comes_back(stage, &mut scanner)?;
@@ -67,12 +70,12 @@ fn browsed(stage: &Stage) -> Result<(), Failure> {
         "ListIdentity over UDP tells the identity that the device was set up with",
     );
     if found {
-        let name = String::from_utf8_lossy(&setup.product_name);
-        let what = format!("finds \"{name}\", vendor {}, serial {:08X} by ListIdentity", setup.vendor, setup.serial);
-        stage.say("browser", what);
+        stage.say("browser", "finds the device by ListIdentity, with that identity");
     }
+    stage.notes.said.identity(&setup);
     let mut session = Originator::connect(stage.target, &stage.notes.said)?;
     let over_tcp = session.ask(encap::LIST_IDENTITY, Vec::new())?.data;
+    stage.notes.said.identity(&setup);
     stage.check(over_tcp == data, "ListIdentity over TCP tells the same");
     let name = session.attribute(0x01, 1, 7)?;
     stage.check(name[1..] == setup.product_name, "attribute 7 of Identity is the product name");
@@ -83,7 +86,7 @@ fn browsed(stage: &Stage) -> Result<(), Failure> {
 /// A refused open is shown with its word and meaning, and must have the word that is expected.
 fn refused(stage: &Stage, who: &str, answer: &Answer, open: &ForwardOpen, word: u16) -> Result<(), Failure> {
     let Answer::Refused(Reply { general, words, data, .. }) = answer else {
-        return stage.need(false, &format!("{who}'s open is refused with 0x{word:04X}; it was accepted"));
+        return Err(stage.fail(format!("{who}'s open is refused with 0x{word:04X}; it was accepted")));
     };
     let shown = words.first().copied().unwrap_or(0);
     let meaning = Word(shown).meaning().unwrap_or("no meaning known");
@@ -118,8 +121,7 @@ fn owns(stage: &Stage, scanner: &mut Originator) -> Result<(OpenReply, SocketAdd
         ),
     );
     let Answer::Opened(reply, socket) = scanner.open(&open, None)? else {
-        stage.need(false, "the scanner's open is accepted")?;
-        unreachable!("a check that fails ends the story");
+        return Err(stage.fail("the scanner's open is accepted"));
     };
     stage.until(mark, "the application hears of the open", |told| {
         matches!(told, Told::Happened(_, Event::Opened(c)) if c.kind == ConnectionKind::Owner && c.o_t_id.0 == reply.o_t_id)
@@ -130,7 +132,8 @@ fn owns(stage: &Stage, scanner: &mut Originator) -> Result<(OpenReply, SocketAdd
     let stored = scanner.attribute(0x04, lane::CONFIGURATION as u8, 3)?;
     stage.check(stored == CONFIGURATION, "the configuration assembly has the bytes of the open");
     stage.check(reply.triad == open.triad, "the reply names the open's triad");
-    stage.check((reply.o_t_rpi, reply.t_o_rpi) == (open.o_t.rpi, open.t_o.rpi), "the reply has the intervals asked for");
+    stage
+        .check((reply.o_t_rpi, reply.t_o_rpi) == (open.o_t.rpi, open.t_o.rpi), "the reply has the intervals asked for");
     stage.check(reply.t_o_id != open.t_o_id, "the device draws the T→O id of a new stream");
     // 127.0.0.4 in 127.0.0.0/8: host part 4, so 3 times 32 behind 239.192.1.0
     let group = SocketAddrV4::new(Ipv4Addr::new(239, 192, 1, 96), stage.io.port());
@@ -160,8 +163,7 @@ fn joins(
     let open = stage.plan.listener();
     stage.say("display", "asks again to listen");
     let Answer::Opened(reply, socket) = display.open(&open, None)? else {
-        stage.need(false, "the display's open is accepted")?;
-        unreachable!("a check that fails ends the story");
+        return Err(stage.fail("the display's open is accepted"));
     };
     stage.check(reply.t_o_id == owner.t_o_id, "the display gets the stream's T→O id");
     stage.check(reply.o_t_id != owner.o_t_id, "the display gets an O→T id of its own");
@@ -202,21 +204,22 @@ fn talk(stage: &Stage, id: u32) -> Result<Talker, Failure> {
     Ok(talker)
 }
 
-/// The scanner sets a word and run; the lane moves by it and the display sees it.
-fn moves(stage: &Stage, talker: &Talker, screen: &Hearer, by: u32) {
+/// The scanner sets a word and run; the lane moves by it, and who hears the packets sees it.
+fn moves(stage: &Stage, talker: &Talker, (who, ear): (&str, &Hearer), by: u32) {
     let mark = stage.mark();
-    let seen = screen.heard().len();
+    let seen = ear.heard().len();
     stage.say("scanner", format!("sets run with word {by:08X}"));
     talker.set(with_header(stage.plan.runs, &by.to_le_bytes()));
     let must = format!("the lane moves by word {by:08X}");
     stage.until(mark, &must, |told| matches!(told, Told::Lane { moves: true, word, .. } if *word == by));
-    if stage.check(screen.hears(seen, &lane::input(true, by)), format!("the packets tell that the lane moves by {by:08X}")) {
-        stage.say("display", format!("sees the lane move by {by:08X}"));
+    let told = ear.hears(seen, &lane::input(true, by));
+    if stage.check(told, format!("the packets tell that the lane moves by {by:08X}")) {
+        stage.say(who, format!("sees the lane move by {by:08X}"));
     }
 }
 
 fn runs(stage: &Stage, talker: &Talker, screen: &Hearer, scanner: &mut Originator) -> Result<(), Failure> {
-    moves(stage, talker, screen, 0x2A);
+    moves(stage, talker, ("display", screen), 0x2A);
     let status = scanner.attribute(0x01, 1, 5)?;
     stage.check(status == [0x61, 0], format!("the identity's status is owned and in run: 0x0061, not {status:02X?}"));
     let mark = stage.mark();
@@ -225,7 +228,7 @@ fn runs(stage: &Stage, talker: &Talker, screen: &Hearer, scanner: &mut Originato
     stage.until(mark, "the lane stands when the scanner is idle", |told| {
         matches!(told, Told::Lane { moves: false, word: 0x2A, .. })
     });
-    moves(stage, talker, screen, 0x2B);
+    moves(stage, talker, ("display", screen), 0x2B);
     Ok(())
 }
 
@@ -237,7 +240,7 @@ fn is_not_disturbed(stage: &Stage, talker: &Talker, id: u32) -> Result<(), Failu
     let data = with_header(true, &0xDEAD_BEEF_u32.to_le_bytes());
     let frame = IoFrame { id, sequence: 1_000_000, cip_sequence: 0xFFFF, data };
     way.socket.send_to(&frame.bytes(), way.to)?;
-    stage.notes.said.o_t(way.from, &frame, true);
+    stage.notes.said.strange(way.from, &frame);
     stage.intervals(3);
     talker.set(with_header(stage.plan.runs, &0x2C_u32.to_le_bytes()));
     stage.until(mark, "the owner's next word still counts: 0000002C", |told| {
@@ -254,15 +257,18 @@ fn falls_silent(stage: &Stage, talker: Talker, screen: &Hearer, owner: &OpenRepl
     let mark = stage.mark();
     let last = if stage.plan.falls_silent {
         let (last, frames) = talker.stop();
-        stage.say("scanner", format!("falls silent after {frames} frames, run still set in the last"));
+        let at = milliseconds(last);
+        stage.say("scanner", format!("has fallen silent: {frames} frames, the last at {at} ms with run still set"));
         Some(last)
     } else {
         stage.say("scanner", "goes on");
         None
     };
-    let told = stage.until(mark, "the owner's connection times out", |told| {
-        matches!(told, Told::Happened(_, Event::TimedOut(c)) if c.kind == ConnectionKind::Owner)
-    });
+    let told = stage.until(
+        mark,
+        "the owner's connection times out",
+        |told| matches!(told, Told::Happened(_, Event::TimedOut(c)) if c.kind == ConnectionKind::Owner),
+    );
     let (Some(Told::Happened(ended, _)), Some(last)) = (told, last) else {
         return Err("the owner's connection is still there".into());
     };
@@ -270,11 +276,18 @@ fn falls_silent(stage: &Stage, talker: Talker, screen: &Hearer, owner: &OpenRepl
     let latest = timeout + SLACK.as_micros() as u64;
     stage.check(
         after > timeout && after <= latest,
-        format!("it ends {} to {} ms after the last frame, not {}", timeout / 1_000, latest / 1_000, milliseconds(after)),
+        format!(
+            "it ends {} to {} ms after the last frame, not {}",
+            timeout / 1_000,
+            latest / 1_000,
+            milliseconds(after)
+        ),
     );
-    stage.until(mark, "run is clear, and the application knows", |told| {
-        matches!(told, Told::Lane { time, moves: false, word: 0x2C } if *time == ended)
-    });
+    stage.until(
+        mark,
+        "run is clear, and the application knows",
+        |told| matches!(told, Told::Lane { time, moves: false, word: 0x2C } if *time == ended),
+    );
     let told = stage.since(mark);
     let outputs = told.iter().filter(|told| matches!(told, Told::Happened(_, Event::Output { .. }))).count();
     stage.check(outputs == 0, "no Output event told so: the host acted on TimedOut");
@@ -339,19 +352,21 @@ fn comes_back(stage: &Stage, scanner: &mut Originator) -> Result<(), Failure> {
     let open = stage.plan.owner(1, false, &[]);
     stage.say("scanner", format!("comes back: owner again, T→O point-to-point to {own}"));
     let Answer::Opened(reply, socket) = scanner.open(&open, Some(own))? else {
-        return stage.need(false, "the scanner's second open is accepted");
+        return Err(stage.fail("the scanner's second open is accepted"));
     };
     stage.check(socket.is_none(), "a point-to-point reply has no T→O socket address item");
     stage.check(reply.t_o_id == open.t_o_id, "point-to-point, the T→O id is the scanner's own");
     stage.check(ear.hears(0, &lane::input(false, 0)), "the packets come to that port, and tell that the lane stands");
     let talker = talk(stage, reply.o_t_id)?;
-    moves(stage, &talker, &ear, 0x2D);
+    moves(stage, &talker, ("scanner", &ear), 0x2D);
     let mark = stage.mark();
     stage.say("scanner", "closes (Forward Close)");
     let closed = scanner.close(open.triad, &open.path)?;
     let triad = [&open.triad.bytes()[..], &[0, 0]].concat();
     stage.check((closed.general, closed.data) == (0, triad), "the close is accepted and names the triad");
-    stage.until(mark, "run is clear after the close", |told| matches!(told, Told::Lane { moves: false, word: 0x2D, .. }));
+    stage.until(mark, "run is clear after the close", |told| {
+        matches!(told, Told::Lane { moves: false, word: 0x2D, .. })
+    });
     talker.stop();
     let again = scanner.close(open.triad, &open.path)?;
     stage.check(

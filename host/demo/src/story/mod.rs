@@ -40,7 +40,7 @@ pub struct Plan {
     pub runs: bool,
     /// The scanner falls silent.
     pub falls_silent: bool,
-    /// The stranger is the scanner's own address.
+    /// Where the stranger is.
     pub stranger: Ipv4Addr,
 }
 
@@ -73,7 +73,7 @@ impl Plan {
         ForwardOpen {
             large: false,
             t_o_id: 0x5CA0_0000 | originator,
-            triad: Triad { serial: 1, vendor: 77, originator },
+            triad: Triad { serial: 1, vendor: 65_001, originator },
             multiplier: 2, // 16 intervals
             o_t: self.direction(lane::OUTPUT_SIZE + 6, false),
             t_o: self.direction(lane::INPUT_SIZE + 2, multicast),
@@ -83,11 +83,11 @@ impl Plan {
 
     /// The display's open: listen-only, a heartbeat each second interval, and a T→O interval that it will not get.
     fn listener(&self) -> ForwardOpen {
-        let points = [self.setup.listen_only_heartbeat.min(255) as u8, lane::INPUT as u8];
+        let points = [lane::setup().listen_only_heartbeat as u8, lane::INPUT as u8];
         ForwardOpen {
             large: true,
             t_o_id: 0,
-            triad: Triad { serial: 9, vendor: 88, originator: 500 },
+            triad: Triad { serial: 9, vendor: 65_002, originator: 500 },
             multiplier: 4, // 64 intervals
             o_t: Direction { rpi: 2 * self.rpi, size: 2, multicast: false },
             t_o: Direction { rpi: 4 * self.rpi, size: lane::INPUT_SIZE + 2, multicast: true },
@@ -120,9 +120,10 @@ impl Stage<'_> {
         self.timeline.check(holds, must)
     }
 
-    /// A check without which the story cannot go on.
-    fn need(&self, holds: bool, must: &str) -> Result<(), Failure> {
-        if self.check(holds, must) { Ok(()) } else { Err(must.into()) }
+    /// A check that fails, and without which the story cannot go on.
+    fn fail(&self, must: impl AsRef<str>) -> Failure {
+        self.check(false, must.as_ref());
+        must.as_ref().into()
     }
 
     /// Takes what the application was told up to now.
@@ -177,6 +178,7 @@ pub fn play(plan: &Plan, timeline: &Arc<Timeline>, notes: Notes) -> Result<(), F
     };
     let application = Lane::new(Arc::clone(timeline), Some(teller));
     let host = Host::start(config, Box::new(application), timeline.clock(), notes.clone())?;
+    timeline.say("adapter", lane::identity());
     timeline.say("adapter", listening(DEVICE, &host));
     let stage = Stage {
         plan,

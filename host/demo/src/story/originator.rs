@@ -73,11 +73,7 @@ impl Originator {
     }
 
     /// An unconnected message and its reply, with the T→O socket address items of both.
-    pub fn send(
-        &mut self,
-        message: &[u8],
-        socket: Option<SocketAddrV4>,
-    ) -> io::Result<(Reply, Option<SocketAddrV4>)> {
+    pub fn send(&mut self, message: &[u8], socket: Option<SocketAddrV4>) -> io::Result<(Reply, Option<SocketAddrV4>)> {
         let socket = socket.map(cpf::write_socket);
         let mut items: Vec<cpf::Item> = vec![(cpf::NULL_ADDRESS, &[]), (cpf::UNCONNECTED_DATA, message)];
         if let Some(socket) = &socket {
@@ -147,11 +143,11 @@ pub struct Way {
     pub id: u32,
 }
 
-/// Sends a frame each interval, until it is stopped.
+/// Sends a frame each interval, until it is stopped or dropped.
 pub struct Talker {
     data: Arc<Mutex<Vec<u8>>>,
     stop: Arc<AtomicBool>,
-    thread: JoinHandle<(u64, u32)>,
+    thread: Option<JoinHandle<(u64, u32)>>,
 }
 
 impl Talker {
@@ -175,7 +171,7 @@ impl Talker {
             }
             (last, sequence)
         });
-        Talker { data, stop, thread }
+        Talker { data, stop, thread: Some(thread) }
     }
 
     /// What the next frames carry.
@@ -184,9 +180,19 @@ impl Talker {
     }
 
     /// Stops; the time just before the last frame was sent, and how many there were.
-    pub fn stop(self) -> (u64, u32) {
+    pub fn stop(mut self) -> (u64, u32) {
+        self.end()
+    }
+
+    fn end(&mut self) -> (u64, u32) {
         self.stop.store(true, Ordering::SeqCst);
-        self.thread.join().unwrap_or((0, 0))
+        self.thread.take().and_then(|thread| thread.join().ok()).unwrap_or((0, 0))
+    }
+}
+
+impl Drop for Talker {
+    fn drop(&mut self) {
+        self.end();
     }
 }
 
