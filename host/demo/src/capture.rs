@@ -168,8 +168,8 @@ mod tests {
                 (f[47], number(38), number(42), f.len() - 54)
             })
             .collect();
-        let c = |n| 1_001 + n;
-        let s = |n| 2_001 + n;
+        let c = |n: u32| 1_001 + n;
+        let s = |n: u32| 2_001 + n;
         assert_eq!(
             numbers,
             [

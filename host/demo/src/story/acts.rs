@@ -212,7 +212,7 @@ fn moves(stage: &Stage, talker: &Talker, (who, ear): (&str, &Hearer), by: u32) {
     talker.set(with_header(stage.plan.runs, &by.to_le_bytes()));
     let must = format!("the lane moves by word {by:08X}");
     stage.until(mark, &must, |told| matches!(told, Told::Lane { moves: true, word, .. } if *word == by));
-    let told = ear.hears(seen, &lane::input(true, by));
+    let told = ear.hears(seen, &lane::input(true, by), stage.patience());
     if stage.check(told, format!("the packets tell that the lane moves by {by:08X}")) {
         stage.say(who, format!("sees the lane move by {by:08X}"));
     }
@@ -356,7 +356,8 @@ fn comes_back(stage: &Stage, scanner: &mut Originator) -> Result<(), Failure> {
     };
     stage.check(socket.is_none(), "a point-to-point reply has no T→O socket address item");
     stage.check(reply.t_o_id == open.t_o_id, "point-to-point, the T→O id is the scanner's own");
-    stage.check(ear.hears(0, &lane::input(false, 0)), "the packets come to that port, and tell that the lane stands");
+    let stands = ear.hears(0, &lane::input(false, 0), stage.patience());
+    stage.check(stands, "the packets come to that port, and tell that the lane stands");
     let talker = talk(stage, reply.o_t_id)?;
     moves(stage, &talker, ("scanner", &ear), 0x2D);
     let mark = stage.mark();

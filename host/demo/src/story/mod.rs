@@ -137,13 +137,18 @@ impl Stage<'_> {
         self.log.borrow().len()
     }
 
+    /// How long to wait for what must come: not long once something is not as it must be.
+    fn patience(&self) -> Duration {
+        if self.timeline.outcome().1.is_empty() { PATIENCE } else { PATIENCE / 20 }
+    }
+
     /// Waits until the application is told something, after a mark; a check.
     fn until(&self, mark: usize, must: &str, is_it: impl Fn(&Told) -> bool) -> Option<Told> {
-        let begin = self.timeline.clock().now();
+        let (begin, patience) = (self.timeline.clock().now(), self.patience());
         loop {
             self.hear();
             let found = self.log.borrow().iter().skip(mark).find(|told| is_it(told)).cloned();
-            let patient = self.timeline.clock().now() - begin < PATIENCE.as_micros() as u64;
+            let patient = self.timeline.clock().now() - begin < patience.as_micros() as u64;
             if found.is_some() || !patient {
                 self.check(found.is_some(), must);
                 return found;

@@ -11,7 +11,7 @@ use std::net::{Ipv4Addr, SocketAddr, SocketAddrV4, TcpStream, UdpSocket};
 use std::sync::atomic::{AtomicBool, Ordering};
 use std::sync::{Arc, Mutex, PoisonError};
 use std::thread::JoinHandle;
-use std::time::Duration;
+use std::time::{Duration, Instant};
 
 /// How long an answer may take.
 pub const PATIENCE: Duration = Duration::from_secs(3);
@@ -240,9 +240,9 @@ impl Hearer {
     }
 
     /// Waits for a frame with this data, among those heard after the first `after`.
-    pub fn hears(&self, after: usize, data: &[u8]) -> bool {
-        let clock = Clock::new();
-        while clock.now() < PATIENCE.as_micros() as u64 {
+    pub fn hears(&self, after: usize, data: &[u8], patience: Duration) -> bool {
+        let begin = Instant::now();
+        while begin.elapsed() < patience {
             let heard = self.heard();
             if heard.iter().skip(after).any(|h| h.frame.as_ref().is_some_and(|frame| frame.data == data)) {
                 return true;
