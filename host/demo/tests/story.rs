@@ -45,7 +45,7 @@ fn a_scanner_that_goes_on_is_noticed() {
 fn a_stranger_who_is_believed_is_noticed() {
     // from the scanner's own address the frame counts
     let plan = Plan { stranger: Ipv4Addr::LOCALHOST, ..Plan::default() };
-    noticed(plan.clone(), "the lane never heard of the stranger's word");
+    noticed(plan, "the lane never heard of the stranger's word");
 }
 
 #[test]

@@ -1,7 +1,7 @@
 //! The reference host: what a program has to do around the library so that a device answers on a network.
 //!
-//! Threads: one accepts TCP connections and one serves each of them ([`session`]), one answers browsers on UDP
-//! ([`browse`]), one takes I/O frames and one keeps the deadlines ([`traffic`]). All share one [`Adapter`] behind a lock;
+//! Threads: one accepts TCP connections and one serves each of them (`session.rs`), one answers browsers on UDP
+//! (`browse.rs`), one takes I/O frames and one keeps the deadlines (`traffic.rs`). All share one [`Adapter`] behind a lock;
 //! no call into it waits for anything, so the lock is held for microseconds.
 //!
 //! The rules that are easy to miss, and where they are kept:
@@ -11,7 +11,7 @@
 //!   was dropped is silent until it is read (`Inner::act`).
 //! - An owner's output loses run when its connection ends, and no `Output` event says so: on `Closed` and `TimedOut` the
 //!   host reads the output (`Inner::act`).
-//! - At exactly a timeout nothing expires yet: the host waits until one microsecond after the deadline (`traffic`).
+//! - At exactly a timeout nothing expires yet: the host waits until one microsecond after the deadline (`traffic.rs`).
 //! - An open can bring the next deadline forward: it wakes the thread that waits for it.
 //! - The T→O socket address item of a request goes to the library as it is, also as 0.0.0.0; the answer has one only if
 //!   it is multicast, and a joiner's is its stream's.

@@ -242,6 +242,11 @@ fn is_not_disturbed(stage: &Stage, talker: &Talker, id: u32) -> Result<(), Failu
     way.socket.send_to(&frame.bytes(), way.to)?;
     stage.notes.said.strange(way.from, &frame);
     stage.intervals(3);
+    let moved = stage.since(mark).iter().any(|told| matches!(told, Told::Lane { .. }));
+    if stage.check(!moved, "the lane is told nothing new by the stranger's frame") {
+        stage.say("lane", "is told nothing: the stranger's frame is of no connection");
+    }
+    stage.say("scanner", "sets word 0000002C");
     talker.set(with_header(stage.plan.runs, &0x2C_u32.to_le_bytes()));
     stage.until(mark, "the owner's next word still counts: 0000002C", |told| {
         matches!(told, Told::Lane { moves: true, word: 0x2C, .. })
