@@ -3,11 +3,14 @@ ghost use mathlib.Core.Path.{_≡_};
 ghost use Prim.Native.Nat.{_+_, _≤_, _<_, _%_, min};
 ghost use mathlib.Core.List.{[], _∷_};
 ghost use lib.ListN.{length};
-ghost use Rattle.cells.specs.Records.{putFields};
+ghost use Rattle.cells.specs.Records.{decFields, putFields};
+ghost use Rattle.cells.specs.Writes.{written};
 ghost use Rattle.cells.specs.Back.{all};
 ghost use Rattle.rules.specs.Upload.{checksum, clamped, nextTurn, turnOf, positionTests, lastOk};
 ghost use Rattle.uploads.specs.Steps.{advancedTo};
-ghost use Rattle.uploads.specs.Positions.{wPosition, toLast, decPosition, decUpload, lastNumber, anyLast, lastOffset, listPosition, heldIn, listUpload, plain, fits, okWith, uploadTested};
+ghost use Rattle.uploads.specs.Positions.{wPosition, toLast, decPosition, decUpload, lastNumber, anyLast, lastOffset, listPosition, heldIn, listUpload, plain, plainList, fits, okWith, uploadTested};
+ghost use Rattle.uploads.specs.Steps.{lengthReply};
+use cells::Written;
 use rules::objects::Last;
 use rules::objects::Position;
 use rules::objects::Turn;
@@ -262,4 +265,45 @@ pub fn upload_fits(up: Upload, limit: u8, given: bool, size: u16) -> bool
         Upload::NoUpload => true,
         Upload::Under(p) => position_fits(p, limit, given, size),
     }
+}
+
+fn bytes_plain(s: &[u8]) -> bool
+    requires { ⌜ 8 ≤ length (now s) ⌝ }
+    ensures { λ r. ⌜ r ≡ plainList (decFields wPosition (now (s .entry)) 0) ⌝ }
+{
+    let size = cells::u8_at(s, 0);
+    let next = cells::u8_at(s, 1);
+    let number = cells::u8_at(s, 2);
+    let any = cells::u8_at(s, 3);
+    let offset = cells::u16_at(s, 4);
+    let before = cells::u16_at(s, 6);
+    plain(size, next, number, any, offset, before)
+}
+
+// The position's own test: 8 bytes that are written one way, and an upload that fits this EDS and this limit.
+pub fn upload_tested(s: &[u8], limit: u8, given: bool, size: u16) -> bool
+    ensures { λ r. ⌜ r ≡ uploadTested limit given size (now (s .entry)) ⌝ }
+{
+    if s.len() != 8 {
+        return false;
+    }
+    if !bytes_plain(s) {
+        return false;
+    }
+    let up = upload_of(s);
+    upload_fits(up, limit, given, size)
+}
+
+// ---- the replies
+
+// The reply data of initiate: the length of the EDS in 4 bytes, and the size.
+pub fn initiate_reply(out: &mut [u8], len: u32, size: u8) -> Written
+    ensures { λ r. ⌜ (r, now (out .exit)) ≡ written (now (out .entry)) (lengthReply len size) ⌝ }
+{
+    if out.len() < 5 {
+        return Written::NoRoom;
+    }
+    cells::put_u32(out, 0, len);
+    cells::put_u8(out, 4, size);
+    Written::Bytes(5)
 }
