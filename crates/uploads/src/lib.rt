@@ -5,10 +5,9 @@ ghost use mathlib.Core.List.{[], _∷_};
 ghost use lib.ListN.{length};
 ghost use Rattle.cells.specs.Records.{decFields, putFields};
 ghost use Rattle.cells.specs.Writes.{written};
-ghost use Rattle.cells.specs.Back.{all};
-ghost use Rattle.rules.specs.Upload.{checksum, clamped, nextTurn, turnOf, positionTests, lastOk};
+ghost use Rattle.rules.specs.Upload.{checksum, clamped, nextTurn, turnOf, lastOk};
 ghost use Rattle.uploads.specs.Steps.{advancedTo};
-ghost use Rattle.uploads.specs.Positions.{wPosition, toLast, decPosition, decUpload, lastNumber, anyLast, lastOffset, listPosition, heldIn, listUpload, plain, plainList, fits, okWith, uploadTested};
+ghost use Rattle.uploads.specs.Positions.{wPosition, toLast, decPosition, decUpload, lastNumber, anyLast, lastOffset, heldIn, listUpload, plain, plainList, fits, okWith, uploadTested};
 ghost use Rattle.uploads.specs.Steps.{lengthReply};
 use cells::Written;
 use rules::objects::Last;
@@ -65,7 +64,10 @@ pub fn turn_of(p: Position, number: u8) -> Turn
     let last = p.last;
     match last {
         Last::NoLast => next_turn(p.next, number),
-        Last::Was { number: before, offset } => {
+        Last::Was {
+            number: before,
+            offset,
+        } => {
             if before == number {
                 return Turn::Repeat(offset);
             }
@@ -101,7 +103,10 @@ pub fn advanced(p: Position, len: u16) -> Position
         size: p.size,
         next: next_number(p.next),
         offset: next_offset(p.offset, p.size, len),
-        last: Last::Was { number: p.next, offset: p.offset },
+        last: Last::Was {
+            number: p.next,
+            offset: p.offset,
+        },
     }
 }
 
@@ -113,7 +118,10 @@ fn last_of(number: u8, any: u8, offset: u16) -> Last
     if any == 0 {
         return Last::NoLast;
     }
-    Last::Was { number: number, offset: offset }
+    Last::Was {
+        number: number,
+        offset: offset,
+    }
 }
 
 fn position_of(s: &[u8]) -> Position
@@ -124,7 +132,12 @@ fn position_of(s: &[u8]) -> Position
     let next = cells::u8_at(s, 1);
     let offset = cells::u16_at(s, 4);
     let last = last_of(cells::u8_at(s, 2), cells::u8_at(s, 3), cells::u16_at(s, 6));
-    Position { size: size, next: next, offset: offset, last: last }
+    Position {
+        size: size,
+        next: next,
+        offset: offset,
+        last: last,
+    }
 }
 
 pub fn upload_of(s: &[u8]) -> Upload
@@ -182,7 +195,12 @@ fn held_in(up: Upload) -> Position
     ensures { λ r. ⌜ r ≡ heldIn up ⌝ }
 {
     match up {
-        Upload::NoUpload => Position { size: 0, next: 0, offset: 0, last: Last::NoLast },
+        Upload::NoUpload => Position {
+            size: 0,
+            next: 0,
+            offset: 0,
+            last: Last::NoLast,
+        },
         Upload::Under(p) => p,
     }
 }

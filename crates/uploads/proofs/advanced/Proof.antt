@@ -1,5 +1,4 @@
 use Rattle.uploads.specs.Steps.{advancedTo}
-
 use borrow.Author.Needs.{needs}
 use Rattle.uploads.proofs.advanced.Statement.{statement}
 use Rattle.uploads.proofs.advanced.Tie as tie

@@ -1,4 +1,3 @@
-
 use borrow.Author.Needs.{needs}
 use Rattle.uploads.proofs.put_fields.Statement.{statement}
 use Rattle.uploads.proofs.put_fields.Tie as tie
