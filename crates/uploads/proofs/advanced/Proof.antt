@@ -1,0 +1,17 @@
+use Rattle.uploads.specs.Steps.{advancedTo}
+use borrow.Author.Needs.{needs}
+use Rattle.uploads.proofs.advanced.Statement.{statement}
+use Rattle.uploads.proofs.advanced.Tie as tie
+
+next-number-requires : tie.Need-next-number-requires
+next-number-requires c κs = search needs
+
+next-offset-requires : tie.Need-next-offset-requires
+next-offset-requires c κs = search needs
+
+returns : tie.Need-returns
+unfolding advancedTo
+returns c = cc
+
+pub advanced-spec : {M : Type 1} → statement M
+advanced-spec = tie.close (tie.spec next-number-requires next-offset-requires returns)

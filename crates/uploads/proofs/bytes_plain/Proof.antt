@@ -1,0 +1,40 @@
+use borrow.Author.Needs.{needs}
+use Rattle.uploads.proofs.bytes_plain.Statement.{statement}
+use Rattle.uploads.proofs.bytes_plain.Tie as tie
+
+u8-at-requires : tie.Need-u8-at-requires
+u8-at-requires c κs = search needs
+
+u8-at-requires-2 : tie.Need-u8-at-requires-2
+u8-at-requires-2 c κs = search needs
+
+u8-at-requires-3 : tie.Need-u8-at-requires-3
+u8-at-requires-3 c κs = search needs
+
+u8-at-requires-4 : tie.Need-u8-at-requires-4
+u8-at-requires-4 c κs = search needs
+
+u16-at-requires : tie.Need-u16-at-requires
+u16-at-requires c κs = search needs
+
+u16-at-requires-2 : tie.Need-u16-at-requires-2
+u16-at-requires-2 c κs = search needs
+
+plain-requires : tie.Need-plain-requires
+plain-requires c κs = search needs
+
+returns : tie.Need-returns
+returns c = cc
+
+pub bytes-plain-spec : {M : Type 1} → statement M
+bytes-plain-spec =
+    tie.close
+    (tie.spec
+    u8-at-requires
+    u8-at-requires-2
+    u8-at-requires-3
+    u8-at-requires-4
+    u16-at-requires
+    u16-at-requires-2
+    plain-requires
+    returns)

@@ -1,0 +1,327 @@
+// The EDS upload: the checksum, the size that is agreed, what a transfer's number asks for, and the position as lent bytes.
+ghost use mathlib.Core.Path.{_≡_};
+ghost use Prim.Native.Nat.{_+_, _≤_, _<_, _%_, min};
+ghost use mathlib.Core.List.{[], _∷_};
+ghost use lib.ListN.{length};
+ghost use Rattle.cells.specs.Records.{decFields, putFields};
+ghost use Rattle.cells.specs.Writes.{written};
+ghost use Rattle.rules.specs.Upload.{checksum, clamped, nextTurn, turnOf, lastOk};
+ghost use Rattle.uploads.specs.Steps.{advancedTo};
+ghost use Rattle.uploads.specs.Positions.{wPosition, toLast, decPosition, decUpload, lastNumber, anyLast, lastOffset, heldIn, listUpload, plain, plainList, fits, okWith, uploadTested};
+ghost use Rattle.uploads.specs.Steps.{lengthReply};
+use cells::Written;
+use rules::objects::Last;
+use rules::objects::Position;
+use rules::objects::Turn;
+use rules::objects::Upload;
+
+fn wide(b: u8) -> u32
+    ensures { λ r. ⌜ (r ≡ b) × (r < 256) ⌝ }
+{
+    b as u32
+}
+
+// The negated 16-bit sum of bytes.
+pub fn checksum(bytes: &[u8]) -> u16
+    ensures { λ r. ⌜ r ≡ checksum (now (bytes .entry)) ⌝ }
+{
+    let mut sum: u32 = 0;
+    let mut i = 0;
+    while i < bytes.len() {
+        sum = (sum + wide(bytes[i])) % 65536;
+        i += 1;
+    }
+    ((65536 - sum) % 65536) as u16
+}
+
+fn lesser(a: u8, b: u8) -> u8
+    ensures { λ r. ⌜ r ≡ min a b ⌝ }
+{
+    if a < b { a } else { b }
+}
+
+// The wanted size, clamped to 1 up to the transfer limit.
+pub fn clamped(limit: u8, wanted: u8) -> u8
+    ensures { λ r. ⌜ r ≡ clamped limit wanted ⌝ }
+{
+    let n = lesser(wanted, limit);
+    if n < 1 { 1 } else { n }
+}
+
+fn next_turn(next: u8, number: u8) -> Turn
+    ensures { λ r. ⌜ r ≡ nextTurn next number ⌝ }
+{
+    if number == next {
+        return Turn::InTurn;
+    }
+    Turn::OutOfTurn
+}
+
+// What a transfer's number asks for; a repeat is looked for first.
+pub fn turn_of(p: Position, number: u8) -> Turn
+    ensures { λ r. ⌜ r ≡ turnOf p number ⌝ }
+{
+    let last = p.last;
+    match last {
+        Last::NoLast => next_turn(p.next, number),
+        Last::Was {
+            number: before,
+            offset,
+        } => {
+            if before == number {
+                return Turn::Repeat(offset);
+            }
+            next_turn(p.next, number)
+        }
+    }
+}
+
+fn next_number(n: u8) -> u8
+    ensures { λ r. ⌜ r ≡ (n + 1) % 256 ⌝ }
+{
+    if n == 255 {
+        return 0;
+    }
+    n + 1
+}
+
+fn next_offset(offset: u16, size: u8, len: u16) -> u16
+    ensures { λ r. ⌜ r ≡ min (offset + size) len ⌝ }
+{
+    let end = (offset as u32) + wide(size);
+    if end < (len as u32) {
+        return end as u16;
+    }
+    len
+}
+
+// The position after a transfer in turn, in an EDS of that length.
+pub fn advanced(p: Position, len: u16) -> Position
+    ensures { λ r. ⌜ r ≡ advancedTo len p ⌝ }
+{
+    Position {
+        size: p.size,
+        next: next_number(p.next),
+        offset: next_offset(p.offset, p.size, len),
+        last: Last::Was {
+            number: p.next,
+            offset: p.offset,
+        },
+    }
+}
+
+// ---- the position as lent bytes
+
+fn last_of(number: u8, any: u8, offset: u16) -> Last
+    ensures { λ r. ⌜ r ≡ toLast number any offset ⌝ }
+{
+    if any == 0 {
+        return Last::NoLast;
+    }
+    Last::Was {
+        number: number,
+        offset: offset,
+    }
+}
+
+fn position_of(s: &[u8]) -> Position
+    requires { ⌜ 8 ≤ length (now s) ⌝ }
+    ensures { λ r. ⌜ r ≡ decPosition (now (s .entry)) ⌝ }
+{
+    let size = cells::u8_at(s, 0);
+    let next = cells::u8_at(s, 1);
+    let offset = cells::u16_at(s, 4);
+    let last = last_of(cells::u8_at(s, 2), cells::u8_at(s, 3), cells::u16_at(s, 6));
+    Position {
+        size: size,
+        next: next,
+        offset: offset,
+        last: last,
+    }
+}
+
+pub fn upload_of(s: &[u8]) -> Upload
+    requires { ⌜ 8 ≤ length (now s) ⌝ }
+    ensures { λ r. ⌜ r ≡ decUpload (now (s .entry)) ⌝ }
+{
+    let size = cells::u8_at(s, 0);
+    if size == 0 {
+        return Upload::NoUpload;
+    }
+    let p = position_of(s);
+    Upload::Under(p)
+}
+
+fn last_number(last: Last) -> u8
+    ensures { λ r. ⌜ r ≡ lastNumber last ⌝ }
+{
+    match last {
+        Last::NoLast => 0,
+        Last::Was { number, offset } => number,
+    }
+}
+
+fn any_last(last: Last) -> u8
+    ensures { λ r. ⌜ r ≡ anyLast last ⌝ }
+{
+    match last {
+        Last::NoLast => 0,
+        Last::Was { number, offset } => 1,
+    }
+}
+
+fn last_offset(last: Last) -> u16
+    ensures { λ r. ⌜ r ≡ lastOffset last ⌝ }
+{
+    match last {
+        Last::NoLast => 0,
+        Last::Was { number, offset } => offset,
+    }
+}
+
+fn put_fields(s: &mut [u8], size: u8, next: u8, number: u8, any: u8, offset: u16, before: u16)
+    requires { ⌜ 8 ≤ length (now s) ⌝ }
+    ensures { λ _. ⌜ now (s .exit) ≡ putFields wPosition (now (s .entry)) 0 (size ∷ next ∷ number ∷ any ∷ offset ∷ before ∷ []) ⌝ }
+{
+    cells::put_u8(s, 0, size);
+    cells::put_u8(s, 1, next);
+    cells::put_u8(s, 2, number);
+    cells::put_u8(s, 3, any);
+    cells::put_u16(s, 4, offset);
+    cells::put_u16(s, 6, before);
+}
+
+fn held_in(up: Upload) -> Position
+    ensures { λ r. ⌜ r ≡ heldIn up ⌝ }
+{
+    match up {
+        Upload::NoUpload => Position {
+            size: 0,
+            next: 0,
+            offset: 0,
+            last: Last::NoLast,
+        },
+        Upload::Under(p) => p,
+    }
+}
+
+pub fn put_upload(s: &mut [u8], up: Upload)
+    requires { ⌜ 8 ≤ length (now s) ⌝ }
+    ensures { λ _. ⌜ now (s .exit) ≡ putFields wPosition (now (s .entry)) 0 (listUpload up) ⌝ }
+{
+    let p = held_in(up);
+    let last = p.last;
+    let number = last_number(last);
+    let any = any_last(last);
+    let before = last_offset(last);
+    put_fields(s, p.size, p.next, number, any, p.offset, before);
+}
+
+fn plain(size: u8, next: u8, number: u8, any: u8, offset: u16, before: u16) -> bool
+    ensures { λ r. ⌜ r ≡ plain size next number any offset before ⌝ }
+{
+    if any > 1 {
+        return false;
+    }
+    if any > size {
+        return false;
+    }
+    if wide(number) > 255 * wide(any) {
+        return false;
+    }
+    if wide16(before) > 65535 * wide(any) {
+        return false;
+    }
+    if wide(next) > 255 * wide(size) {
+        return false;
+    }
+    if wide16(offset) > 65535 * wide(size) {
+        return false;
+    }
+    true
+}
+
+fn wide16(n: u16) -> u32
+    ensures { λ r. ⌜ r ≡ n ⌝ }
+{
+    n as u32
+}
+
+fn last_fits(last: Last, size: u16) -> bool
+    ensures { λ r. ⌜ r ≡ lastOk size last ⌝ }
+{
+    match last {
+        Last::NoLast => true,
+        Last::Was { number, offset } => offset <= size,
+    }
+}
+
+fn position_fits(p: Position, limit: u8, given: bool, size: u16) -> bool
+    ensures { λ r. ⌜ r ≡ fits limit given size p ⌝ }
+{
+    if !given {
+        return false;
+    }
+    if p.size < 1 {
+        return false;
+    }
+    if p.size > limit {
+        return false;
+    }
+    if p.offset > size {
+        return false;
+    }
+    let last = p.last;
+    last_fits(last, size)
+}
+
+// The rule's test of an upload, by the transfer limit, whether there is an EDS, and its length.
+pub fn upload_fits(up: Upload, limit: u8, given: bool, size: u16) -> bool
+    ensures { λ r. ⌜ r ≡ okWith limit given size up ⌝ }
+{
+    match up {
+        Upload::NoUpload => true,
+        Upload::Under(p) => position_fits(p, limit, given, size),
+    }
+}
+
+fn bytes_plain(s: &[u8]) -> bool
+    requires { ⌜ 8 ≤ length (now s) ⌝ }
+    ensures { λ r. ⌜ r ≡ plainList (decFields wPosition (now (s .entry)) 0) ⌝ }
+{
+    let size = cells::u8_at(s, 0);
+    let next = cells::u8_at(s, 1);
+    let number = cells::u8_at(s, 2);
+    let any = cells::u8_at(s, 3);
+    let offset = cells::u16_at(s, 4);
+    let before = cells::u16_at(s, 6);
+    plain(size, next, number, any, offset, before)
+}
+
+// The position's own test: 8 bytes that are written one way, and an upload that fits this EDS and this limit.
+pub fn upload_tested(s: &[u8], limit: u8, given: bool, size: u16) -> bool
+    ensures { λ r. ⌜ r ≡ uploadTested limit given size (now (s .entry)) ⌝ }
+{
+    if s.len() != 8 {
+        return false;
+    }
+    if !bytes_plain(s) {
+        return false;
+    }
+    let up = upload_of(s);
+    upload_fits(up, limit, given, size)
+}
+
+// ---- the replies
+
+// The reply data of initiate: the length of the EDS in 4 bytes, and the size.
+pub fn initiate_reply(out: &mut [u8], len: u32, size: u8) -> Written
+    ensures { λ r. ⌜ (r, now (out .exit)) ≡ written (now (out .entry)) (lengthReply len size) ⌝ }
+{
+    if out.len() < 5 {
+        return Written::NoRoom;
+    }
+    cells::put_u32(out, 0, len);
+    cells::put_u8(out, 4, size);
+    Written::Bytes(5)
+}
