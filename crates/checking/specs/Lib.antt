@@ -1,0 +1,4 @@
+pub mod Says
+pub mod SaysLaws
+pub mod RequestLaws
+pub mod KeyLaws
