@@ -3,6 +3,7 @@
 pub mod key;
 pub mod places;
 pub mod request;
+pub mod table;
 
 use rules::Stop;
 
