@@ -1,0 +1,7 @@
+pub mod Says
+pub mod SaysLaws
+pub mod RequestLaws
+pub mod KeyLaws
+pub mod Places
+pub mod PlaceLaws
+pub mod TableLaws

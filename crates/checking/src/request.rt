@@ -1,0 +1,117 @@
+// The checks that read the request and no more than the setup's numbers: 1, 2, 6 and 7.
+use crate::Check;
+use rules::Stop;
+use wire_opens::ForwardOpen;
+use wire_opens::NetType;
+use wire_paths::ConnectionPath;
+use wire_paths::PathAnswer;
+ghost use mathlib.Core.Path.{_≡_};
+ghost use mathlib.Core.List.{[]};
+ghost use mathlib.Core.Bool.{_&&_, not};
+ghost use Prim.Native.Nat.{_≤_};
+ghost use lib.Dec.{leb};
+ghost use lib.ListN.{length};
+ghost use Rattle.rules.specs.declared.Stop.the-variants.{PathBarred};
+ghost use Rattle.rules.specs.Checks.{must, transportCheck, pathCheck, pathIn, rpiCheck, isPoint, isMulticast, typeCheck};
+ghost use Rattle.layout.specs.Setups.{setupFrom};
+ghost use Rattle.checking.specs.Says.{stopIn};
+
+// Check 1.
+pub fn transport(o: ForwardOpen) -> Check
+    ensures { λ x. ⌜ stopIn x ≡ transportCheck o ⌝ }
+{
+    if wire_opens::transport_ok(o.transport) {
+        return Check::Holds;
+    }
+    Check::Stops(Stop::Transport(o.transport))
+}
+
+fn unbarred(p: ConnectionPath) -> Check
+    ensures { λ x. ⌜ stopIn x ≡ must (not (p .barred)) PathBarred ⌝ }
+{
+    if p.barred {
+        return Check::Stops(Stop::PathBarred);
+    }
+    Check::Holds
+}
+
+// Check 2.
+pub fn path(answer: PathAnswer) -> Check
+    ensures { λ x. ⌜ stopIn x ≡ pathCheck answer ⌝ }
+{
+    match answer {
+        PathAnswer::Unparsed(offset) => Check::Stops(Stop::PathBroken(offset)),
+        PathAnswer::Parsed(p) => unbarred(p),
+    }
+}
+
+fn within(min: u32, max: u32, us: u32) -> bool
+    ensures { λ x. ⌜ x ≡ (leb min us && leb us max) ⌝ }
+{
+    if us < min {
+        return false;
+    }
+    us <= max
+}
+
+// Check 6.
+pub fn rpi(r: &[u8], o: ForwardOpen) -> Check
+    requires { ⌜ 192 ≤ length (now r) ⌝ }
+    ensures { λ x. ⌜ stopIn x ≡ rpiCheck (setupFrom (now (r .entry)) []) o ⌝ }
+{
+    let min = cells::u32_at(r, 28);
+    let max = cells::u32_at(r, 32);
+    let ot = o.ot.rpi;
+    if !within(min, max, ot) {
+        return Check::Stops(Stop::OtRpi { found: ot, min: min, max: max });
+    }
+    let to = o.to.rpi;
+    if !within(min, max, to) {
+        return Check::Stops(Stop::ToRpi { found: to, min: min, max: max });
+    }
+    Check::Holds
+}
+
+fn is_point(n: NetType) -> bool
+    ensures { λ x. ⌜ x ≡ isPoint n ⌝ }
+{
+    match n {
+        NetType::Null => false,
+        NetType::Multicast => false,
+        NetType::PointToPoint => true,
+        NetType::Reserved => false,
+    }
+}
+
+pub fn is_multicast(n: NetType) -> bool
+    ensures { λ x. ⌜ x ≡ isMulticast n ⌝ }
+{
+    match n {
+        NetType::Null => false,
+        NetType::Multicast => true,
+        NetType::PointToPoint => false,
+        NetType::Reserved => false,
+    }
+}
+
+// Check 7.
+pub fn types(o: ForwardOpen) -> Check
+    ensures { λ x. ⌜ stopIn x ≡ typeCheck o ⌝ }
+{
+    let otway = o.ot;
+    let otparams = otway.params;
+    let ot = otparams.net;
+    if !is_point(ot) {
+        return Check::Stops(Stop::OtType(ot));
+    }
+    let toway = o.to;
+    let toparams = toway.params;
+    let to = toparams.net;
+    if is_point(to) {
+        return Check::Holds;
+    }
+    if is_multicast(to) {
+        return Check::Holds;
+    }
+    Check::Stops(Stop::ToType(to))
+}
