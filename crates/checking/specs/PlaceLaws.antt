@@ -109,4 +109,3 @@ place-in p (x ∷ xs) i e =
     (λ q. let z : 0 ≡ i = some-is 0 i (ap (λ (b : Bool). cond b (some 0) (maybe none (λ k. some (suc k)) (place p xs))) (sym q) ∙ e) in omega arith)
     (λ q. place-behind p xs (place p xs) i refl (λ j h. place-in p xs j h)
     (ap (λ (b : Bool). cond b (some 0) (maybe none (λ k. some (suc k)) (place p xs))) (sym q) ∙ e))
-

@@ -59,22 +59,36 @@ fn stop_of(r: &[u8], k: Key) -> Check
 {
     let vendor = cells::u16_at(r, 8);
     if !any_or(vendor, k.vendor) {
-        return Check::Stops(Stop::KeyVendor { found: k.vendor, ours: vendor });
+        return Check::Stops(Stop::KeyVendor {
+            found: k.vendor,
+            ours: vendor,
+        });
     }
     let product = cells::u16_at(r, 12);
     if !any_or(product, k.product) {
-        return Check::Stops(Stop::KeyProduct { found: k.product, ours: product });
+        return Check::Stops(Stop::KeyProduct {
+            found: k.product,
+            ours: product,
+        });
     }
     let device = cells::u16_at(r, 10);
     if !any_or(device, k.device) {
-        return Check::Stops(Stop::KeyDevice { found: k.device, ours: device });
+        return Check::Stops(Stop::KeyDevice {
+            found: k.device,
+            ours: device,
+        });
     }
     if revision_ok(r, k) {
         return Check::Holds;
     }
     let major = cells::u8_at(r, 14);
     let minor = cells::u8_at(r, 15);
-    Check::Stops(Stop::KeyRevision { major: k.major, minor: k.minor, ourmajor: major, ourminor: minor })
+    Check::Stops(Stop::KeyRevision {
+        major: k.major,
+        minor: k.minor,
+        ourmajor: major,
+        ourminor: minor,
+    })
 }
 
 // A path without a key asks for nothing.

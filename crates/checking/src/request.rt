@@ -63,11 +63,19 @@ pub fn rpi(r: &[u8], o: ForwardOpen) -> Check
     let max = cells::u32_at(r, 32);
     let ot = o.ot.rpi;
     if !within(min, max, ot) {
-        return Check::Stops(Stop::OtRpi { found: ot, min: min, max: max });
+        return Check::Stops(Stop::OtRpi {
+            found: ot,
+            min: min,
+            max: max,
+        });
     }
     let to = o.to.rpi;
     if !within(min, max, to) {
-        return Check::Stops(Stop::ToRpi { found: to, min: min, max: max });
+        return Check::Stops(Stop::ToRpi {
+            found: to,
+            min: min,
+            max: max,
+        });
     }
     Check::Holds
 }
