@@ -1,5 +1,5 @@
 -- The block's tests as code makes them: an accepted block passes each, and a block that passes all is accepted.
-use Prim.Native.Nat.{ℕ, zero, suc, _+_, _-_, _≤_, _<_}
+use Prim.Native.Nat.{ℕ, zero, suc, _+_, _≤_, _<_}
 use mathlib.Core.Bool.{Bool, true, false, cond, not, _&&_, _||_}
 use mathlib.Core.List.{List, [], _∷_, map}
 use mathlib.Core.Path.{_≡_, refl, ap, ap₂, sym, _∙_}
@@ -7,7 +7,7 @@ use native.Mathlib.Omega.{arith}
 use lib.Dec.{eqb, leb}
 use lib.ListN.{length, getD, take, drop, length-drop}
 use lib.Seq.{length-take-le}
-use borrow.Author.Tests.{eqb-true, leb-true, ltb-true, le-leb, lt-leb, eq-eqb, ne-eqb}
+use borrow.Author.Tests.{leb-true, ltb-true, le-leb, lt-leb, eq-eqb, ne-eqb}
 use Rattle.cells.specs.Numbers.{le, le-1, drop-put, le-put-before}
 use Rattle.cells.specs.Back.{all, all-at, all-fails, all-cons, all-nil}
 use Rattle.tables.specs.Tables.{rows, length-rows}
@@ -18,7 +18,7 @@ use Rattle.rules.specs.State.{Shape}
 use Rattle.rules.specs.Setup.{shapeOk, distinct, assembliesOk, nameOk, edsOk, transferOk, setupOk}
 use Rattle.layout.specs.Setups.{decShape, testsSetup, goodSetup}
 use Rattle.starting.specs.Block.{kindGiven, regionOf, edsMark, setupGiven, testsBlock, accepted}
-use Rattle.starting.specs.Given.{long-block, flag-bit, absent, short-eds, few, short-name, short-eds-name, some-transfer, kinds-ok, shapes-ok, no-eds, some-eds}
+use Rattle.starting.specs.Given.{flag-bit, absent, short-eds, few, short-name, short-eds-name, some-transfer, kinds-ok, shapes-ok, no-eds, some-eds}
 use Rattle.starting.specs.Shapes.{shapeGiven, instancesIn}
 
 -- the EDS's bytes: none where there is no EDS, else at most 65,535

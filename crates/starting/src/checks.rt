@@ -2,7 +2,7 @@
 use crate::shapes::once_each;
 use crate::shapes::shapes_given;
 ghost use mathlib.Core.Path.{_≡_};
-ghost use Prim.Native.Nat.{ℕ, _≤_};
+ghost use Prim.Native.Nat.{_≤_};
 ghost use lib.ListN.{length};
 ghost use Rattle.cells.specs.Numbers.{le};
 ghost use Rattle.layout.specs.Setups.{goodSetup};
