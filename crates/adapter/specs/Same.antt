@@ -3,7 +3,11 @@ use Prim.Native.Nat.{ℕ}
 use mathlib.Core.List.{List}
 use mathlib.Core.Path.{_≡_}
 use Rattle.rules.specs.Host.{setInputCall, outputCall, assemblyAnswer, nextEventCall, connectionsAnswer, statsAnswer}
+use Rattle.starting.specs.Block.{setupCall}
 use Rattle.image.specs.Lift.{lifted, liftedOut, liftedRead, two-outcomes}
+
+pub setup-once : (s block eds : List ℕ) (seed : ℕ) (x y : ℕ × List ℕ) → x ≡ setupCall s block eds seed → y ≡ setupCall s block eds seed → x ≡ y
+setup-once s block eds seed x y = two-outcomes x y
 
 pub set-input-once : (s bytes : List ℕ) (n : ℕ) (x y : ℕ × List ℕ) → x ≡ lifted (setInputCall n bytes) s → y ≡ lifted (setInputCall n bytes) s → x ≡ y
 set-input-once s bytes n x y = two-outcomes x y
