@@ -2,4 +2,5 @@
 mod ends;
 mod host;
 mod start;
+mod routes;
 mod traffic;
