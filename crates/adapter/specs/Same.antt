@@ -3,6 +3,8 @@ use Prim.Native.Nat.{ℕ}
 use mathlib.Core.List.{List}
 use mathlib.Core.Path.{_≡_}
 use Rattle.rules.specs.Host.{setInputCall, outputCall, assemblyAnswer, nextEventCall, connectionsAnswer, statsAnswer}
+use Rattle.rules.specs.Opening.{refusalAnswer}
+use Rattle.refusing.specs.Refusals.{answered}
 use Rattle.image.specs.Lift.{lifted, liftedOut, liftedRead, two-outcomes}
 
 pub set-input-once : (s bytes : List ℕ) (n : ℕ) (x y : ℕ × List ℕ) → x ≡ lifted (setInputCall n bytes) s → y ≡ lifted (setInputCall n bytes) s → x ≡ y
@@ -22,3 +24,6 @@ connections-once s out x y = two-outcomes x y
 
 pub stats-once : (s out : List ℕ) (x y : ℕ × List ℕ) → x ≡ liftedRead statsAnswer s out → y ≡ liftedRead statsAnswer s out → x ≡ y
 stats-once s out x y = two-outcomes x y
+
+pub open-refusal-once : (request out : List ℕ) (service : ℕ) (x y : ℕ × List ℕ) → x ≡ answered (refusalAnswer service request) out → y ≡ answered (refusalAnswer service request) out → x ≡ y
+open-refusal-once request out service x y = two-outcomes x y
