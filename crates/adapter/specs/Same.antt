@@ -6,6 +6,8 @@ use Rattle.rules.specs.Host.{setInputCall, outputCall, assemblyAnswer, nextEven
 use Rattle.starting.specs.Block.{setupCall}
 use Rattle.rules.specs.Routing.{pathAnswer, requestAnswer}
 use Rattle.routing.specs.Answered.{answered}
+use Rattle.rules.specs.Opening.{refusalAnswer}
+use Rattle.refusing.specs.Refusals.{answered}
 use Rattle.image.specs.Lift.{lifted, liftedOut, liftedRead, two-outcomes}
 
 pub setup-once : (s block eds : List ℕ) (seed : ℕ) (x y : ℕ × List ℕ) → x ≡ setupCall s block eds seed → y ≡ setupCall s block eds seed → x ≡ y
@@ -34,3 +36,5 @@ path-once path out x y = two-outcomes x y
 
 pub request-once : (message out : List ℕ) (x y : ℕ × List ℕ) → x ≡ answered (requestAnswer message) out → y ≡ answered (requestAnswer message) out → x ≡ y
 request-once message out x y = two-outcomes x y
+pub open-refusal-once : (request out : List ℕ) (service : ℕ) (x y : ℕ × List ℕ) → x ≡ answered (refusalAnswer service request) out → y ≡ answered (refusalAnswer service request) out → x ≡ y
+open-refusal-once request out service x y = two-outcomes x y

@@ -3,4 +3,5 @@ mod ends;
 mod host;
 mod start;
 mod routes;
+mod opens;
 mod traffic;
