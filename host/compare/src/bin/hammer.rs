@@ -118,7 +118,9 @@ fn run(n: &mut Numbers, number: u64, calls: u64, tally: &mut Tally) -> Result<u6
         let no = answer & 0xFF;
         *tally.0.entry((made, call.name(), no)).or_default() += 1;
         if no > 9 {
-            return Err(format!("{call:?} on a state made {made:?} was answered {answer:#x}, a number for no that is not there"));
+            return Err(format!(
+                "{call:?} on a state made {made:?} was answered {answer:#x}, a number for no that is not there"
+            ));
         }
         if before && !passes(&mut library) {
             return Err(format!("{call:?} on a state made {made:?} left one that fails its test"));
