@@ -36,5 +36,6 @@ path-once path out x y = two-outcomes x y
 
 pub request-once : (message out : List ℕ) (x y : ℕ × List ℕ) → x ≡ answered (requestAnswer message) out → y ≡ answered (requestAnswer message) out → x ≡ y
 request-once message out x y = two-outcomes x y
+
 pub open-refusal-once : (request out : List ℕ) (service : ℕ) (x y : ℕ × List ℕ) → x ≡ answered (refusalAnswer service request) out → y ≡ answered (refusalAnswer service request) out → x ≡ y
 open-refusal-once request out service x y = two-outcomes x y
