@@ -3,6 +3,7 @@ use Prim.Native.Nat.{ℕ}
 use mathlib.Core.List.{List}
 use mathlib.Core.Path.{_≡_}
 use Rattle.rules.specs.Host.{setInputCall, outputCall, assemblyAnswer, nextEventCall, connectionsAnswer, statsAnswer}
+use Rattle.rules.specs.Producing.{produceCall}
 use Rattle.image.specs.Lift.{lifted, liftedOut, liftedRead, two-outcomes}
 
 pub set-input-once : (s bytes : List ℕ) (n : ℕ) (x y : ℕ × List ℕ) → x ≡ lifted (setInputCall n bytes) s → y ≡ lifted (setInputCall n bytes) s → x ≡ y
@@ -22,3 +23,6 @@ connections-once s out x y = two-outcomes x y
 
 pub stats-once : (s out : List ℕ) (x y : ℕ × List ℕ) → x ≡ liftedRead statsAnswer s out → y ≡ liftedRead statsAnswer s out → x ≡ y
 stats-once s out x y = two-outcomes x y
+
+pub produce-once : (s out : List ℕ) (t : ℕ) (x y : ℕ × (List ℕ × List ℕ)) → x ≡ liftedOut (produceCall t) s out → y ≡ liftedOut (produceCall t) s out → x ≡ y
+produce-once s out t x y = two-outcomes x y
