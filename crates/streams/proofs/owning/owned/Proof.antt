@@ -4,33 +4,33 @@ use native.Mathlib.Omega.{arith}
 use lib.ListN.{drop}
 use Rattle.tables.specs.Tables.{rows}
 use Rattle.rules.specs.Lists.{any}
-use Rattle.rules.specs.Checks.{hasTriad}
+use Rattle.rules.specs.Checks.{owns}
 use Rattle.layout.specs.Rows.{decFixed}
-use Rattle.checking.specs.TableLaws.{any-hit, any-miss, any-ends}
+use Rattle.streams.specs.TableLaws.{any-hit, any-miss, any-ends}
 use borrow.Author.Needs.{needs}
-use Rattle.checking.proofs.table.triad_used.Statement.{statement}
-use Rattle.checking.proofs.table.triad_used.Tie as tie
+use Rattle.streams.proofs.owning.owned.Statement.{statement}
+use Rattle.streams.proofs.owning.owned.Tie as tie
 
 abbrev Inv-loop : tie.InvT-loop
-Inv-loop r n t i₀ i =
-    (i ≤ n) × (any (hasTriad t) (rows 70 decFixed n r) ≡ any (hasTriad t) (drop i (rows 70 decFixed n r)))
+Inv-loop t n output i₀ i =
+    (i ≤ n) × (any (owns output) (rows 70 decFixed n t) ≡ any (owns output) (drop i (rows 70 decFixed n t)))
 
 abbrev μ-loop : tie.MeasureT-loop
-μ-loop r n t i₀ i =
+μ-loop t n output i₀ i =
     n - i
 
 loop-holds : tie.Need-loop-holds Inv-loop μ-loop
 loop-holds c =
     (omega arith, refl)
 
-has-triad-at-requires : tie.Need-has-triad-at-requires Inv-loop μ-loop
-has-triad-at-requires c κs = search needs
+owns-at-requires : tie.Need-owns-at-requires Inv-loop μ-loop
+owns-at-requires c κs = search needs
 
 returns : tie.Need-returns Inv-loop μ-loop
 returns c =
     let a = c .before .before .before .before .before .args in
     let w = c .before .before .before .loop in
-    sym (w .inv .1 ∙ any-hit 70 decFixed (hasTriad (a .t)) (a .n) (a .r .now) (w .i) (omega arith) (sym (c .before .has-triad-at .ensures) ∙ c .if1 .taken))
+    sym (w .inv .1 ∙ any-hit 70 decFixed (owns (a .output)) (a .n) (a .t .now) (w .i) (omega arith) (sym (c .before .owns-at .ensures) ∙ c .if1 .taken))
 
 add-i : tie.Need-add-i Inv-loop μ-loop
 add-i c =
@@ -44,22 +44,22 @@ loop-again : tie.Need-loop-again Inv-loop μ-loop
 loop-again c =
     let a = c .before .before .before .before .before .args in
     let w = c .before .before .before .loop in
-    (omega arith, w .inv .1 ∙ any-miss 70 decFixed (hasTriad (a .t)) (a .n) (a .r .now) (w .i) (omega arith) (sym (c .before .has-triad-at .ensures) ∙ c .if1 .left))
+    (omega arith, w .inv .1 ∙ any-miss 70 decFixed (owns (a .output)) (a .n) (a .t .now) (w .i) (omega arith) (sym (c .before .owns-at .ensures) ∙ c .if1 .left))
 
 returns-2 : tie.Need-returns-2 Inv-loop μ-loop
 returns-2 c =
     let a = c .before .before .before .args in
     let w = c .before .loop in
-    sym (w .inv .1 ∙ any-ends 70 decFixed (hasTriad (a .t)) (a .n) (a .r .now) (w .i) (omega arith))
+    sym (w .inv .1 ∙ any-ends 70 decFixed (owns (a .output)) (a .n) (a .t .now) (w .i) (omega arith))
 
-pub triad-used-spec : {M : Type 1} → statement M
-triad-used-spec =
+pub owned-spec : {M : Type 1} → statement M
+owned-spec =
     tie.close
     (tie.spec
     Inv-loop
     μ-loop
     loop-holds
-    has-triad-at-requires
+    owns-at-requires
     returns
     add-i
     loop-less

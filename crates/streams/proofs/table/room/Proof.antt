@@ -2,9 +2,9 @@ use lib.Dec.{ltb}
 use borrow.Author.Tests.{lt-ltb, le-ltb}
 use Rattle.rules.specs.declared.Stop.the-variants.{Full}
 use Rattle.rules.specs.Checks.{maxConnections}
 use Rattle.checking.specs.SaysLaws.{must-yes, must-no}
-use Rattle.checking.proofs.table.room.Statement.{statement}
-use Rattle.checking.proofs.table.room.Tie as tie
+use Rattle.streams.proofs.table.room.Statement.{statement}
+use Rattle.streams.proofs.table.room.Tie as tie
 
 returns : tie.Need-returns
 returns c = must-yes (ltb (c .before .args .n) maxConnections) Full (lt-ltb (c .before .args .n) maxConnections (c .if1 .taken))

@@ -1,13 +1,13 @@
--- The rows of the table against a test: one row's numbers, and whether any row passes.
+-- The rows of the table against a test: one row's numbers, whether any row passes, and the first that does.
 use Prim.Native.Nat.{ℕ, _+_, _*_, _≤_, _<_}
-use mathlib.Core.Bool.{Bool, true, false, not, _&&_, _||_}
+use mathlib.Core.Bool.{Bool, true, false, cond, not, _&&_, _||_}
 use mathlib.Core.List.{List, [], _∷_}
 use mathlib.Core.Option.{none, some}
 use mathlib.Core.Path.{_≡_, ap, sym, _∙_}
 use native.Mathlib.Omega.{arith}
 use native.Mathlib.Numerals.{add-one}
 use lib.Dec.{eqb, ltb}
-use lib.ListN.{length, take, drop, drop-of-length-le}
+use lib.ListN.{take, drop, drop-of-length-le}
 use lib.Seq.{drop-cons}
 use borrow.Author.Tests.{eq-eqb, ne-eqb}
 use Rattle.cells.specs.Numbers.{le}
@@ -16,11 +16,11 @@ use Rattle.ids.specs.declared.Triad.{Triad}
 use Rattle.wire_opens.specs.declared.ForwardOpen.{ForwardOpen}
 use Rattle.rules.specs.declared.Fixed.{Fixed}
 use Rattle.rules.specs.declared.Stop.the-variants.{TriadInUse, Full}
-use Rattle.rules.specs.Lists.{any}
+use Rattle.rules.specs.Lists.{find, any}
 use Rattle.rules.specs.Checks.{must, hasTriad, triadCheck, maxConnections, roomCheck}
 use Rattle.layout.specs.Rows.{decFixed}
 use Rattle.layout.specs.RowLaws.{in-row}
 use Rattle.checking.specs.SaysLaws.{must-yes, must-no}
 
 abbrev pub rowAt : List ℕ → ℕ → List ℕ
 rowAt r i = take 70 (drop (i * 70) r)
@@ -62,6 +62,21 @@ module _ {A : Type 0} (size : ℕ) (dec : List ℕ → A) (p : A → Bool) (n : 
 
   pub any-ends : (i : ℕ) → n ≤ i → any p (drop i (rows size dec n r)) ≡ false
   any-ends i h = ap (any p) (drop-of-length-le (rows size dec n r) {i = i} (let e = length-rows size dec n r in omega arith))
+
+  find-row : (i : ℕ) → i < n → (b : Bool) → p (dec (take size (drop (i * size) r))) ≡ b
+      → find p (drop i (rows size dec n r)) ≡ cond b (some (dec (take size (drop (i * size) r)))) (find p (drop (i + 1) (rows size dec n r)))
+  find-row i h b e =
+      ap (find p) (rest i h) ∙ ap (λ (x : Bool). cond x (some (dec (take size (drop (i * size) r)))) (find p (drop (i + 1) (rows size dec n r)))) e
+
+  pub find-hit : (i : ℕ) → i < n → p (dec (take size (drop (i * size) r))) ≡ true → find p (drop i (rows size dec n r)) ≡ some (dec (take size (drop (i * size) r)))
+  find-hit i h e = find-row i h true e
+
+  pub find-miss : (i : ℕ) → i < n → p (dec (take size (drop (i * size) r))) ≡ false
+      → find p (drop i (rows size dec n r)) ≡ find p (drop (i + 1) (rows size dec n r))
+  find-miss i h e = find-row i h false e
+
+  pub find-ends : (i : ℕ) → n ≤ i → find p (drop i (rows size dec n r)) ≡ none
+  find-ends i h = ap (find p) (drop-of-length-le (rows size dec n r) {i = i} (let e = length-rows size dec n r in omega arith))
 
 -- check 10
 module _ (o : ForwardOpen) (table : List Fixed) (b : Bool) (e : b ≡ any (hasTriad (o .triad)) table) where

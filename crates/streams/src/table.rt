@@ -1,5 +1,5 @@
-// The checks that read the table: 10 and 13. Only the bytes that are compared are read from a row.
-use crate::Check;
+// Checks 10 and 13: the triad is free, and there is room for one more.
+use checking::Check;
 use ids::Triad;
 use rules::Stop;
 use wire_opens::ForwardOpen;
@@ -12,8 +12,8 @@ ghost use Rattle.rules.specs.declared.Stop.the-variants.{Full};
 ghost use Rattle.rules.specs.Lists.{any};
 ghost use Rattle.rules.specs.Checks.{must, hasTriad, triadCheck, maxConnections};
 ghost use Rattle.layout.specs.Rows.{decFixed};
 ghost use Rattle.checking.specs.Says.{stopIn};
-ghost use Rattle.checking.specs.TableLaws.{rowAt};
+ghost use Rattle.streams.specs.TableLaws.{rowAt};
 
 fn has_triad_at(r: &[u8], i: usize, t: Triad) -> bool
     requires { ⌜ (i < 32) × (2304 ≤ length (now r)) ⌝ }

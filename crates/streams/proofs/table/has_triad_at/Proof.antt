@@ -1,7 +1,7 @@
-use Rattle.checking.specs.TableLaws.{triad-serial, triad-vendor, triad-last}
+use Rattle.streams.specs.TableLaws.{triad-serial, triad-vendor, triad-last}
 use borrow.Author.Needs.{needs}
-use Rattle.checking.proofs.table.has_triad_at.Statement.{statement}
-use Rattle.checking.proofs.table.has_triad_at.Tie as tie
+use Rattle.streams.proofs.table.has_triad_at.Statement.{statement}
+use Rattle.streams.proofs.table.has_triad_at.Tie as tie
 
 mul-u16-at : tie.Need-mul-u16-at
 mul-u16-at c = search needs

@@ -1,9 +1,9 @@
 use Rattle.tables.specs.Tables.{rows}
 use Rattle.layout.specs.Rows.{decFixed}
-use Rattle.checking.specs.TableLaws.{triad-used, triad-free}
+use Rattle.streams.specs.TableLaws.{triad-used, triad-free}
 use borrow.Author.Needs.{needs}
-use Rattle.checking.proofs.table.triad.Statement.{statement}
-use Rattle.checking.proofs.table.triad.Tie as tie
+use Rattle.streams.proofs.table.triad.Statement.{statement}
+use Rattle.streams.proofs.table.triad.Tie as tie
 
 triad-used-requires : tie.Need-triad-used-requires
 triad-used-requires c κs = search needs
