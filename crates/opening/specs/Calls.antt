@@ -4,6 +4,7 @@ use mathlib.Core.Bool.{Bool, true, false, cond}
 use mathlib.Core.List.{List, []}
 use mathlib.Core.Path.{_≡_, refl, ap, sym, subst, _∙_}
 use native.Mathlib.Omega.{arith}
+use lib.Dec.{eqb}
 use lib.ListN.{length, take, drop}
 use lib.Seq.{sets}
 use borrow.Author.Tests.{le-leb, lt-leb}
@@ -12,6 +13,8 @@ use Rattle.cells.specs.Pick.{pick}
 use Rattle.wire_opens.specs.declared.ForwardOpen.{ForwardOpen}
 use Rattle.wire_opens.specs.declared.OpenAnswer.{OpenAnswer}
 use Rattle.wire_opens.specs.declared.OpenAnswer.the-variants.{Open, NoOpen}
+use Rattle.wire_opens.specs.Requests.{openOf}
+use Rattle.wire_opens.specs.RequestLaws.{open-path}
 use Rattle.wire_paths.specs.declared.PathAnswer.{PathAnswer}
 use Rattle.wire_paths.specs.ConnectionPath.{pathOf}
 use Rattle.rules.specs.Answers.{Answer, Refused, Failed, NotParsed, BadTime, isYes, answerNumber, answerBytes, settled}
@@ -71,6 +74,15 @@ module _ (t : ℕ) (o : ForwardOpen) (g : Origin) (path s out : List ℕ) (answe
 -- its path as code takes it
 pub asked-path : (request : List ℕ) (o : ForwardOpen) → take (o .path .start + o .path .len - o .path .start) (drop (o .path .start) request) ≡ pathBytes request o
 asked-path request o = ap (λ (k : ℕ). take k (drop (o .path .start) request)) (let q : o .path .start + o .path .len - o .path .start ≡ o .path .len = omega arith in q)
+
+-- the path of an open that parsed is all there
+pub open-inside : (service : ℕ) (request : List ℕ) (o : ForwardOpen) → requestOf service request ≡ Open o → o .path .start + o .path .len ≤ length request
+open-inside service request o e = go (eqb service 0x5B) (eqb service 0x54) e
+  where
+    go : (b c : Bool) → cond b (openOf true request) (cond c (openOf false request) NoOpen) ≡ Open o → o .path .start + o .path .len ≤ length request
+    go true c q = open-path true request o q
+    go false true q = open-path false request o q
+    go false false q = absurd (let z : _≡_ {A = ℕ} 0 1 = cc in omega arith)
 
 module _ (t service : ℕ) (request : List ℕ) (g : Origin) (s out : List ℕ) where
   pub open-late : tested s ≡ true → Bytes s → 9223372036854775807 < t → (3, (s, out)) ≡ liftedOut (openCall t service request g) s out
