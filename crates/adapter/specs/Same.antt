@@ -3,7 +3,8 @@ use Prim.Native.Nat.{ℕ}
 use mathlib.Core.List.{List}
 use mathlib.Core.Path.{_≡_}
 use Rattle.rules.specs.Host.{setInputCall, outputCall, assemblyAnswer, nextEventCall, connectionsAnswer, statsAnswer}
-use Rattle.rules.specs.Opening.{refusalAnswer}
+use Rattle.rules.specs.Opening.{openCall, refusalAnswer}
+use Rattle.rules.specs.declared.Origin.{Origin}
 use Rattle.refusing.specs.Refusals.{answered}
 use Rattle.image.specs.Lift.{lifted, liftedOut, liftedRead, two-outcomes}
 
@@ -27,3 +28,6 @@ stats-once s out x y = two-outcomes x y
 
 pub open-refusal-once : (request out : List ℕ) (service : ℕ) (x y : ℕ × List ℕ) → x ≡ answered (refusalAnswer service request) out → y ≡ answered (refusalAnswer service request) out → x ≡ y
 open-refusal-once request out service x y = two-outcomes x y
+
+pub open-once : (s request out : List ℕ) (t service : ℕ) (g : Origin) (x y : ℕ × (List ℕ × List ℕ)) → x ≡ liftedOut (openCall t service request g) s out → y ≡ liftedOut (openCall t service request g) s out → x ≡ y
+open-once s request out t service g x y = two-outcomes x y
