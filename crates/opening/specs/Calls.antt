@@ -72,8 +72,12 @@ module _ (t : ℕ) (o : ForwardOpen) (g : Origin) (path s out : List ℕ) (answe
 -- ---- an open as it came
 
 -- its path as code takes it
-pub asked-path : (request : List ℕ) (o : ForwardOpen) → take (o .path .start + o .path .len - o .path .start) (drop (o .path .start) request) ≡ pathBytes request o
+asked-path : (request : List ℕ) (o : ForwardOpen) → take (o .path .start + o .path .len - o .path .start) (drop (o .path .start) request) ≡ pathBytes request o
 asked-path request o = ap (λ (k : ℕ). take k (drop (o .path .start) request)) (let q : o .path .start + o .path .len - o .path .start ≡ o .path .len = omega arith in q)
+
+pub asked-same : (t : ℕ) (o : ForwardOpen) (g : Origin) (request s out : List ℕ) (x : ℕ × (List ℕ × List ℕ))
+    → x ≡ liftedOut (pathCall t o g (take (o .path .start + o .path .len - o .path .start) (drop (o .path .start) request))) s out → x ≡ liftedOut (pathCall t o g (pathBytes request o)) s out
+asked-same t o g request s out x d = d ∙ ap (λ (z : List ℕ). liftedOut (pathCall t o g z) s out) (asked-path request o)
 
 -- the path of an open that parsed is all there
 pub open-inside : (service : ℕ) (request : List ℕ) (o : ForwardOpen) → requestOf service request ≡ Open o → o .path .start + o .path .len ≤ length request

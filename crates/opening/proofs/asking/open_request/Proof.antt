@@ -1,8 +1,4 @@
-use mathlib.Core.List.{List}
-use Prim.Native.Nat.{ℕ}
-use mathlib.Core.Path.{ap, _∙_}
-use Rattle.image.specs.Lift.{liftedOut}
-use Rattle.opening.specs.Calls.{pathCall, asked-path}
+use Rattle.opening.specs.Calls.{asked-same}
 use borrow.Author.Needs.{needs}
 use Rattle.opening.proofs.asking.open_request.Statement.{statement}
 use Rattle.opening.proofs.asking.open_request.Tie as tie
@@ -29,7 +25,8 @@ same-length-2 : tie.Need-same-length-2
 same-length-2 c = search needs
 
 returns : tie.Need-returns
-returns c = let a = c .before .before .before .before .before .before .before .before .before .before .before .before .args in c .before .before .before .before .open-path .ensures ∙ ap (λ (z : List ℕ). liftedOut (pathCall (a .time) (a .o) (a .g) z) (a .s .now) (a .out .now)) (asked-path (a .request .now) (a .o))
+returns c =
+    let a = c .before .before .before .before .before .before .before .before .before .before .before .before .args in asked-same (a .time) (a .o) (a .g) (a .request .now) (a .s .now) (a .out .now) _ (c .before .before .before .before .open-path .ensures)
 
 pub open-request-spec : {M : Type 1} → statement M
 open-request-spec =
