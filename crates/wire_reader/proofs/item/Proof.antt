@@ -1,8 +1,8 @@
-use mathlib.Core.Path.{_∙_}
+use mathlib.Core.Path.{sym, _∙_}
 use Rattle.wire_items.proofs.ItemLaws.{item-begins, item-uncounted}
 use borrow.Author.Needs.{needs}
-use Rattle.wire_items.proofs.item.Statement.{statement}
-use Rattle.wire_items.proofs.item.Tie as tie
+use Rattle.wire_reader.proofs.item.Statement.{statement}
+use Rattle.wire_reader.proofs.item.Tie as tie
 
 begin-requires : tie.Need-begin-requires
 begin-requires c κs = search needs
@@ -17,10 +17,10 @@ enum-known-o : tie.Need-enum-known-o
 enum-known-o c = search needs
 
 returns : tie.Need-returns
-returns c = c .item-from .ensures ∙ item-begins _ _ _ (cc)
+returns c = c .item-from .ensures ∙ item-begins _ _ _ (sym (c .before .before .c .given .1) ∙ c .before .before .before .before .begin .ensures)
 
 returns-2 : tie.Need-returns-2
-returns-2 c = item-uncounted _ _ _ (cc)
+returns-2 c = item-uncounted _ _ _ (sym (c .before .o .given .1) ∙ c .before .before .before .begin .ensures)
 
 pub item-spec : {M : Type 1} → statement M
 item-spec =

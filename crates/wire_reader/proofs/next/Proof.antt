@@ -1,4 +1,4 @@
--- `wire_items::next` meets its contract: a walk of its MIR, by hand. The struct is taken apart, and `step_at` is called on the slice and the numbers. All that the proof knows of `step_at` is that it meets its contract.
+-- `wire_reader::next` meets its contract: a walk of its MIR, by hand. The struct is taken apart, and `step_at` is called on the slice and the numbers. All that the proof knows of `step_at` is that it meets its contract.
 -- The struct is Copy: what it owns is had twice, one copy is kept whole for the exit, and of the other what the frame owns goes to the callee, beside the lifetime's token, which comes back.
 -- Assumes nothing.
 use mathlib.Core.Path.{_≡_, refl}
@@ -43,21 +43,21 @@ use denote.Triple.Table.{entered, cited}
 use denote.Triple.Walked.{says, Stays, stay-none, walkOf, goes-none, Walks, ends-at, walked, walk-meets}
 use denote.Exit.{yes}
 use denote.Triple.Clauses.{ensured, lasts}
 use Rattle.wire_items.specs.Items.{stepAt}
-use Rattle.wire_items.specs.declared.ItemReader.{ItemReader}
+use Rattle.wire_reader.specs.declared.ItemReader.{ItemReader}
 use Rattle.wire_items.specs.declared.Step.{Step}
-use Rattle.wire_items.proofs.ItemReader as T
-use Rattle.wire_items.proofs.ItemReader.Laws as T′
+use Rattle.wire_reader.proofs.ItemReader as T
+use Rattle.wire_reader.proofs.ItemReader.Laws as T′
 use Rattle.wire_items.proofs.Step as S
 use Rattle.wire_items.proofs.Step.Laws as S′
 use Rattle.wire_items.proofs.step_at as step
 use Rattle.wire_items.proofs.step_at.Symbol as step-def
 use Rattle.wire_items.proofs.step_at.Symbol.{name as #wire-items·step-at}
 use Rattle.wire_items.proofs.step_at.Met as step-thm
-use Rattle.wire_items.proofs.next.Key.{name as #wire-items·next}
-use Rattle.wire_items.proofs.next as next
-use Rattle.wire_items.proofs.next.Statement as stated
-use Rattle.wire_items.proofs.next.Code as code
+use Rattle.wire_reader.proofs.next.Key.{name as #wire-reader·next}
+use Rattle.wire_reader.proofs.next as next
+use Rattle.wire_reader.proofs.next.Statement as stated
+use Rattle.wire_reader.proofs.next.Code as code
 
 -- the struct's type, over the signature's lifetimes
 abbrev B : Lfts 1 → RattleType
@@ -163,6 +163,6 @@ pub next-spec : {M : Type 1} → stated.statement M
 unfolding code.routine tablesOf
 next-spec 𝓤 H 𝓜 𝓖 𝓡 =
     entered 𝓤 H (tripleOf 𝓤 H (𝓖 .A) next.signature (next.spec 𝓤 H (𝓖 .A) (𝓜 .mem) (𝓡 .run)))
-    (tables 𝓤 H 𝓜 𝓡 code.env .C) (tables 𝓤 H 𝓜 𝓡 code.env .Λ) #wire-items·next code.function (code.unfolded 𝓤 H 𝓜 𝓡)
+    (tables 𝓤 H 𝓜 𝓡 code.env .C) (tables 𝓤 H 𝓜 𝓡 code.env .Λ) #wire-reader·next code.function (code.unfolded 𝓤 H 𝓜 𝓡)
     (next-meets 𝓤 H (𝓖 .A) (givenOf 𝓤 H 𝓜 𝓖) (𝓜 .mem) (𝓡 .run) (tablesOf 𝓤 H 𝓜 (tables 𝓤 H 𝓜 𝓡 code.env))
     (cited 𝓤 H (StepAt 𝓤 H (𝓖 .A) (𝓜 .mem) (𝓡 .run)) 𝓜 𝓡 code.env #wire-items·step-at step-def.routine code.calls-wire-items·step-at (step-thm.met 𝓤 H 𝓜 𝓖 𝓡)))

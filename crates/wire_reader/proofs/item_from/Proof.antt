@@ -1,10 +1,10 @@
 use mathlib.Core.Path.{_≡_, refl, sym, _∙_}
 use native.Mathlib.Omega.{arith}
 use Rattle.wire_items.specs.Items.{stepAfter}
 use Rattle.wire_items.proofs.ItemLaws.{here, later, ends-before, breaks-before}
 use borrow.Author.Needs.{needs}
-use Rattle.wire_items.proofs.item_from.Statement.{statement}
-use Rattle.wire_items.proofs.item_from.Tie as tie
+use Rattle.wire_reader.proofs.item_from.Statement.{statement}
+use Rattle.wire_reader.proofs.item_from.Tie as tie
 
 abbrev Inv-loop : tie.InvT-loop
 Inv-loop frame from count n at₀ left₀ k₀ at left k = stepAfter k frame at left ≡ stepAfter n frame from count

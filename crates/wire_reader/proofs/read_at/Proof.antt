@@ -1,4 +1,4 @@
--- `wire_items::read_at` meets its contract: a walk of its MIR, by hand. The `ItemReader` that one call returns is held in a local and passed to the next. All that the proof knows of `reader` and of `next` is that each meets its contract.
+-- `wire_reader::read_at` meets its contract: a walk of its MIR, by hand. The `ItemReader` that one call returns is held in a local and passed to the next. All that the proof knows of `reader` and of `next` is that each meets its contract.
 -- The machine value that `reader` returns is stored and passed on as it is. In a local of a body MIR erases the lifetime of the struct's type, so the value is shown to have the type at `erased`: what the struct owns does not say the lifetime's name.
 -- Assumes nothing.
 use mathlib.Core.Path.{_≡_, refl, ap, _∙_}
@@ -38,28 +38,28 @@ use denote.Triple.Table.{entered, cited}
 use denote.Triple.Walked.{says, Stays, stay-none, stay-none-slice, walkOf, goes-none, goes-none-slice, Walks, ends-at, walked, walk-meets}
 use denote.Exit.{yes}
 use denote.Triple.Clauses.{ensured, lasts}
 use Rattle.wire_items.specs.Items.{stepAt}
 use Rattle.wire_items.specs.declared.Cursor.{Cursor}
-use Rattle.wire_items.specs.declared.ItemReader.{ItemReader}
+use Rattle.wire_reader.specs.declared.ItemReader.{ItemReader}
 use Rattle.wire_items.specs.declared.Step.{Step}
 use Rattle.wire_items.proofs.Cursor as K
 use Rattle.wire_items.proofs.Cursor.Laws as K′
-use Rattle.wire_items.proofs.ItemReader as T
-use Rattle.wire_items.proofs.ItemReader.Laws as T′
+use Rattle.wire_reader.proofs.ItemReader as T
+use Rattle.wire_reader.proofs.ItemReader.Laws as T′
 use Rattle.wire_items.proofs.Step as S
 use Rattle.wire_items.proofs.Step.Laws as S′
-use Rattle.wire_items.proofs.reader as reader
-use Rattle.wire_items.proofs.reader.Symbol as reader-def
-use Rattle.wire_items.proofs.reader.Symbol.{name as #wire-items·reader}
-use Rattle.wire_items.proofs.reader.Met as reader-thm
-use Rattle.wire_items.proofs.next as next
-use Rattle.wire_items.proofs.next.Symbol as next-def
-use Rattle.wire_items.proofs.next.Symbol.{name as #wire-items·next}
-use Rattle.wire_items.proofs.next.Met as next-thm
-use Rattle.wire_items.proofs.read_at.Key.{name as #wire-items·read-at}
-use Rattle.wire_items.proofs.read_at as read-at
-use Rattle.wire_items.proofs.read_at.Statement as stated
-use Rattle.wire_items.proofs.read_at.Code as code
+use Rattle.wire_reader.proofs.reader as reader
+use Rattle.wire_reader.proofs.reader.Symbol as reader-def
+use Rattle.wire_reader.proofs.reader.Symbol.{name as #wire-reader·reader}
+use Rattle.wire_reader.proofs.reader.Met as reader-thm
+use Rattle.wire_reader.proofs.next as next
+use Rattle.wire_reader.proofs.next.Symbol as next-def
+use Rattle.wire_reader.proofs.next.Symbol.{name as #wire-reader·next}
+use Rattle.wire_reader.proofs.next.Met as next-thm
+use Rattle.wire_reader.proofs.read_at.Key.{name as #wire-reader·read-at}
+use Rattle.wire_reader.proofs.read_at as read-at
+use Rattle.wire_reader.proofs.read_at.Statement as stated
+use Rattle.wire_reader.proofs.read_at.Code as code
 
 -- the struct's type, over the signature's lifetimes
 abbrev B : Lfts 1 → RattleType
@@ -154,7 +154,7 @@ module _ {M : Type 1} (𝓤 : URA M) (H : Heap 𝓤) (A : Atoms 𝓤) (W : Given
       suffices ! _ (ends-at 𝓤 H A read-at.ended stayed (read-at.clauses 𝓤 H A mem run) W (((κ, tt), (q, tt), tt, (s, (k, tt)), at), tt) u t (tt, (tt, tt)) (tt, (tt, tt))) $ says ! e $
       move ! (1 ∷ []) $ frame ! $ move ! (1 ∷ []) $ frame ! $ done !
 
-  module _ (C : Calls 𝓤 H) (Λ : Loops 𝓤 H) (fm : FmC 𝓤 H (W .laws) C) (known-reader : Triple 𝓤 (C #wire-items·reader) (Reader 𝓤 H A mem run)) (known-next : Triple 𝓤 (C #wire-items·next) (Next 𝓤 H A mem run)) where
+  module _ (C : Calls 𝓤 H) (Λ : Loops 𝓤 H) (fm : FmC 𝓤 H (W .laws) C) (known-reader : Triple 𝓤 (C #wire-reader·reader) (Reader 𝓤 H A mem run)) (known-next : Triple 𝓤 (C #wire-reader·next) (Next 𝓤 H A mem run)) where
     walk : Is (ShrSlice (named 0) κ u8) s (v ∷ []) → Holds (hasTy K′.mir w) × WT w
         → ent 𝓤 (onEntry 𝓤 H A read-at.signature (κ, tt) (q, tt) (s, (k, tt)) at) (WpFn 𝓤 H C Λ code.function (v ∷ w ∷ []) Post)
     walk p wk =
@@ -179,14 +179,14 @@ module _ {M : Type 1} (𝓤 : URA M) (H : Heap 𝓤) (A : Atoms 𝓤) (W : Given
         by ! (exits t u′ (same r t e e′))))))))))))))
 
 module _ {M : Type 1} (𝓤 : URA M) (H : Heap 𝓤) (A : Atoms 𝓤) (W : Given 𝓤 H A) (mem : Memory → SProp 𝓤) (run : Routine → Fun 𝓤) where
-  read-at-walks : (C : Calls 𝓤 H) (Λ : Loops 𝓤 H) → FmC 𝓤 H (W .laws) C → Triple 𝓤 (C #wire-items·reader) (Reader 𝓤 H A mem run) → Triple 𝓤 (C #wire-items·next) (Next 𝓤 H A mem run)
+  read-at-walks : (C : Calls 𝓤 H) (Λ : Loops 𝓤 H) → FmC 𝓤 H (W .laws) C → Triple 𝓤 (C #wire-reader·reader) (Reader 𝓤 H A mem run) → Triple 𝓤 (C #wire-reader·next) (Next 𝓤 H A mem run)
       → Walks 𝓤 H A read-at.ended stayed (WpFn 𝓤 H C Λ code.function) (read-at.clauses 𝓤 H A mem run)
   read-at-walks C Λ fm known-reader known-next = walked 𝓤 H A read-at.ended stayed (read-at.clauses 𝓤 H A mem run) (WpFn 𝓤 H C Λ code.function)
       (λ κs. (slice-vals, (LL.vals K.the-type K′.the-laws, tt))) (λ κs. (shr-slice-tells (named 0) (κs .0) u8, (LL.tells K.the-type K′.the-laws, tt)))
       (λ κs qs bounds a g are. via 𝓤 _ (fst∗ 𝓤 _ (emp 𝓤)) (walk 𝓤 H A W mem run (κs .0) (qs .0) (a .0) (a .1 .0) C Λ fm known-reader known-next (are .0) (LL.lawful K.the-type K′.the-laws 𝓤 H A W .typed (a .1 .0) _ (are .1 .0) .0)))
 
 read-at-meets : {M : Type 1} (𝓤 : URA M) (H : Heap 𝓤) (A : Atoms 𝓤) (W : Given 𝓤 H A) (mem : Memory → SProp 𝓤) (run : Routine → Fun 𝓤) (𝓣 : Tables 𝓤 H)
-    → Triple 𝓤 (𝓣 .C #wire-items·reader) (Reader 𝓤 H A mem run) → Triple 𝓤 (𝓣 .C #wire-items·next) (Next 𝓤 H A mem run)
+    → Triple 𝓤 (𝓣 .C #wire-reader·reader) (Reader 𝓤 H A mem run) → Triple 𝓤 (𝓣 .C #wire-reader·next) (Next 𝓤 H A mem run)
     → Meets 𝓤 H A read-at.signature (WpFn 𝓤 H (𝓣 .C) (𝓣 .Λ) code.function) (read-at.spec 𝓤 H A mem run)
 read-at-meets 𝓤 H A W mem run 𝓣 known-reader known-next =
     walk-meets 𝓤 H A read-at.ended stayed W (goes-none-slice 𝓤 H A W 1 (0 ∷ []) tt (plain (λ _. u8)) yes, (goes-none 𝓤 H A W 1 (λ _. K.the-row) yes (λ κs x f. refl), tt)) (read-at.clauses 𝓤 H A mem run) (WpFn 𝓤 H (𝓣 .C) (𝓣 .Λ) code.function) (WpFn-mono 𝓤 H (W .laws) 𝓣 code.function)
@@ -196,7 +196,7 @@ pub read-at-spec : {M : Type 1} → stated.statement M
 unfolding code.routine tablesOf
 read-at-spec 𝓤 H 𝓜 𝓖 𝓡 =
     entered 𝓤 H (tripleOf 𝓤 H (𝓖 .A) read-at.signature (read-at.spec 𝓤 H (𝓖 .A) (𝓜 .mem) (𝓡 .run)))
-    (tables 𝓤 H 𝓜 𝓡 code.env .C) (tables 𝓤 H 𝓜 𝓡 code.env .Λ) #wire-items·read-at code.function (code.unfolded 𝓤 H 𝓜 𝓡)
+    (tables 𝓤 H 𝓜 𝓡 code.env .C) (tables 𝓤 H 𝓜 𝓡 code.env .Λ) #wire-reader·read-at code.function (code.unfolded 𝓤 H 𝓜 𝓡)
     (read-at-meets 𝓤 H (𝓖 .A) (givenOf 𝓤 H 𝓜 𝓖) (𝓜 .mem) (𝓡 .run) (tablesOf 𝓤 H 𝓜 (tables 𝓤 H 𝓜 𝓡 code.env))
-    (cited 𝓤 H (Reader 𝓤 H (𝓖 .A) (𝓜 .mem) (𝓡 .run)) 𝓜 𝓡 code.env #wire-items·reader reader-def.routine code.calls-wire-items·reader (reader-thm.met 𝓤 H 𝓜 𝓖 𝓡))
-    (cited 𝓤 H (Next 𝓤 H (𝓖 .A) (𝓜 .mem) (𝓡 .run)) 𝓜 𝓡 code.env #wire-items·next next-def.routine code.calls-wire-items·next (next-thm.met 𝓤 H 𝓜 𝓖 𝓡)))
+    (cited 𝓤 H (Reader 𝓤 H (𝓖 .A) (𝓜 .mem) (𝓡 .run)) 𝓜 𝓡 code.env #wire-reader·reader reader-def.routine code.calls-wire-reader·reader (reader-thm.met 𝓤 H 𝓜 𝓖 𝓡))
+    (cited 𝓤 H (Next 𝓤 H (𝓖 .A) (𝓜 .mem) (𝓡 .run)) 𝓜 𝓡 code.env #wire-reader·next next-def.routine code.calls-wire-reader·next (next-thm.met 𝓤 H 𝓜 𝓖 𝓡)))

@@ -1,4 +1,4 @@
--- `wire_items::reader` meets its contract: a walk of its MIR, by hand. An `ItemReader` is made of the slice and the cursor's numbers, in the result's local.
+-- `wire_reader::reader` meets its contract: a walk of its MIR, by hand. An `ItemReader` is made of the slice and the cursor's numbers, in the result's local.
 -- A `&[u8]` is Copy, so what it owns is had twice: once for frame at exit, and once inside the result, beside the facts of the numbers.
 -- Assumes nothing.
 use mathlib.Core.Path.{refl}
@@ -36,16 +36,16 @@ use denote.Triple.Spec.{Meets, tripleOf}
 use denote.Triple.Table.{entered}
 use denote.Triple.Walked.{says, Stays, stay-none, stay-none-slice, walkOf, goes-none, goes-none-slice, Walks, ends-at, walked, walk-meets}
 use denote.Exit.{yes}
 use Rattle.wire_items.specs.declared.Cursor.{Cursor}
-use Rattle.wire_items.specs.declared.ItemReader.{ItemReader}
+use Rattle.wire_reader.specs.declared.ItemReader.{ItemReader}
 use Rattle.wire_items.proofs.Cursor as K
 use Rattle.wire_items.proofs.Cursor.Laws as K′
-use Rattle.wire_items.proofs.ItemReader as T
-use Rattle.wire_items.proofs.ItemReader.Laws as T′
-use Rattle.wire_items.proofs.reader.Key.{name as #wire-items·reader}
-use Rattle.wire_items.proofs.reader as reader
-use Rattle.wire_items.proofs.reader.Statement as stated
-use Rattle.wire_items.proofs.reader.Code as code
+use Rattle.wire_reader.proofs.ItemReader as T
+use Rattle.wire_reader.proofs.ItemReader.Laws as T′
+use Rattle.wire_reader.proofs.reader.Key.{name as #wire-reader·reader}
+use Rattle.wire_reader.proofs.reader as reader
+use Rattle.wire_reader.proofs.reader.Statement as stated
+use Rattle.wire_reader.proofs.reader.Code as code
 
 abbrev stayed : Stays (reader.ended .signature .params) (reader.ended .kept)
 stayed = (stay-none-slice (0 ∷ []) tt (plain (λ _. u8)) yes, (stay-none (λ _. K.the-row) yes, tt))
@@ -105,5 +105,5 @@ pub reader-spec : {M : Type 1} → stated.statement M
 unfolding code.routine tablesOf
 reader-spec 𝓤 H 𝓜 𝓖 𝓡 =
     entered 𝓤 H (tripleOf 𝓤 H (𝓖 .A) reader.signature (reader.spec 𝓤 H (𝓖 .A) (𝓜 .mem) (𝓡 .run)))
-    (tables 𝓤 H 𝓜 𝓡 code.env .C) (tables 𝓤 H 𝓜 𝓡 code.env .Λ) #wire-items·reader code.function (code.unfolded 𝓤 H 𝓜 𝓡)
+    (tables 𝓤 H 𝓜 𝓡 code.env .C) (tables 𝓤 H 𝓜 𝓡 code.env .Λ) #wire-reader·reader code.function (code.unfolded 𝓤 H 𝓜 𝓡)
     (reader-meets 𝓤 H (𝓖 .A) (givenOf 𝓤 H 𝓜 𝓖) (𝓜 .mem) (𝓡 .run) (tablesOf 𝓤 H 𝓜 (tables 𝓤 H 𝓜 𝓡 code.env)))

@@ -1,4 +1,4 @@
--- `wire_items::moved` meets its contract: a walk of its MIR, by hand. A struct is made anew of the slice that the one passed holds, and the cursor's numbers.
+-- `wire_reader::moved` meets its contract: a walk of its MIR, by hand. A struct is made anew of the slice that the one passed holds, and the cursor's numbers.
 -- The struct is Copy: what it owns is had twice, one copy is kept whole for the exit, and what the frame owns of the other, with the facts of the numbers, is what the result owns.
 -- Assumes nothing.
 use mathlib.Core.Path.{_≡_, refl}
@@ -36,16 +36,16 @@ use denote.Triple.Spec.{Meets, tripleOf}
 use denote.Triple.Table.{entered}
 use denote.Triple.Walked.{says, Stays, stay-none, walkOf, goes-none, Walks, ends-at, walked, walk-meets}
 use denote.Exit.{yes}
 use Rattle.wire_items.specs.declared.Cursor.{Cursor}
-use Rattle.wire_items.specs.declared.ItemReader.{ItemReader}
+use Rattle.wire_reader.specs.declared.ItemReader.{ItemReader}
 use Rattle.wire_items.proofs.Cursor as K
 use Rattle.wire_items.proofs.Cursor.Laws as K′
-use Rattle.wire_items.proofs.ItemReader as T
-use Rattle.wire_items.proofs.ItemReader.Laws as T′
-use Rattle.wire_items.proofs.moved.Key.{name as #wire-items·moved}
-use Rattle.wire_items.proofs.moved as moved
-use Rattle.wire_items.proofs.moved.Statement as stated
-use Rattle.wire_items.proofs.moved.Code as code
+use Rattle.wire_reader.proofs.ItemReader as T
+use Rattle.wire_reader.proofs.ItemReader.Laws as T′
+use Rattle.wire_reader.proofs.moved.Key.{name as #wire-reader·moved}
+use Rattle.wire_reader.proofs.moved as moved
+use Rattle.wire_reader.proofs.moved.Statement as stated
+use Rattle.wire_reader.proofs.moved.Code as code
 
 -- the struct's type, over the signature's lifetimes
 abbrev B : Lfts 1 → RattleType
@@ -121,5 +121,5 @@ pub moved-spec : {M : Type 1} → stated.statement M
 unfolding code.routine tablesOf
 moved-spec 𝓤 H 𝓜 𝓖 𝓡 =
     entered 𝓤 H (tripleOf 𝓤 H (𝓖 .A) moved.signature (moved.spec 𝓤 H (𝓖 .A) (𝓜 .mem) (𝓡 .run)))
-    (tables 𝓤 H 𝓜 𝓡 code.env .C) (tables 𝓤 H 𝓜 𝓡 code.env .Λ) #wire-items·moved code.function (code.unfolded 𝓤 H 𝓜 𝓡)
+    (tables 𝓤 H 𝓜 𝓡 code.env .C) (tables 𝓤 H 𝓜 𝓡 code.env .Λ) #wire-reader·moved code.function (code.unfolded 𝓤 H 𝓜 𝓡)
     (moved-meets 𝓤 H (𝓖 .A) (givenOf 𝓤 H 𝓜 𝓖) (𝓜 .mem) (𝓡 .run) (tablesOf 𝓤 H 𝓜 (tables 𝓤 H 𝓜 𝓡 code.env)))
