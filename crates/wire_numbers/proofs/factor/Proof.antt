@@ -3,8 +3,8 @@ use mathlib.Core.Path.{ap}
 use native.Mathlib.Omega.{arith}
 use borrow.Author.Needs.{needs}
 use lib.Pow.{pow-mono}
-use Rattle.wire_opens.proofs.factor.Statement.{statement}
-use Rattle.wire_opens.proofs.factor.Tie as tie
+use Rattle.wire_numbers.proofs.factor.Statement.{statement}
+use Rattle.wire_numbers.proofs.factor.Tie as tie
 
 capped-requires : tie.Need-capped-requires
 capped-requires c κs = search needs

@@ -1,8 +1,8 @@
 use native.Mathlib.Nat.{mul-le-mul-left}
 use native.Mathlib.Omega.{arith}
 use borrow.Author.Needs.{needs}
-use Rattle.wire_opens.proofs.times.Statement.{statement}
-use Rattle.wire_opens.proofs.times.Tie as tie
+use Rattle.wire_numbers.proofs.times.Statement.{statement}
+use Rattle.wire_numbers.proofs.times.Tie as tie
 
 mul-result : tie.Need-mul-result
 mul-result c = omega (arith, mul-le-mul-left (c .args .a) (c .pre))

@@ -1,6 +1,6 @@
 use borrow.Author.Needs.{needs}
-use Rattle.wire_opens.proofs.timeout.Statement.{statement}
-use Rattle.wire_opens.proofs.timeout.Tie as tie
+use Rattle.wire_numbers.proofs.timeout.Statement.{statement}
+use Rattle.wire_numbers.proofs.timeout.Tie as tie
 
 factor-requires : tie.Need-factor-requires
 factor-requires c κs = search needs

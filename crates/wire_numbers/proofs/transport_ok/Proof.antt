@@ -1,8 +1,8 @@
 use mathlib.Core.Path.{sym, _∙_}
 use borrow.Author.Tests.{eq-eqb, ne-eqb}
 use borrow.Author.Needs.{needs}
-use Rattle.wire_opens.proofs.transport_ok.Statement.{statement}
-use Rattle.wire_opens.proofs.transport_ok.Tie as tie
+use Rattle.wire_numbers.proofs.transport_ok.Statement.{statement}
+use Rattle.wire_numbers.proofs.transport_ok.Tie as tie
 
 transport-class-requires : tie.Need-transport-class-requires
 transport-class-requires c κs = search needs

@@ -1,8 +1,8 @@
 use native.Mathlib.Omega.{arith}
 use borrow.Author.Needs.{needs}
-use Rattle.wire_opens.proofs.BitLaws.{mask10}
-use Rattle.wire_opens.proofs.group.Statement.{statement}
-use Rattle.wire_opens.proofs.group.Tie as tie
+use Rattle.wire_numbers.proofs.BitLaws.{mask10}
+use Rattle.wire_numbers.proofs.group.Statement.{statement}
+use Rattle.wire_numbers.proofs.group.Tie as tie
 
 wrapping-sub-u32-requires : tie.Need-wrapping-sub-u32-requires
 wrapping-sub-u32-requires c κs = search needs
