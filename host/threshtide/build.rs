@@ -1,4 +1,4 @@
-//! Finds the static library that `rt staticlib adapter` makes.
+//! Finds the static library that host/archive makes.
 
 use std::path::PathBuf;
 use std::process::exit;
@@ -15,7 +15,7 @@ fn main() {
     if !archive.is_file() || archive.file_name().is_none_or(|n| n != "libadapter.a") {
         let why = if given.is_some() { "THRESHTIDE_LIB names no such file" } else { "it is not made yet" };
         println!(
-            "cargo::error=the static library {} is not there ({why}). Make it with `rt staticlib adapter` at the top of the repository, or set THRESHTIDE_LIB to the folder that holds libadapter.a",
+            "cargo::error=the static library {} is not there ({why}). Make it with host/archive, or set THRESHTIDE_LIB to the folder that holds libadapter.a",
             archive.display()
         );
         exit(1);

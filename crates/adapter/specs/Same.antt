@@ -3,7 +3,15 @@ use Prim.Native.Nat.{ℕ}
 use mathlib.Core.List.{List}
 use mathlib.Core.Path.{_≡_}
 use Rattle.rules.specs.Host.{setInputCall, outputCall, assemblyAnswer, nextEventCall, connectionsAnswer, statsAnswer}
+use Rattle.starting.specs.Block.{setupCall}
+use Rattle.rules.specs.Routing.{pathAnswer, requestAnswer}
+use Rattle.routing.specs.Answered.{answered}
+use Rattle.rules.specs.Opening.{refusalAnswer}
+use Rattle.refusing.specs.Refusals.{answered}
 use Rattle.image.specs.Lift.{lifted, liftedOut, liftedRead, two-outcomes}
+
+pub setup-once : (s block eds : List ℕ) (seed : ℕ) (x y : ℕ × List ℕ) → x ≡ setupCall s block eds seed → y ≡ setupCall s block eds seed → x ≡ y
+setup-once s block eds seed x y = two-outcomes x y
 
 pub set-input-once : (s bytes : List ℕ) (n : ℕ) (x y : ℕ × List ℕ) → x ≡ lifted (setInputCall n bytes) s → y ≡ lifted (setInputCall n bytes) s → x ≡ y
 set-input-once s bytes n x y = two-outcomes x y
@@ -22,3 +30,12 @@ connections-once s out x y = two-outcomes x y
 
 pub stats-once : (s out : List ℕ) (x y : ℕ × List ℕ) → x ≡ liftedRead statsAnswer s out → y ≡ liftedRead statsAnswer s out → x ≡ y
 stats-once s out x y = two-outcomes x y
+
+pub path-once : (path out : List ℕ) (x y : ℕ × List ℕ) → x ≡ answered (pathAnswer path) out → y ≡ answered (pathAnswer path) out → x ≡ y
+path-once path out x y = two-outcomes x y
+
+pub request-once : (message out : List ℕ) (x y : ℕ × List ℕ) → x ≡ answered (requestAnswer message) out → y ≡ answered (requestAnswer message) out → x ≡ y
+request-once message out x y = two-outcomes x y
+
+pub open-refusal-once : (request out : List ℕ) (service : ℕ) (x y : ℕ × List ℕ) → x ≡ answered (refusalAnswer service request) out → y ≡ answered (refusalAnswer service request) out → x ≡ y
+open-refusal-once request out service x y = two-outcomes x y

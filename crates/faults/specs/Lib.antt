@@ -2,3 +2,4 @@ pub mod Names
 pub mod Bounds
 pub mod RunBit
 pub mod Streams
+pub mod StandIns

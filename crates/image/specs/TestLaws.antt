@@ -1,10 +1,11 @@
 -- The state test's tests one by one, as code makes them.
 use Prim.Native.Nat.{ℕ, _+_, _*_, _≤_, _<_}
-use mathlib.Core.Bool.{Bool, true, false}
+use mathlib.Core.Bool.{Bool, true, false, _&&_}
 use mathlib.Core.List.{List, [], _∷_}
 use mathlib.Core.Path.{_≡_, refl, ap, sym, _∙_}
 use native.Mathlib.Omega.{arith}
 use native.Mathlib.Numerals.{add-one}
+use lib.Dec.{leb}
 use lib.ListN.{length, getD, take, drop, drop-of-length-le}
 use lib.Seq.{drop-cons}
 use borrow.Author.Tests.{le-leb, lt-leb, le-ltb, lt-ltb, eq-eqb, ne-eqb, leb-true}
@@ -132,6 +133,11 @@ module _ (l : List ℕ) where
 
 -- ---- a walk along the rows, with a test at each
 
+all-and : (b : Bool) (bs : List Bool) → all (b ∷ bs) ≡ (b && all bs)
+unfolding all
+all-and true bs = refl
+all-and false bs = refl
+
 module _ (size : ℕ) (good : List ℕ → Bool) (n : ℕ) (r : List ℕ) where
   walk : (i : ℕ) → i < n → drop i (rows size good n r) ≡ good (take size (drop (i * size) r)) ∷ drop (i + 1) (rows size good n r)
   walk i h =
@@ -150,19 +156,25 @@ module _ (size : ℕ) (good : List ℕ → Bool) (n : ℕ) (r : List ℕ) where
   unfolding all
   walk-ends i h = ap all (drop-of-length-le (rows size good n r) {i = i} (let e = length-rows size good n r in omega arith))
 
+  -- what was seen to be good so far, and the rest
+  pub walk-both : (i : ℕ) (b : Bool) → i < n
+      → (b && all (drop i (rows size good n r))) ≡ ((b && good (take size (drop (i * size) r))) && all (drop (i + 1) (rows size good n r)))
+  walk-both i true h = ap all (walk i h) ∙ all-and (good (take size (drop (i * size) r))) (drop (i + 1) (rows size good n r))
+  walk-both i false h = refl
+
+  pub both-ends : (i : ℕ) (b : Bool) → n ≤ i → (b && all (drop i (rows size good n r))) ≡ b
+  both-ends i true h = walk-ends i h
+  both-ends i false h = refl
+
 -- ---- the number that each row's test reads
 
 in-row : (k size at : ℕ) (r : List ℕ) (a : ℕ) → at + k ≤ size → le k (take size (drop a r)) at ≡ le k r (a + at)
 in-row k size at r a h = le-take k (drop a r) size at h ∙ le-drop k r a at
 
 module _ (r : List ℕ) (i : ℕ) where
-  pub row-bad : 23 < getD r (i * 70 + 28) 0 → goodRow (take 70 (drop (i * 70) r)) ≡ false
+  pub row-is : goodRow (take 70 (drop (i * 70) r)) ≡ leb (getD r (i * 70 + 28) 0) 23
   unfolding goodRow
-  row-bad h = let e = in-row 1 70 28 r (i * 70) (omega arith) in let d = le-1 r (i * 70 + 28) in lt-leb (le 1 (take 70 (drop (i * 70) r)) 28) 23 (omega arith)
-
-  pub row-good : getD r (i * 70 + 28) 0 ≤ 23 → goodRow (take 70 (drop (i * 70) r)) ≡ true
-  unfolding goodRow
-  row-good h = let e = in-row 1 70 28 r (i * 70) (omega arith) in let d = le-1 r (i * 70 + 28) in le-leb (le 1 (take 70 (drop (i * 70) r)) 28) 23 (omega arith)
+  row-is = ap (λ (k : ℕ). leb k 23) (in-row 1 70 28 r (i * 70) (omega arith) ∙ le-1 r (i * 70 + 28))
 
   mark-in : le 1 (take 1 (drop (i * 1) r)) 0 ≡ getD r i 0
   mark-in = in-row 1 1 0 r (i * 1) (omega arith) ∙ le-1 r (i * 1 + 0) ∙ ap (λ (k : ℕ). getD r k 0) (omega arith)

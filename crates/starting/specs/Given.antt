@@ -10,14 +10,14 @@ use lib.ListN.{length, take, drop, length-drop}
 use lib.Seq.{length-take-le, take-at, take-all}
 use borrow.Author.Tests.{eqb-true, leb-true, leb-false, ne-eqb}
 use Rattle.cells.specs.Numbers.{le, length-put, le-put-same}
-use Rattle.cells.specs.Back.{all-at}
+use Rattle.cells.specs.Back.{all, all-at}
 use Rattle.tables.specs.Tables.{rows, length-rows}
 use Rattle.tables.specs.Ring.{by-cases}
 use Rattle.rules.specs.Lists.{any}
 use Rattle.rules.specs.State.{Shape}
 use Rattle.rules.specs.Setup.{shapeOk, distinct, assembliesOk, nameOk, edsOk, transferOk, setupOk}
 use Rattle.layout.specs.Setups.{decShape, edsOf}
-use Rattle.starting.specs.Block.{edsMark, regionOf, setupGiven, testsBlock, accepted}
+use Rattle.starting.specs.Block.{edsMark, kindGiven, regionOf, setupGiven, testsBlock, accepted}
 
 -- ---- a chain of tests, one by one
 
@@ -54,6 +54,29 @@ too-long n xs a b c =
     (λ e. let m = length-take-le n xs (leb-true n (length xs) e) in omega arith)
     (λ e. let q = leb-false n (length xs) e in let m : length (take n xs) ≡ length xs = ap length (take-all n xs (omega arith)) in omega arith)
 
+module _ (block eds : List ℕ) (long : length block ≡ 192) where
+  -- the EDS's mark, and an EDS that is given
+  pub mark-of : le 4 (regionOf block eds) 4 ≡ edsMark (le 4 block 4) eds
+  unfolding regionOf
+  mark-of = le-put-same 3 block 4 (edsMark (le 4 block 4) eds) (omega arith)
+
+  pub no-mark : eqb (le 4 block 4) 0 ≡ true → le 4 (regionOf block eds) 4 ≡ 0
+  no-mark e = mark-of ∙ ap (λ (b : Bool). cond b 0 (length eds + 1)) e
+
+  pub some-mark : eqb (le 4 block 4) 0 ≡ false → le 4 (regionOf block eds) 4 ≡ length eds + 1
+  some-mark e = mark-of ∙ ap (λ (b : Bool). cond b 0 (length eds + 1)) e
+
+  pub no-eds : eqb (le 4 block 4) 0 ≡ true → setupGiven block eds .eds ≡ none
+  unfolding setupGiven
+  no-eds e = ap (λ (m : ℕ). edsOf m eds) (no-mark e)
+
+  pub some-eds : eqb (le 4 block 4) 0 ≡ false → setupGiven block eds .eds ≡ some eds
+  unfolding setupGiven
+  some-eds e =
+      ap (λ (m : ℕ). edsOf m eds) (some-mark e)
+      ∙ ap (λ (b : Bool). cond b none (some (take (length eds + 1 - 1) eds))) (ne-eqb (length eds + 1) 0 (λ q. omega arith))
+      ∙ ap some (take-all (length eds + 1 - 1) eds (omega arith))
+
 module _ (block eds : List ℕ) (ok : accepted block eds ≡ true) where
   abbrev r : List ℕ
   r = regionOf block eds
@@ -70,6 +93,10 @@ module _ (block eds : List ℕ) (ok : accepted block eds ≡ true) where
   unfolding accepted
   no-bytes = all-at (testsBlock block eds) ok 2
 
+  pub kinds-ok : all (rows 5 kindGiven (le 1 block 0) (drop 110 block)) ≡ true
+  unfolding accepted
+  kinds-ok = all-at (testsBlock block eds) ok 3
+
   pub sizes-ok : setupOk (setupGiven block eds) ≡ true
   unfolding accepted
   sizes-ok = all-at (testsBlock block eds) ok 4
@@ -77,10 +104,6 @@ module _ (block eds : List ℕ) (ok : accepted block eds ≡ true) where
   pub length-region : length (regionOf block eds) ≡ 192
   unfolding regionOf
   length-region = length-put 4 block 4 (edsMark (le 4 block 4) eds) ∙ long-block
-
-  pub mark-is : le 4 (regionOf block eds) 4 ≡ edsMark (le 4 block 4) eds
-  unfolding regionOf
-  mark-is = let n = long-block in le-put-same 3 block 4 (edsMark (le 4 block 4) eds) (omega arith)
 
   chain : Five (assembliesOk (setupGiven block eds .assemblies)) (nameOk (setupGiven block eds .identity .name)) (nameOk (setupGiven block eds .edsName)) (edsOk (setupGiven block eds .eds)) (transferOk (setupGiven block eds .transferLimit))
   unfolding setupOk
@@ -127,39 +150,29 @@ module _ (block eds : List ℕ) (ok : accepted block eds ≡ true) where
   some-transfer = leb-true 1 (le 1 r 1) (first-of (leb 1 (le 1 r 1)) (leb (le 1 r 1) 255) (chain .five))
 
   -- the EDS: none, and no bytes; or its bytes
-  absent : eqb (le 4 block 4) 0 ≡ true → length eds ≡ 0
+  pub absent : eqb (le 4 block 4) 0 ≡ true → length eds ≡ 0
   absent e = eqb-true (length eds) 0 (ap (λ (b : Bool). not b || eqb (length eds) 0) (sym e) ∙ no-bytes)
-
-  present : eqb (le 4 block 4) 0 ≡ false → le 4 (regionOf block eds) 4 ≡ length eds + 1
-  present e = mark-is ∙ ap (λ (b : Bool). cond b 0 (length eds + 1)) e
-
-  given-eds : eqb (le 4 block 4) 0 ≡ false → setupGiven block eds .eds ≡ some eds
-  unfolding setupGiven
-  given-eds e =
-      ap (λ (m : ℕ). edsOf m eds) (present e)
-      ∙ ap (λ (b : Bool). cond b none (some (take (length eds + 1 - 1) eds))) (ne-eqb (length eds + 1) 0 (λ q. omega arith))
-      ∙ ap some (take-all (length eds + 1 - 1) eds (omega arith))
 
   pub short-eds : length eds ≤ 65535
   short-eds =
       by-cases (eqb (le 4 block 4) 0)
       (λ e. let z = absent e in omega arith)
-      (λ e. leb-true (length eds) 65535 (ap edsOk (sym (given-eds e)) ∙ chain .four))
+      (λ e. leb-true (length eds) 65535 (ap edsOk (sym (some-eds block eds long-block e)) ∙ chain .four))
 
   pub small-mark : le 4 (regionOf block eds) 4 ≤ 65536
   small-mark =
       let s = short-eds in
       by-cases (eqb (le 4 block 4) 0)
-      (λ e. let m : le 4 r 4 ≡ 0 = mark-is ∙ ap (λ (b : Bool). cond b 0 (length eds + 1)) e in omega arith)
-      (λ e. let m = present e in omega arith)
+      (λ e. let m = no-mark block eds long-block e in omega arith)
+      (λ e. let m = some-mark block eds long-block e in omega arith)
 
   -- what stands behind the EDS is not of it
   pub eds-same : (z : List ℕ) → edsOf (le 4 (regionOf block eds) 4) (eds ++ z) ≡ edsOf (le 4 (regionOf block eds) 4) eds
   eds-same z =
       by-cases (eqb (le 4 block 4) 0)
-      (λ e. let m : le 4 r 4 ≡ 0 = mark-is ∙ ap (λ (b : Bool). cond b 0 (length eds + 1)) e in
+      (λ e. let m = no-mark block eds long-block e in
       ap (λ (n : ℕ). edsOf n (eds ++ z)) m ∙ sym (ap (λ (n : ℕ). edsOf n eds) m))
-      (λ e. let m = present e in
+      (λ e. let m = some-mark block eds long-block e in
       let k : length eds ≡ length eds + 1 - 1 = omega arith in
       ap (λ (n : ℕ). edsOf n (eds ++ z)) m
       ∙ ap (λ (x : List ℕ). cond (eqb (length eds + 1) 0) none (some x))

@@ -3,3 +3,5 @@ pub mod Given
 pub mod Fresh
 pub mod Begin
 pub mod Shapes
+pub mod Accept
+pub mod Calls

@@ -1,4 +1,5 @@
 // Setup: what the host's block and EDS say, whether that is accepted, and the state's bytes that it leaves.
+pub mod checks;
 pub mod shapes;
 
 ghost use mathlib.Core.Path.{_≡_};
@@ -41,7 +42,7 @@ fn first_id(seed: u32) -> u32
 }
 
 // The fresh state, written over whatever the bytes were.
-fn begin(s: &mut [u8], block: &[u8], eds: &[u8], seed: u32)
+pub fn begin(s: &mut [u8], block: &[u8], eds: &[u8], seed: u32)
     requires { ⌜ (length (now s) ≡ 109056) × (length (now block) ≡ 192) × (length (now eds) ≤ 65535) ⌝ }
     ensures { λ _. ⌜ now (s .exit) ≡ started (now (block .entry)) (now (eds .entry)) seed ⌝ }
 {

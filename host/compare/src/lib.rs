@@ -10,6 +10,7 @@ extern crate self as compare;
 pub mod bytes;
 mod call;
 mod generate;
+mod record;
 mod rng;
 mod run;
 mod seen;
@@ -28,6 +29,7 @@ pub use call::*;
 pub use generate::Generator;
 #[cfg(feature = "library")]
 pub use library::Library;
+pub use record::record;
 pub use run::{Difference, Found, Make, Run, Runner, Tally, answers, replay};
 pub use seen::{AssemblySeen, ConnSeen, Seen, Side, UploadSeen};
 pub use show::{grouped, print_line, show_run};

@@ -34,6 +34,16 @@ impl Default for Library {
 }
 
 impl Library {
+    /// The lent bytes.
+    pub fn state(&self) -> &[u8] {
+        &self.state
+    }
+
+    /// Lends other bytes.
+    pub fn set_state(&mut self, state: Vec<u8>) {
+        self.state = state;
+    }
+
     /// Sets the counters of packets produced and late, as 2^64 calls would.
     pub fn plant_counters(&mut self, produced: u64, late: u64) {
         layout::plant_counters(&mut self.state, produced, late);

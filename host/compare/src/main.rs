@@ -1,11 +1,12 @@
 //! The command `compare`.
 
-use compare::{Runner, Side, Tally, ciplink, grouped, say, show_run, shrink};
+use compare::{Runner, Side, Tally, ciplink, grouped, record, say, show_run, shrink};
 use std::process::ExitCode;
 use std::time::{Duration, Instant};
 
 const USAGE: &str = "\
 usage: compare [--seed N] [--seconds N | --calls N] [--run N] [--against SIDE] [--shrink SECONDS] [--tally]
+       compare --record FILE [--seed N] [--calls N] [--size BYTES]
 
 Drives ciplink and the library with the same calls and compares every answer and every field of the state after each.
 
@@ -18,6 +19,8 @@ Drives ciplink and the library with the same calls and compares every answer and
                     documented  ciplink with D1 in its text as document 01 has it: nothing may be found
   --shrink SECONDS  for how long to shorten a run that shows a difference (default 20)
   --tally           print how often each call and answer came
+  --record FILE     compare nothing: write calls and what ciplink answers to them, for crates/replay
+                    (runs of at most --calls calls, default 150, until the file has --size bytes, default 250,000)
 ";
 
 struct Options {
@@ -28,6 +31,8 @@ struct Options {
     against: String,
     shrink: u64,
     tally: bool,
+    record: Option<String>,
+    size: u64,
 }
 
 fn number(name: &str, value: Option<String>) -> Result<u64, String> {
@@ -45,6 +50,8 @@ fn options(mut args: impl Iterator<Item = String>) -> Result<Options, String> {
         against: if cfg!(feature = "library") { "library" } else { "original" }.into(),
         shrink: 20,
         tally: false,
+        record: None,
+        size: 250_000,
     };
     while let Some(arg) = args.next() {
         match arg.as_str() {
@@ -55,6 +62,8 @@ fn options(mut args: impl Iterator<Item = String>) -> Result<Options, String> {
             "--shrink" => o.shrink = number("--shrink", args.next())?,
             "--against" => o.against = args.next().ok_or("--against wants a side")?,
             "--tally" => o.tally = true,
+            "--record" => o.record = Some(args.next().ok_or("--record wants a file")?),
+            "--size" => o.size = number("--size", args.next())?,
             other => return Err(format!("{other:?} is no option")),
         }
     }
@@ -84,6 +93,19 @@ fn print_tally(tally: &Tally) {
     }
 }
 
+fn write_sample(path: &str, sample: &[u8]) -> ExitCode {
+    match std::fs::write(path, sample) {
+        Ok(()) => {
+            say!("compare: {path} has {} bytes", grouped(sample.len() as u64));
+            ExitCode::SUCCESS
+        }
+        Err(e) => {
+            eprintln!("compare: {path}: {e}");
+            ExitCode::FAILURE
+        }
+    }
+}
+
 fn main() -> ExitCode {
     let args: Vec<String> = std::env::args().skip(1).collect();
     if args.iter().any(|a| a == "--help" || a == "-h") {
@@ -99,6 +121,9 @@ fn main() -> ExitCode {
         }
     };
     let first = || -> Box<dyn Side> { Box::new(ciplink::reference::Original::default()) };
+    if let Some(path) = &o.record {
+        return write_sample(path, &record(&first, o.seed, o.calls.unwrap_or(150) as usize, o.size as usize));
+    }
     let mut runner = Runner::new(&first, &second, o.seed);
     runner.tally = o.tally.then(Tally::default);
     say!("compare: ciplink against {}, seed {}", o.against, o.seed);

@@ -117,7 +117,7 @@ struct Pair {
 }
 
 /// Lent output begins as this, so that what a call leaves shows.
-const LENT: u8 = 0xA5;
+pub const LENT: u8 = 0xA5;
 
 fn differ(text: &mut String, names: [&str; 2], what: &str, a: impl Debug + PartialEq, b: impl Debug + PartialEq) {
     let (a, b) = (format!("{a:?}"), format!("{b:?}"));

@@ -20,6 +20,20 @@ pub const CONFIGURATION: u16 = 151;
 /// Its size.
 pub const CONFIGURATION_SIZE: u16 = 4;
 
+/// What a configuration tool reads of the lane: its electronic data sheet.
+fn eds() -> String {
+    let assembly =
+        |n: u16, what: &str, bytes: u16| format!("    Assem{n} = \"{what}\",,{bytes},0x0000,,,{},;\n", 8 * bytes);
+    format!(
+        "[File]\n    DescText = \"Threshtide lane\";\n    CreateDate = 11-15-2026;\n    CreateTime = 08:00:00;\n    Revision = 1.0;\n\n\
+         [Device]\n    VendCode = 65000;\n    VendName = \"no vendor\";\n    ProdType = 12;\n    ProdTypeStr = \"Communications Adapter\";\n    \
+         ProdCode = 44;\n    MajRev = 4;\n    MinRev = 1;\n    ProdName = \"Threshtide lane 4\";\n\n[Assembly]\n{}{}{}",
+        assembly(INPUT, "The word that the lane moves by", INPUT_SIZE),
+        assembly(OUTPUT, "The lane word", OUTPUT_SIZE),
+        assembly(CONFIGURATION, "Speed and length", CONFIGURATION_SIZE),
+    )
+}
+
 /// What the lane is set up with.
 pub fn setup() -> Setup {
     Setup {
@@ -35,6 +49,8 @@ pub fn setup() -> Setup {
             Assembly::configuration(CONFIGURATION, CONFIGURATION_SIZE),
         ],
         mac: [0x02, 0, 127, 0, 0, 1],
+        eds: Some(eds().into_bytes()),
+        eds_name: b"lane4.eds".to_vec(),
         ..Setup::default()
     }
 }

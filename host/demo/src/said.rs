@@ -6,6 +6,7 @@
 //! | Line | Said by | Words after the first |
 //! |---|---|---|
 //! | `identity` | whoever browsed | vendor, device type, product code, revision, serial, name |
+//! | `attribute` | whoever asked | to, service, class, instance, attribute, the value as tshark reads it, field by field |
 //! | `open` | originator | from, service, T→O id, serial, vendor, originator, multiplier, O→T RPI, T→O RPI, O→T parameters, T→O parameters |
 //! | `opened` | host | to, service, O→T id, T→O id, serial, vendor, originator, O→T RPI, T→O RPI, address and port of the T→O socket |
 //! | `refused` | host | to, service, general status, number of words, first word, serial, vendor, originator |
@@ -70,6 +71,16 @@ impl Said {
             let Setup { vendor, device_type, product_code, revision, serial, .. } = setup;
             let revision = u16::from_be_bytes([revision.0, revision.1]);
             format!("identity\t0x{vendor:04x}\t{device_type}\t{product_code}\t{revision}\t0x{serial:08x}\t{name}")
+        });
+    }
+
+    /// Someone was told an attribute, or what a service of an object gives.
+    pub fn attribute(&self, to: Ipv4Addr, service: u8, place: (u8, u8, Option<u8>), read: &[String]) {
+        self.line(|| {
+            let (class, instance, number) = place;
+            let number = number.map_or(String::new(), |n| format!("\t{n}"));
+            let read: String = read.iter().map(|word| format!("\t{word}")).collect();
+            format!("attribute\t{to}\t0x{service:02x}\t0x{class:02x}\t0x{instance:02x}{number}{read}")
         });
     }
 

@@ -1,7 +1,7 @@
 //! The acts of the story, in order.
 
 use super::originator::{Answer, Hearer, Originator, Talker, Way, browse};
-use super::{Failure, SLACK, Stage};
+use super::{Failure, SLACK, Stage, tool};
 use crate::cip::{self, ForwardOpen, OpenReply, Reply};
 use crate::cpf;
 use crate::encap;
@@ -15,6 +15,7 @@ const CONFIGURATION: [u8; lane::CONFIGURATION_SIZE as usize] = [0x2C, 0x01, 0x10
 
 pub(super) fn play(stage: &Stage) -> Result<(), Failure> {
     browsed(stage)?;
+    tool::visits(stage)?;
     let mut display = Originator::connect(stage.target, &stage.notes.said)?;
     stage.say("display", format!("connects and has session {:08X}", display.session()));
     listens_too_early(stage, &mut display)?;
@@ -34,6 +35,7 @@ pub(super) fn play(stage: &Stage) -> Result<(), Failure> {
     heartbeat.stop();
     drop(screen);
     let status = scanner.attribute(0x01, 1, 5)?;
+    told(stage, &scanner, (0x01, 1, 5), "0x0020");
     stage.check(
         status == [0x20, 0],
         format!("the identity's status tells of a timed-out connection: 0x0020, not {status:02X?}"),
@@ -48,6 +50,11 @@ pub(super) fn play(stage: &Stage) -> Result<(), Failure> {
     let connections = stage.host.look(|adapter| adapter.connections());
     stage.check(connections.is_empty(), format!("no connection is left: {connections:?}"));
     Ok(())
+}
+
+/// Someone was told an attribute, as tshark reads it.
+fn told(stage: &Stage, to: &Originator, (class, instance, number): (u8, u8, u8), read: &str) {
+    stage.notes.said.attribute(to.address(), cip::GET_SINGLE, (class, instance, Some(number)), &[read.to_string()]);
 }
 
 /// A browser finds the device over UDP, and over TCP the same.
@@ -78,6 +85,7 @@ fn browsed(stage: &Stage) -> Result<(), Failure> {
     stage.notes.said.identity(&setup);
     stage.check(over_tcp == data, "ListIdentity over TCP tells the same");
     let name = session.attribute(0x01, 1, 7)?;
+    told(stage, &session, (0x01, 1, 7), &String::from_utf8_lossy(&setup.product_name));
     stage.check(name[1..] == setup.product_name, "attribute 7 of Identity is the product name");
     session.leave()?;
     Ok(())
@@ -130,6 +138,7 @@ fn owns(stage: &Stage, scanner: &mut Originator) -> Result<(OpenReply, SocketAdd
         matches!(told, Told::Happened(_, Event::Configured { instance: lane::CONFIGURATION, length: 4 }))
     });
     let stored = scanner.attribute(0x04, lane::CONFIGURATION as u8, 3)?;
+    told(stage, scanner, (0x04, lane::CONFIGURATION as u8, 3), "2c011027");
     stage.check(stored == CONFIGURATION, "the configuration assembly has the bytes of the open");
     stage.check(reply.triad == open.triad, "the reply names the open's triad");
     stage
@@ -221,6 +230,7 @@ fn moves(stage: &Stage, talker: &Talker, (who, ear): (&str, &Hearer), by: u32) {
 fn runs(stage: &Stage, talker: &Talker, screen: &Hearer, scanner: &mut Originator) -> Result<(), Failure> {
     moves(stage, talker, ("display", screen), 0x2A);
     let status = scanner.attribute(0x01, 1, 5)?;
+    told(stage, scanner, (0x01, 1, 5), "0x0061");
     stage.check(status == [0x61, 0], format!("the identity's status is owned and in run: 0x0061, not {status:02X?}"));
     let mark = stage.mark();
     stage.say("scanner", "goes to idle, the word stays");

@@ -5,6 +5,7 @@
 
 mod acts;
 pub mod originator;
+mod tool;
 
 use crate::cip::{Direction, ForwardOpen, Triad, assembly_path};
 use crate::host::{Config, Host, Notes};
@@ -22,6 +23,8 @@ use threshtide::{Setup, Stats};
 pub const DEVICE: Ipv4Addr = Ipv4Addr::new(127, 0, 0, 4);
 /// Where the stranger is.
 pub const STRANGER: Ipv4Addr = Ipv4Addr::new(127, 0, 0, 9);
+/// The mask of loopback.
+const MASK: Ipv4Addr = Ipv4Addr::new(255, 0, 0, 0);
 /// How much later than its timeout a connection may end: the machine may be busy.
 pub const SLACK: Duration = Duration::from_millis(500);
 
@@ -175,7 +178,7 @@ pub fn play(plan: &Plan, timeline: &Arc<Timeline>, notes: Notes) -> Result<(), F
     let (teller, told) = channel();
     let config = Config {
         address: DEVICE,
-        mask: Ipv4Addr::new(255, 0, 0, 0),
+        mask: MASK,
         port: plan.port,
         io_port: plan.io_port,
         setup: plan.setup.clone(),

@@ -96,6 +96,16 @@ impl Originator {
         }
     }
 
+    /// What a service of an object gives.
+    pub fn service(&mut self, service: u8, class: u8, instance: u8, data: &[u8]) -> io::Result<Vec<u8>> {
+        let message = [&[service, 2, 0x20, class, 0x24, instance][..], data].concat();
+        let (reply, _) = self.send(&message, None)?;
+        match reply.general {
+            0 => Ok(reply.data),
+            status => Err(not_as_expected(&format!("status {status:#04x} for service {service:#04x}"))),
+        }
+    }
+
     /// Opens, with a T→O socket of its own if one is given.
     pub fn open(&mut self, open: &ForwardOpen, socket: Option<SocketAddrV4>) -> io::Result<Answer> {
         self.said.open(self.address, open);

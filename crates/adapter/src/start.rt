@@ -1,0 +1,18 @@
+// Setup: what was lent becomes a fresh state, or stays as it was.
+use starting::checks;
+ghost use mathlib.Core.Path.{_≡_};
+ghost use Rattle.starting.specs.Block.{setupCall};
+
+#[no_mangle]
+pub extern "C" fn threshtide_setup(state: &mut [u8], block: &[u8], eds: &[u8], seed: u32) -> u64
+    ensures { λ r. ⌜ (r, now (state .exit)) ≡ setupCall (now (state .entry)) (now (block .entry)) (now (eds .entry)) seed ⌝ }
+{
+    if state.len() != 109056 {
+        return 1;
+    }
+    if !checks::accept(block, eds) {
+        return 2;
+    }
+    starting::begin(state, block, eds, seed);
+    0
+}

@@ -1,0 +1,4 @@
+pub mod Roles
+pub mod RoleLaws
+pub mod SizeLaws
+pub mod Placed

@@ -1,0 +1,50 @@
+use borrow.Author.Tests.{not-true, not-false}
+use Rattle.layout.specs.Places.{tableIn}
+use Rattle.layout.specs.Rows.{decConn}
+use Rattle.image.specs.Image.{view}
+use Rattle.checking.specs.TableLaws.{rowAt}
+use Rattle.status.specs.Status.{row-other, row-owner}
+use borrow.Author.Needs.{needs}
+use Rattle.status.proofs.running_at.Statement.{statement}
+use Rattle.status.proofs.running_at.Tie as tie
+
+sub-fixed-at : tie.Need-sub-fixed-at
+sub-fixed-at c = search needs
+
+part-fixed-at-start : tie.Need-part-fixed-at-start
+part-fixed-at-start c = search needs
+
+part-fixed-at-end : tie.Need-part-fixed-at-end
+part-fixed-at-end c = search needs
+
+fixed-at-requires : tie.Need-fixed-at-requires
+fixed-at-requires c κs = search needs
+
+is-owner-requires : tie.Need-is-owner-requires
+is-owner-requires c κs = search needs
+
+returns : tie.Need-returns
+returns c = row-other (view (c .before .before .before .before .before .args .s .now)) (decConn (rowAt (tableIn (c .before .before .before .before .before .args .s .now)) (c .before .before .before .before .before .args .i))) _ (c .before .before .fixed-at .ensures) _ (c .before .is-owner .ensures) (not-true _ (c .if1 .taken))
+
+cast-runs : tie.Need-cast-runs
+cast-runs c = search needs
+
+runs-requires : tie.Need-runs-requires
+runs-requires c κs = search needs
+
+returns-2 : tie.Need-returns-2
+returns-2 c = row-owner (view (c .before .before .before .before .before .before .before .args .s .now)) (decConn (rowAt (tableIn (c .before .before .before .before .before .before .before .args .s .now)) (c .before .before .before .before .before .before .before .args .i))) _ (c .before .before .before .before .fixed-at .ensures) _ (c .before .before .before .is-owner .ensures) (not-false _ (c .before .before .if1 .left)) _ (c .runs .ensures)
+
+pub running-at-spec : {M : Type 1} → statement M
+running-at-spec =
+    tie.close
+    (tie.spec
+    sub-fixed-at
+    part-fixed-at-start
+    part-fixed-at-end
+    fixed-at-requires
+    is-owner-requires
+    returns
+    cast-runs
+    runs-requires
+    returns-2)

@@ -1,0 +1,125 @@
+// The identity status: whether an exclusive owner is in the table, and the extended device status.
+use rules::Kind;
+ghost use mathlib.Core.Path.{_≡_};
+ghost use Prim.Native.Nat.{ℕ, _≤_, _<_};
+ghost use lib.ListN.{length};
+ghost use Rattle.cells.specs.Numbers.{le};
+ghost use Rattle.tables.specs.Tables.{rows};
+ghost use Rattle.rules.specs.Lists.{any};
+ghost use Rattle.rules.specs.State.{isOwner, contentAt};
+ghost use Rattle.rules.specs.Objects.{owned, running, extendedStatus, identityStatus};
+ghost use Rattle.layout.specs.Rows.{decConn};
+ghost use Rattle.layout.specs.Places.{tableIn};
+ghost use Rattle.image.specs.Image.{view};
+ghost use Rattle.checking.specs.TableLaws.{rowAt};
+ghost use Rattle.application.specs.Outcomes.{Passed};
+ghost use Rattle.status.specs.Status.{ownerIn, runsIn};
+
+fn is_owner(k: Kind) -> bool
+    ensures { λ x. ⌜ x ≡ isOwner k ⌝ }
+{
+    match k {
+        Kind::Owner => true,
+        Kind::InputOnly => false,
+        Kind::ListenOnly => false,
+    }
+}
+
+fn owner_at(r: &[u8], i: usize) -> bool
+    requires { ⌜ (i < 32) × (2304 ≤ length (now r)) ⌝ }
+    ensures { λ x. ⌜ x ≡ ownerIn (decConn (rowAt (now (r .entry)) i)) ⌝ }
+{
+    let f = layout::fixed_at(r, i);
+    let k = f.kind;
+    is_owner(k)
+}
+
+fn any_owner(r: &[u8], n: usize) -> bool
+    requires { ⌜ (n ≤ 32) × (2304 ≤ length (now r)) ⌝ }
+    ensures { λ x. ⌜ x ≡ any ownerIn (rows 70 decConn n (now (r .entry))) ⌝ }
+{
+    let mut i = 0;
+    while i < n {
+        if owner_at(r, i) {
+            return true;
+        }
+        i += 1;
+    }
+    false
+}
+
+pub fn is_owned(s: &[u8]) -> bool
+    requires { ⌜ Passed (now s) ⌝ }
+    ensures { λ x. ⌜ x ≡ owned (view (now (s .entry))) ⌝ }
+{
+    let n = cells::u16_at(s, 224) as usize;
+    any_owner(&s[256..2560], n)
+}
+
+// Whether the assembly at that place is in run; a place past the list is not.
+fn runs(s: &[u8], i: usize) -> bool
+    requires { ⌜ Passed (now s) ⌝ }
+    ensures { λ x. ⌜ x ≡ contentAt (view (now (s .entry))) i .run ⌝ }
+{
+    let n = cells::u8_at(s, 0) as usize;
+    if i >= n {
+        return false;
+    }
+    cells::u8_at(s, 240 + i) % 2 != 0
+}
+
+fn running_at(s: &[u8], i: usize) -> bool
+    requires { ⌜ Passed (now s) × (i < le 2 (now s) 224) ⌝ }
+    ensures { λ x. ⌜ x ≡ runsIn (view (now (s .entry))) (decConn (rowAt (tableIn (now (s .entry))) i)) ⌝ }
+{
+    let f = layout::fixed_at(&s[256..2560], i);
+    let k = f.kind;
+    if !is_owner(k) {
+        return false;
+    }
+    runs(s, f.output as usize)
+}
+
+pub fn is_running(s: &[u8]) -> bool
+    requires { ⌜ Passed (now s) ⌝ }
+    ensures { λ x. ⌜ x ≡ running (view (now (s .entry))) ⌝ }
+{
+    let n = cells::u16_at(s, 224) as usize;
+    let mut i = 0;
+    while i < n {
+        if running_at(s, i) {
+            return true;
+        }
+        i += 1;
+    }
+    false
+}
+
+// 2 at least one faulted connection, 3 no connections, 6 at least one in run, 7 all idle.
+pub fn extended_status(s: &[u8]) -> u16
+    requires { ⌜ Passed (now s) ⌝ }
+    ensures { λ x. ⌜ (x ≡ extendedStatus (view (now (s .entry)))) × (x < 16) ⌝ }
+{
+    if cells::u16_at(s, 226) != 0 {
+        return 2;
+    }
+    if cells::u16_at(s, 224) == 0 {
+        return 3;
+    }
+    if is_running(s) {
+        return 6;
+    }
+    7
+}
+
+// Owned is bit 0, the extended device status bits 4 to 7.
+pub fn identity_status(s: &[u8]) -> u16
+    requires { ⌜ Passed (now s) ⌝ }
+    ensures { λ x. ⌜ x ≡ identityStatus (view (now (s .entry))) ⌝ }
+{
+    let extended = extended_status(s);
+    if is_owned(s) {
+        return 1 + 16 * extended;
+    }
+    16 * extended
+}
