@@ -1,9 +1,5 @@
 // The application's side: inputs in, outputs and events out, and what it may read.
 use application::answers;
-use application::assemblies;
-use application::counts;
-use application::queue;
-use application::table;
 ghost use mathlib.Core.Path.{_≡_};
 ghost use Rattle.rules.specs.Host.{setInputCall, outputCall, assemblyAnswer, nextEventCall, connectionsAnswer, statsAnswer};
 ghost use Rattle.image.specs.Lift.{lifted, liftedOut, liftedRead};
@@ -23,7 +19,7 @@ pub extern "C" fn threshtide_set_input(state: &mut [u8], instance: u32, bytes: &
     if !image::test_state(state) {
         return 1;
     }
-    answers::number(assemblies::set_input(state, instance, bytes))
+    answers::number(inputs::set_input(state, instance, bytes))
 }
 
 #[no_mangle]
@@ -33,7 +29,7 @@ pub extern "C" fn threshtide_output(state: &mut [u8], instance: u32, out: &mut [
     if !image::test_state(state) {
         return 1;
     }
-    answers::number(assemblies::output(state, instance, out))
+    answers::number(outputs::output(state, instance, out))
 }
 
 #[no_mangle]
@@ -43,7 +39,7 @@ pub extern "C" fn threshtide_assembly(state: &[u8], kind: u8, instance: u32, out
     if !image::test_state(state) {
         return 1;
     }
-    answers::number(assemblies::assembly(state, kind, instance, out))
+    answers::number(outputs::assembly(state, kind, instance, out))
 }
 
 #[no_mangle]
@@ -73,5 +69,5 @@ pub extern "C" fn threshtide_connections(state: &[u8], out: &mut [u8]) -> u64
     if !image::test_state(state) {
         return 1;
     }
-    answers::number(table::connections(state, out))
+    answers::number(listing::connections(state, out))
 }

@@ -1,9 +1,6 @@
 pub mod Outcomes
 pub mod Places
 pub mod Ways
-pub mod Counts
-pub mod Queue
 pub mod PlaceLaws
 pub mod Assemblies
-pub mod Table
 pub mod Left

@@ -32,11 +32,11 @@ use Rattle.image.specs.Kept.{suits-table, suits-removed, suits-content, suits-f
 use Rattle.image.specs.Changes.{suits-pushed}
 use Rattle.image.specs.Searches.{find-at, change-at-place}
 use Rattle.records.specs.Fields.{length-info}
-use Rattle.ending.specs.RowTests.{place-none}
-use Rattle.ending.specs.Turns.{told}
-use Rattle.ending.specs.Hands.{handed, idled}
-use Rattle.ending.specs.Listeners.{endsFor, ended}
-use Rattle.ending.specs.Removals.{goneAt, closed-is, expired-is}
+use Rattle.lookup.specs.RowTests.{place-none}
+use Rattle.removal.specs.Turns.{told}
+use Rattle.removal.specs.Hands.{handed, idled}
+use Rattle.removal.specs.Listeners.{endsFor, ended}
+use Rattle.removal.specs.Removals.{goneAt, closed-is, expired-is}
 
 -- ---- each step leaves a state that can be stored
 

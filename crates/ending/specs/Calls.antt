@@ -31,11 +31,11 @@ use Rattle.image.specs.Image.{view, store, tested}
 use Rattle.image.specs.Updates.{noConn}
 use Rattle.image.specs.Holds.{Held, held-tested}
 use Rattle.image.specs.Lift.{lifted, liftedOut, lifted-done, lifted-kept, out-done, out-kept}
-use Rattle.ending.specs.declared.Found.{Found}
-use Rattle.ending.specs.declared.Found.the-variants.{At, Nothing}
-use Rattle.ending.specs.RowTests.{foundOf, place-any, place-never}
-use Rattle.ending.specs.Turns.{Turns, found-there, found-nowhere}
-use Rattle.ending.specs.Removals.{goneAt, closed-is}
+use Rattle.lookup.specs.declared.Found.{Found}
+use Rattle.lookup.specs.declared.Found.the-variants.{At, Nothing}
+use Rattle.lookup.specs.RowTests.{foundOf, place-any, place-never}
+use Rattle.removal.specs.Turns.{Turns, found-there, found-nowhere}
+use Rattle.removal.specs.Removals.{goneAt, closed-is}
 use Rattle.ending.specs.Expiry.{EndsAll}
 
 -- a call's outcome over a held state: the answer's number, the state left and the answer's bytes

@@ -12,8 +12,8 @@ use Rattle.rules.specs.Removal.{expiredFirst, expireEffect}
 use Rattle.image.specs.Image.{store}
 use Rattle.image.specs.Holds.{Held, Becomes, conns-held}
 use Rattle.image.specs.Kept.{suits-fault}
-use Rattle.ending.specs.Turns.{Turns, turn}
-use Rattle.ending.specs.Removals.{Ends}
+use Rattle.removal.specs.Turns.{Turns, turn}
+use Rattle.removal.specs.Removals.{Ends}
 
 pub turn-fault : (s s′ : List ℕ) (b : Bool) → Becomes s s′ (withFault b) → Turns s s′ (withFault b)
 turn-fault s s′ b d = turn s s′ (withFault b) d (λ st l w. suits-fault st l w b) (λ st. omega arith)

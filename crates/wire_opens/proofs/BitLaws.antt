@@ -12,17 +12,8 @@ mask1 v = and-mask v 1
 pub mask2 : (v : ℕ) → bitAnd v 3 ≡ v % 4
 mask2 v = and-mask v 2
 
-pub mask4 : (v : ℕ) → bitAnd v 15 ≡ v % 16
-mask4 v = and-mask v 4
-
-pub mask7 : (v : ℕ) → bitAnd v 127 ≡ v % 128
-mask7 v = and-mask v 7
-
 pub mask9 : (v : ℕ) → bitAnd v 511 ≡ v % 512
 mask9 v = and-mask v 9
-
-pub mask10 : (v : ℕ) → bitAnd v 1023 ≡ v % 1024
-mask10 v = and-mask v 10
 
 pub mask16 : (v : ℕ) → bitAnd v 65535 ≡ v % 65536
 mask16 v = and-mask v 16

@@ -1,17 +1,28 @@
 -- Where a request is there and where not.
 use Prim.Native.Nat.{ℕ, _+_, _*_, _<_, _≤_}
-use mathlib.Core.Path.{_≡_}
+use mathlib.Core.Path.{_≡_, ap, sym}
 use mathlib.Core.Bool.{Bool, true, false}
 use mathlib.Core.List.{List}
 use lib.ListN.{length}
 use borrow.Author.Tests.{le-leb, lt-leb}
 use Rattle.ids.specs.declared.Triad.{Triad}
 use Rattle.cells.specs.Numbers.{le}
+use Rattle.wire_opens.specs.Params.{smallParams, largeParams, paramsAt}
 use Rattle.wire_opens.specs.Requests.{limit, widthOf, triadAt, fieldsOf, openWith, openOf, closeOf}
 use Rattle.wire_opens.specs.declared.ForwardOpen.{ForwardOpen}
 use Rattle.wire_opens.specs.declared.OpenAnswer.{OpenAnswer}
 use Rattle.wire_opens.specs.declared.OpenAnswer.the-variants.{Open, NoOpen}
 use Rattle.wire_opens.specs.declared.CloseAnswer.the-variants.{Close, NoClose}
+
+-- the parameters by the form of the open
+module _ (large : Bool) (s : List ℕ) (at : ℕ) where
+  pub large-at : large ≡ true → largeParams (le 4 s at) ≡ paramsAt large s at
+  unfolding paramsAt
+  large-at e = ap (λ (b : Bool). paramsAt b s at) (sym e)
+
+  pub small-at : large ≡ false → smallParams (le 2 s at) ≡ paramsAt large s at
+  unfolding paramsAt
+  small-at e = ap (λ (b : Bool). paramsAt b s at) (sym e)
 
 module _ (large : Bool) (s : List ℕ) (w : ℕ) where
   pub open-short : length s < 32 + w + w + 2 * le 1 s (31 + w + w) → NoOpen ≡ openWith large s w

@@ -14,6 +14,16 @@ use Rattle.cells.specs.declared.Written.{Written}
 use Rattle.cells.specs.declared.Written.the-variants.{Bytes, NoRoom}
 use Rattle.wire_replies.specs.Replies.{withBit7, extended, replyHead, shortString}
 
+-- a put over what was written before; and one of a value that is known by another name
+pub put-on : (w at v : ℕ) {l l′ l″ : List ℕ} → l″ ≡ put w l′ at v → l′ ≡ l → l″ ≡ put w l at v
+put-on w at v e d = e ∙ ap (λ (x : List ℕ). put w x at v) d
+
+pub fields-on : (ws : List ℕ) (at : ℕ) (vs : List ℕ) {l l′ l″ : List ℕ} → l″ ≡ putFields ws l′ at vs → l′ ≡ l → l″ ≡ putFields ws l at vs
+fields-on ws at vs e d = e ∙ ap (λ (x : List ℕ). putFields ws x at vs) d
+
+pub value-as : (w at : ℕ) (l : List ℕ) {v v′ : ℕ} {l′ : List ℕ} → l′ ≡ put w l at v → v ≡ v′ → l′ ≡ put w l at v′
+value-as w at l e d = e ∙ ap (put w l at) d
+
 module _ (ws vs l : List ℕ) (t : T (Laid ws vs)) (n : ℕ) (e : sum ws ≡ n) where
   long : length (encFields ws vs) ≡ n
   long = length-encFields ws vs t ∙ e

@@ -1,5 +1,5 @@
 use Rattle.rules.specs.Removal.{connTriad}
-use Rattle.ending.specs.Turns.{found-in}
+use Rattle.removal.specs.Turns.{found-in}
 use Rattle.ending.specs.Calls.{close-nothing, close-found}
 use borrow.Author.Needs.{needs}
 use Rattle.ending.proofs.close.Statement.{statement}

@@ -3,7 +3,7 @@ use mathlib.Core.Path.{_≡_, sym, _∙_}
 use Prim.Native.Nat.{_≤_, _-_}
 use borrow.Author.Tests.{not-true, not-false}
 use Rattle.cells.specs.Numbers.{le}
-use Rattle.ending.specs.Turns.{Fewer, fewer-none, fewer-both}
+use Rattle.removal.specs.Turns.{Fewer, fewer-none, fewer-both}
 use Rattle.ending.specs.Expiry.{Going, rest-start, rest-turn, rest-end, rest-stop}
 use Rattle.ending.proofs.expire_all.Statement.{statement}
 use Rattle.ending.proofs.expire_all.Tie as tie

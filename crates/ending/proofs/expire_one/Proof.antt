@@ -2,8 +2,8 @@ use native.Mathlib.Omega.{arith}
 use mathlib.Core.Bool.{true}
 use Rattle.cells.specs.Numbers.{le}
 use Rattle.rules.specs.Removal.{expired}
-use Rattle.ending.specs.Turns.{found-in, fewer-none, fewer-both, fewer-kept}
-use Rattle.ending.specs.Removals.{ends-none, ends-one}
+use Rattle.removal.specs.Turns.{found-in, fewer-none, fewer-both, fewer-kept}
+use Rattle.removal.specs.Removals.{ends-none, ends-one}
 use Rattle.ending.specs.Expiry.{turn-fault}
 use borrow.Author.Needs.{needs}
 use Rattle.ending.proofs.expire_one.Statement.{statement}

@@ -1,4 +1,4 @@
-use mathlib.Core.Path.{_∙_}
+use mathlib.Core.Path.{sym, _∙_}
 use Rattle.wire_items.proofs.ItemLaws.{begins, uncounted}
 use borrow.Author.Needs.{needs}
 use Rattle.wire_items.proofs.check_items.Statement.{statement}
@@ -17,10 +17,10 @@ enum-known-o : tie.Need-enum-known-o
 enum-known-o c = search needs
 
 returns : tie.Need-returns
-returns c = c .whole-from .ensures ∙ begins _ _ (cc)
+returns c = c .whole-from .ensures ∙ begins _ _ (sym (c .before .before .c .given .1) ∙ c .before .before .before .before .begin .ensures)
 
 returns-2 : tie.Need-returns-2
-returns-2 c = uncounted _ _ (cc)
+returns-2 c = uncounted _ _ (sym (c .before .o .given .1) ∙ c .before .before .before .begin .ensures)
 
 pub check-items-spec : {M : Type 1} → statement M
 check-items-spec =

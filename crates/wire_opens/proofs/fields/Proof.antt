@@ -1,3 +1,4 @@
+use Prim.Native.Nat.{_+_}
 use borrow.Author.Needs.{needs}
 use Rattle.wire_opens.specs.Requests.{fieldsOf, placeAt}
 use Rattle.wire_opens.proofs.fields.Statement.{statement}
@@ -50,7 +51,17 @@ path-len-requires c κs = search needs
 
 returns : tie.Need-returns
 unfolding fieldsOf placeAt
-returns c = cc
+returns c = λ i.
+    record {
+      otid = record { 0 = c .before .before .before .before .before .before .before .u32-at .ensures i };
+      toid = record { 0 = c .before .before .before .before .before .before .u32-at2 .ensures i };
+      triad = c .before .before .before .before .before .triad-at .ensures i;
+      multiplier = c .before .before .before .before .u8-at .ensures i;
+      ot = c .before .before .before .way-at .ensures i;
+      to = c .before .before .way-at2 .ensures i;
+      transport = c .before .u8-at2 .ensures i;
+      path = record { start = 32 + c .before .before .before .before .before .before .before .before .before .args .w + c .before .before .before .before .before .before .before .before .before .args .w; len = c .path-len .ensures .0 i };
+    }
 
 pub fields-spec : {M : Type 1} → statement M
 fields-spec =

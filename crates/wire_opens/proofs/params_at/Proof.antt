@@ -1,5 +1,7 @@
 use borrow.Author.Needs.{needs}
-use Rattle.wire_opens.specs.Params.{paramsAt}
+use mathlib.Core.Path.{ap, _∙_}
+use Rattle.wire_opens.specs.Params.{smallParams, largeParams}
+use Rattle.wire_opens.proofs.Returns.{large-at, small-at}
 use Rattle.wire_opens.proofs.params_at.Statement.{statement}
 use Rattle.wire_opens.proofs.params_at.Tie as tie
 
@@ -19,12 +21,10 @@ small-params-requires : tie.Need-small-params-requires
 small-params-requires c κs = search needs
 
 returns : tie.Need-returns
-unfolding paramsAt
-returns c = rw (c .before .before .if1 .taken) (cc)
+returns c = c .large-params .ensures ∙ ap largeParams (c .before .u32-at .ensures) ∙ large-at _ _ _ (c .before .before .if1 .taken)
 
 returns-2 : tie.Need-returns-2
-unfolding paramsAt
-returns-2 c = rw (c .before .before .if1 .left) (cc)
+returns-2 c = c .small-params .ensures ∙ ap smallParams (c .before .u16-at .ensures) ∙ small-at _ _ _ (c .before .before .if1 .left)
 
 pub params-at-spec : {M : Type 1} → statement M
 params-at-spec =

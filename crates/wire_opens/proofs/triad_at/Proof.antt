@@ -20,7 +20,7 @@ u32-at-requires c κs = search needs
 
 returns : tie.Need-returns
 unfolding triadAt
-returns c = cc
+returns c = λ i. record { serial = c .before .before .u16-at .ensures i; vendor = c .before .u16-at2 .ensures i; originator = c .u32-at .ensures i }
 
 pub triad-at-spec : {M : Type 1} → statement M
 triad-at-spec =

@@ -14,7 +14,7 @@ params-at-requires c κs = search needs
 
 returns : tie.Need-returns
 unfolding wayAt
-returns c = cc
+returns c = λ i. record { rpi = c .before .u32-at .ensures i; params = c .params-at .ensures i }
 
 pub way-at-spec : {M : Type 1} → statement M
 way-at-spec = tie.close (tie.spec u32-at-requires add-params-at params-at-requires returns)

@@ -19,7 +19,7 @@ same-length c = search needs
 
 returns-2 : tie.Need-returns-2
 unfolding replyHead sum
-returns-2 c = all-put headWidths (headFields _ _ 0) _ tt 4 refl _ (omega arith) (cc)
+returns-2 c = all-put headWidths (headFields _ _ 0) _ tt 4 refl _ (omega arith) (c .before .before .put-head .ensures)
 
 pub head-alone-spec : {M : Type 1} → statement M
 head-alone-spec = tie.close (tie.spec returns put-head-requires same-length returns-2)

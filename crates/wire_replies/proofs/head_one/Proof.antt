@@ -2,7 +2,7 @@ use mathlib.Core.List.{[], _∷_, _++_}
 use mathlib.Core.Path.{refl}
 use native.Mathlib.Omega.{arith}
 use borrow.Author.Needs.{needs}
-use Rattle.wire_replies.proofs.WriteLaws.{none-put, all-put}
+use Rattle.wire_replies.proofs.WriteLaws.{none-put, all-put, put-on}
 use Rattle.wire_replies.specs.Replies.{replyHead, headWidths, headFields}
 use Rattle.cells.specs.Records.{sum}
 use Rattle.wire_replies.proofs.head_one.Statement.{statement}
@@ -23,7 +23,8 @@ same-length c = search needs
 
 returns-2 : tie.Need-returns-2
 unfolding replyHead sum
-returns-2 c = all-put (headWidths ++ (2 ∷ [])) (headFields _ _ 1 ++ (_ ∷ [])) _ tt 6 refl _ (omega arith) (cc)
+returns-2 c = all-put (headWidths ++ (2 ∷ [])) (headFields _ _ 1 ++ (_ ∷ [])) _ tt 6 refl _ (omega arith)
+    (put-on 2 4 (c .before .before .before .before .before .before .before .before .before .before .args .first) (c .before .before .put-u16 .ensures) (c .before .before .before .before .before .before .put-head .ensures))
 
 pub head-one-spec : {M : Type 1} → statement M
 head-one-spec =

@@ -1,8 +1,9 @@
+use mathlib.Core.List.{[], _∷_}
 use mathlib.Core.Path.{refl}
 use native.Mathlib.Omega.{arith}
 use borrow.Author.Needs.{needs}
-use Rattle.wire_replies.proofs.WriteLaws.{none-put, all-put}
-use Rattle.wire_replies.specs.Replies.{openReply, openReplyWidths, openReplyFields}
+use Rattle.wire_replies.proofs.WriteLaws.{none-put, all-put, put-on, fields-on}
+use Rattle.wire_replies.specs.Replies.{triadWidths, triadFields, openReply, openReplyWidths, openReplyFields}
 use Rattle.cells.specs.Records.{sum}
 use Rattle.wire_replies.proofs.open_reply.Statement.{statement}
 use Rattle.wire_replies.proofs.open_reply.Tie as tie
@@ -34,7 +35,12 @@ same-length c = search needs
 
 returns-2 : tie.Need-returns-2
 unfolding openReply sum
-returns-2 c = all-put openReplyWidths (openReplyFields _ _ _ _ _) _ tt 26 refl _ (omega arith) (cc)
+returns-2 c = all-put openReplyWidths (openReplyFields _ _ _ _ _) _ tt 26 refl _ (omega arith)
+    (fields-on (1 ∷ 1 ∷ []) 24 (0 ∷ 0 ∷ []) (c .before .before .put-zeros .ensures)
+    (put-on 4 20 (c .before .before .before .before .before .before .before .before .before .before .before .before .before .before .before .before .before .before .before .before .before .before .before .before .before .before .args .torpi) (c .before .before .before .before .before .before .put-u324 .ensures)
+    (put-on 4 16 (c .before .before .before .before .before .before .before .before .before .before .before .before .before .before .before .before .before .before .before .before .before .before .before .before .before .before .args .otrpi) (c .before .before .before .before .before .before .before .before .before .before .put-u323 .ensures)
+    (fields-on triadWidths 8 (triadFields (c .before .before .before .before .before .before .before .before .before .before .before .before .before .before .before .before .before .before .before .before .before .before .before .before .before .before .args .triad)) (c .before .before .before .before .before .before .before .before .before .before .before .before .before .before .put-triad .ensures)
+    (put-on 4 4 (c .before .before .before .before .before .before .before .before .before .before .before .before .before .before .before .before .before .before .before .before .before .before .before .before .before .before .args .toid .0) (c .before .before .before .before .before .before .before .before .before .before .before .before .before .before .before .before .before .before .put-u322 .ensures) (c .before .before .before .before .before .before .before .before .before .before .before .before .before .before .before .before .before .before .before .before .before .before .put-u32 .ensures))))))
 
 pub open-reply-spec : {M : Type 1} → statement M
 open-reply-spec =

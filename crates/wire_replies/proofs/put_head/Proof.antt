@@ -1,3 +1,5 @@
+use Rattle.wire_replies.proofs.WriteLaws.{value-as}
+use Rattle.cells.specs.Records.{puts, done, step}
 use borrow.Author.Needs.{needs}
 use Rattle.wire_replies.proofs.put_head.Statement.{statement}
 use Rattle.wire_replies.proofs.put_head.Tie as tie
@@ -21,7 +23,10 @@ same-length : tie.Need-same-length
 same-length c = search needs
 
 returns : tie.Need-returns
-returns c = cc
+returns c =
+    puts
+    (step (value-as 1 0 (c .before .before .before .before .before .before .before .before .before .before .before .before .before .before .before .before .before .before .args .s .now) (c .before .before .before .before .before .before .before .before .before .before .before .before .before .before .put-u8 .ensures) (c .before .before .before .before .before .before .before .before .before .before .before .before .before .before .before .reply-service .ensures))
+    (step (c .before .before .before .before .before .before .before .before .before .before .put-u82 .ensures) (step (c .before .before .before .before .before .before .put-u83 .ensures) (step (c .before .before .put-u84 .ensures) done))))
 
 pub put-head-spec : {M : Type 1} → statement M
 put-head-spec =

@@ -1,3 +1,4 @@
+use Rattle.cells.specs.Records.{puts, done, step}
 use borrow.Author.Needs.{needs}
 use Rattle.wire_replies.proofs.put_triad.Statement.{statement}
 use Rattle.wire_replies.proofs.put_triad.Tie as tie
@@ -24,7 +25,8 @@ same-length : tie.Need-same-length
 same-length c = search needs
 
 returns : tie.Need-returns
-returns c = cc
+returns c =
+    puts (step (c .before .before .before .before .before .before .before .before .before .before .put-u16 .ensures) (step (c .before .before .before .before .before .before .put-u162 .ensures) (step (c .before .before .put-u32 .ensures) done)))
 
 pub put-triad-spec : {M : Type 1} → statement M
 put-triad-spec =

@@ -1,3 +1,4 @@
+use Rattle.cells.specs.Records.{puts, done, step}
 use borrow.Author.Needs.{needs}
 use Rattle.wire_replies.proofs.put_zeros.Statement.{statement}
 use Rattle.wire_replies.proofs.put_zeros.Tie as tie
@@ -15,7 +16,7 @@ same-length : tie.Need-same-length
 same-length c = search needs
 
 returns : tie.Need-returns
-returns c = cc
+returns c = puts (step (c .before .before .before .before .before .before .put-u8 .ensures) (step (c .before .before .put-u82 .ensures) done))
 
 pub put-zeros-spec : {M : Type 1} → statement M
 put-zeros-spec =

@@ -1,0 +1,43 @@
+-- The counters, as code writes them.
+use Prim.Native.Nat.{ℕ, _*_, _^_, _≤_, _<_}
+use mathlib.Core.Bool.{true}
+use mathlib.Core.List.{List, [], _∷_, _++_}
+use mathlib.Core.Path.{_≡_, refl, sym, _∙_}
+use native.Mathlib.Omega.{arith}
+use lib.ListN.{length}
+use lib.Seq.{sets}
+use Rattle.cells.specs.Numbers.{le, put, bytesLe}
+use Rattle.cells.specs.Records.{encFields, putFields-eq, puts, done, step}
+use Rattle.rules.specs.Answers.{Wrote, NoRoom}
+use Rattle.rules.specs.Host.{statsBytes, statsAnswer}
+use Rattle.image.specs.Image.{view, tested}
+use Rattle.image.specs.Lift.{liftedRead}
+use Rattle.application.specs.Ways.{fits-in, fits-not, read-wrote, read-no}
+
+-- three numbers of 8 bytes, one behind the other
+length-three : (a b c : ℕ) → length (bytesLe 8 a ++ bytesLe 8 b ++ bytesLe 8 c) ≡ 24
+unfolding bytesLe
+length-three a b c = refl
+
+three-put : (o o₁ o₂ o₃ : List ℕ) (a b c : ℕ) → o₁ ≡ put 8 o 0 a → o₂ ≡ put 8 o₁ 8 b → o₃ ≡ put 8 o₂ 16 c
+    → o₃ ≡ sets o 0 (bytesLe 8 a ++ bytesLe 8 b ++ bytesLe 8 c)
+unfolding encFields bytesLe
+three-put o o₁ o₂ o₃ a b c e₁ e₂ e₃ =
+    puts (step e₁ (step e₂ (step e₃ done))) ∙ putFields-eq (8 ∷ 8 ∷ 8 ∷ []) o 0 (a ∷ b ∷ c ∷ [])
+
+module _ (s out : List ℕ) (t : tested s ≡ true) where
+  pub stats-short : length out < 24 → (8, out) ≡ liftedRead statsAnswer s out
+  unfolding statsAnswer view
+  stats-short h =
+      let n = length-three (le 8 s 192) (le 8 s 200) (le 8 s 208) in
+      read-no s out t statsAnswer NoRoom (fits-not (length out) (statsBytes (view s .counters)) (Wrote (statsBytes (view s .counters))) (omega arith))
+
+  pub stats-wrote : 24 ≤ length out → (o₁ o₂ o₃ : List ℕ) (a b c : ℕ) → a ≡ le 8 s 192 → b ≡ le 8 s 200 → c ≡ le 8 s 208
+      → o₁ ≡ put 8 out 0 a → o₂ ≡ put 8 o₁ 8 b → o₃ ≡ put 8 o₂ 16 c → (2 ^ 8 * 24, o₃) ≡ liftedRead statsAnswer s out
+  unfolding statsAnswer view
+  stats-wrote h o₁ o₂ o₃ a b c ea eb ec e₁ e₂ e₃ =
+      let n = length-three (le 8 s 192) (le 8 s 200) (le 8 s 208) in
+      read-wrote s out t statsAnswer 24 o₃ (statsBytes (view s .counters))
+      (fits-in (length out) (statsBytes (view s .counters)) (Wrote (statsBytes (view s .counters))) (omega arith))
+      (sym n)
+      (three-put out o₁ o₂ o₃ a b c e₁ e₂ e₃ ∙ (λ i. sets out 0 (bytesLe 8 (ea i) ++ bytesLe 8 (eb i) ++ bytesLe 8 (ec i))))

@@ -1,0 +1,58 @@
+use native.Mathlib.Omega.{arith}
+use Rattle.inputs.specs.Inputs.{input-long, input-set}
+use borrow.Author.Needs.{needs}
+use Rattle.inputs.proofs.fill_input.Statement.{statement}
+use Rattle.inputs.proofs.fill_input.Tie as tie
+
+size-at-requires : tie.Need-size-at-requires
+size-at-requires c κs = search needs
+
+cast-n : tie.Need-cast-n
+cast-n c = search needs
+
+same-length : tie.Need-same-length
+same-length c = search needs
+
+returns : tie.Need-returns
+returns c =
+    let a = c .before .before .before .before .before .args in
+    input-long (a .s .now) (c .before .before .before .before .before .pre .0 .test) (λ j. omega (arith, c .before .before .before .before .slice-known .given j)) (a .i) (c .before .before .before .before .before .pre .1) (a .d .now) _ (c .before .size-at .ensures) (c .if1 .taken)
+
+mul-a : tie.Need-mul-a
+mul-a c = search needs
+
+add-a : tie.Need-add-a
+add-a c = search needs
+
+copy-in-requires : tie.Need-copy-in-requires
+copy-in-requires c κs = search needs
+
+add-clear : tie.Need-add-clear
+add-clear c = search needs
+
+clear-requires : tie.Need-clear-requires
+clear-requires c κs = search needs
+
+same-length-2 : tie.Need-same-length-2
+same-length-2 c = search needs
+
+returns-2 : tie.Need-returns-2
+returns-2 c =
+    let a = c .before .before .before .before .before .before .before .before .before .before .before .before .before .args in
+    input-set (a .s .now) (c .before .before .before .before .before .before .before .before .before .before .before .before .before .pre .0 .test) (λ j. omega (arith, c .before .before .before .before .before .before .before .before .before .before .before .before .slice-known .given j)) (a .i) (c .before .before .before .before .before .before .before .before .before .before .before .before .before .pre .1) (a .d .now) _ (c .before .before .before .before .before .before .before .before .before .size-at .ensures) (c .before .before .before .before .before .before .before .before .if1 .left) _ _ (c .before .before .before .before .before .before .copy-in .ensures) (c .before .before .clear .ensures)
+
+pub fill-input-spec : {M : Type 1} → statement M
+fill-input-spec =
+    tie.close
+    (tie.spec
+    size-at-requires
+    cast-n
+    same-length
+    returns
+    mul-a
+    add-a
+    copy-in-requires
+    add-clear
+    clear-requires
+    same-length-2
+    returns-2)

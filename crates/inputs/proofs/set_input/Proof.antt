@@ -1,0 +1,61 @@
+use mathlib.Core.Path.{ap}
+use native.Mathlib.Omega.{arith}
+use Rattle.application.specs.Places.{placeIn}
+use Rattle.application.specs.PlaceLaws.{setup-ready, found-is, found-in}
+use Rattle.inputs.specs.Inputs.{input-none, input-some}
+use borrow.Author.Needs.{needs}
+use Rattle.inputs.proofs.set_input.Statement.{statement}
+use Rattle.inputs.proofs.set_input.Tie as tie
+
+sub-find : tie.Need-sub-find
+sub-find c = search needs
+
+part-find-start : tie.Need-part-find-start
+part-find-start c = search needs
+
+part-find-end : tie.Need-part-find-end
+part-find-end c = search needs
+
+find-requires : tie.Need-find-requires
+find-requires c κs = setup-ready (c .before .before .before .before .args .s .now) (c .before .before .before .before .pre .ready)
+
+enum-told : tie.Need-enum-told
+enum-told c = search needs
+
+enum-known-f : tie.Need-enum-known-f
+enum-known-f c = search needs
+
+fill-input-requires : tie.Need-fill-input-requires
+fill-input-requires c κs = let a = c .before .before .before .before .before .before .before .before .before .args in (c .before .before .before .before .before .before .before .before .before .pre, found-in (a .s .now) 1 (a .instance) (c .before .before .before .before .find .result) (c .before .before .before .before .find .ensures) _ (c .before .before .f .given .1))
+
+same-length : tie.Need-same-length
+same-length c = search needs
+
+returns : tie.Need-returns
+returns c =
+    let a = c .before .before .before .before .before .before .before .args in let r = c .before .before .find in
+    input-none (a .s .now) (a .d .now) (c .before .before .before .before .before .before .before .pre .test) (a .instance) (placeIn (r .result)) (found-is (a .s .now) 1 (a .instance) (r .result) (r .ensures)) (λ j. omega (arith, c .before .before .before .before .before .before .slice-known .given j)) (ap placeIn (c .enum-told .given .1))
+
+same-length-2 : tie.Need-same-length-2
+same-length-2 c = search needs
+
+returns-2 : tie.Need-returns-2
+returns-2 c =
+    let a = c .before .before .before .before .before .before .before .before .before .before .before .before .args in let r = c .before .before .before .before .before .before .before .find in
+    input-some (a .s .now) (a .d .now) (c .before .before .before .before .before .before .before .before .before .before .before .before .pre .test) (a .instance) (placeIn (r .result)) (found-is (a .s .now) 1 (a .instance) (r .result) (r .ensures)) _ (ap placeIn (c .before .before .before .before .before .f .given .1)) _ (c .before .before .fill-input .ensures)
+
+pub set-input-spec : {M : Type 1} → statement M
+set-input-spec =
+    tie.close
+    (tie.spec
+    sub-find
+    part-find-start
+    part-find-end
+    find-requires
+    enum-told
+    enum-known-f
+    fill-input-requires
+    same-length
+    returns
+    same-length-2
+    returns-2)

@@ -1,0 +1,52 @@
+// Inputs, as the application gives them.
+use application::answers::Outcome;
+use application::places;
+use application::places::Found;
+ghost use mathlib.Core.Path.{_≡_};
+ghost use Prim.Native.Nat.{_+_, _≤_, _<_};
+ghost use lib.ListN.{length, replicate};
+ghost use lib.Seq.{sets};
+ghost use Rattle.cells.specs.Numbers.{le};
+ghost use Rattle.rules.specs.Host.{setInputCall};
+ghost use Rattle.image.specs.Lift.{lifted};
+ghost use Rattle.application.specs.Outcomes.{outcomeNumber, Passed};
+ghost use Rattle.application.specs.Places.{inputSetAt};
+
+// n bytes from `at` on made zero.
+fn clear(s: &mut [u8], at: usize, n: usize)
+    requires { ⌜ at + n ≤ length (now s) ⌝ }
+    ensures { λ _. ⌜ now (s .exit) ≡ sets (now (s .entry)) at (replicate n 0) ⌝ }
+{
+    let mut k = 0;
+    while k < n {
+        s[at + k] = 0;
+        k += 1;
+    }
+}
+
+// The input at that place takes the bytes; the rest of it is zero.
+fn fill_input(s: &mut [u8], i: usize, d: &[u8]) -> Outcome
+    requires { ⌜ Passed (now s) × (i < le 1 (now s) 0) ⌝ }
+    ensures { λ r. ⌜ (outcomeNumber r, now (s .exit)) ≡ lifted (inputSetAt i (now (d .entry))) (now (s .entry)) ⌝ }
+{
+    let n = layout::size_at(s, i) as usize;
+    let m = d.len();
+    if m > n {
+        return Outcome::TooLong;
+    }
+    let a = 35328 + i * 512;
+    cells::copy_in(s, a, d);
+    clear(s, a + m, n - m);
+    Outcome::Done
+}
+
+pub fn set_input(s: &mut [u8], instance: u32, d: &[u8]) -> Outcome
+    requires { ⌜ Passed (now s) ⌝ }
+    ensures { λ r. ⌜ (outcomeNumber r, now (s .exit)) ≡ lifted (setInputCall instance (now (d .entry))) (now (s .entry)) ⌝ }
+{
+    let f = places::find(&s[0..192], 1, instance);
+    match f {
+        Found::Nowhere => Outcome::NoAssembly,
+        Found::At(i) => fill_input(s, i, d),
+    }
+}

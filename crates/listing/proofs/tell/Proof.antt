@@ -1,0 +1,72 @@
+use native.Mathlib.Omega.{arith}
+use lib.ListN.{length-take, length-drop}
+use Rattle.application.specs.PlaceLaws.{setup-ready}
+use Rattle.listing.specs.Listing.{told}
+use borrow.Author.Needs.{needs}
+use Rattle.listing.proofs.tell.Statement.{statement}
+use Rattle.listing.proofs.tell.Tie as tie
+
+sub-fixed-at : tie.Need-sub-fixed-at
+sub-fixed-at c = search needs
+
+part-fixed-at-start : tie.Need-part-fixed-at-start
+part-fixed-at-start c = search needs
+
+part-fixed-at-end : tie.Need-part-fixed-at-end
+part-fixed-at-end c = search needs
+
+fixed-at-requires : tie.Need-fixed-at-requires
+fixed-at-requires c κs = search needs
+
+mul-a : tie.Need-mul-a
+mul-a c = search needs
+
+add-e : tie.Need-add-e
+add-e c = search needs
+
+sub-put-record : tie.Need-sub-put-record
+sub-put-record c = search needs
+
+part-put-record-start : tie.Need-part-put-record-start
+part-put-record-start c = search needs
+
+part-put-record-end : tie.Need-part-put-record-end
+part-put-record-end c = search needs
+
+sub-put-record-2 : tie.Need-sub-put-record-2
+sub-put-record-2 c = search needs
+
+part-put-record-start-2 : tie.Need-part-put-record-start-2
+part-put-record-start-2 c = search needs
+
+part-put-record-end-2 : tie.Need-part-put-record-end-2
+part-put-record-end-2 c = search needs
+
+put-record-requires : tie.Need-put-record-requires
+put-record-requires c κs = let r = setup-ready (c .before .before .before .before .before .before .args .s .now) (c .before .before .before .before .before .before .pre .0) in let h = c .before .before .before .before .before .before .pre .2 in (simp (length-take, length-drop) (omega arith), r .1, r .0)
+
+same-length : tie.Need-same-length
+same-length c = search needs
+
+returns : tie.Need-returns
+returns c = told (c .before .before .before .before .before .before .before .before .before .args .s .now) (c .before .before .before .before .before .before .before .before .before .args .out .now) _ (c .before .before .before .before .before .before .before .before .before .args .i) _ (c .before .before .before .before .before .before .before .before .before .pre .2) (c .before .before .before .before .before .fixed-at .ensures) (c .before .before .put-record .ensures)
+
+pub tell-spec : {M : Type 1} → statement M
+tell-spec =
+    tie.close
+    (tie.spec
+    sub-fixed-at
+    part-fixed-at-start
+    part-fixed-at-end
+    fixed-at-requires
+    mul-a
+    add-e
+    sub-put-record
+    part-put-record-start
+    part-put-record-end
+    sub-put-record-2
+    part-put-record-start-2
+    part-put-record-end-2
+    put-record-requires
+    same-length
+    returns)

@@ -1,0 +1,102 @@
+-- Outputs and any assembly's data, as code reads them, and an output's mark as code leaves it.
+use Prim.Native.Nat.{ℕ, zero, suc, _+_, _*_, _-_, _%_, _^_, _≤_, _<_}
+use mathlib.Core.Bool.{Bool, true, false, cond}
+use mathlib.Core.List.{List, [], _∷_, _++_}
+use mathlib.Core.Option.{Option, none, some}
+use mathlib.Core.Path.{_≡_, refl, ap, sym, _∙_}
+use native.Mathlib.Omega.{arith}
+use lib.ListN.{length, getD, take, drop, set, replicate, length-append, length-replicate, getD-replicate}
+use lib.Seq.{sets, take-all}
+use borrow.Author.Tests.{le-leb, lt-leb}
+use Rattle.cells.specs.Numbers.{le, put, bytesLe, le-1, sets-append}
+use Rattle.cells.specs.Records.{ofBool}
+use Rattle.cells.specs.Writes.{copied-more}
+use Rattle.cells.specs.Back.{Bytes}
+use Rattle.rules.specs.Lists.{changeAt}
+use Rattle.rules.specs.State.{Shape, Content, noContent, shapeAt, contentAt, withContents}
+use Rattle.rules.specs.Answers.{Answer, Done, Wrote, Refused, NoAssembly, TooLong, NoRoom, settled}
+use Rattle.rules.specs.Checks.{placeOf}
+use Rattle.rules.specs.Host.{filled, setInputAt, inputSet, setInputAnswer, setInputEffect, setInputCall, read, outputBytes, outputAt, outputRead, outputAnswer, outputEffect, outputCall, kindTest, assemblyAt, assemblyAnswer}
+use Rattle.layout.specs.Setups.{shapeIn, setupOf}
+use Rattle.layout.specs.RowLaws.{bit-small}
+use Rattle.image.specs.Image.{view, store, tested, markOf}
+use Rattle.image.specs.Holds.{Holds, holds-tested, slotted-tested, assemblies-held, shape-held, mark-held, bytes-held}
+use Rattle.image.specs.Changes.{bytesAs, markAs, bytes-put, mark-put}
+use Rattle.image.specs.Lift.{lifted, liftedOut, liftedRead}
+use Rattle.application.specs.Places.{assemblyReadAt, outputReadAt, inputSetAt}
+use Rattle.application.specs.Ways.{fits-in, fits-not, read-wrote, read-no, read-same, out-wrote, out-no, out-same, left-done, left-no, left-same}
+use Rattle.application.specs.Assemblies.{change-set, in-contents, size-is, setup-size, data-is, run-is}
+
+module _ (s : List ℕ) (t : tested s ≡ true) (b : Bytes s) (i : ℕ) (p : i < le 1 s 0) where
+  abbrev h : Holds s (view s) s
+  h = holds-tested s t b
+
+  abbrev c : Content
+  c = contentAt (view s) i
+
+  -- ---- assembly
+
+  module _ (out : List ℕ) (n : ℕ) (en : n ≡ shapeIn s i .size) where
+    pub assembly-short : length out < n → (8, out) ≡ liftedRead (assemblyReadAt i) s out
+    assembly-short g =
+        let m = (size-is s t b i p) in
+        read-no s out t (assemblyReadAt i) NoRoom (fits-not (length out) (c .bytes) (Wrote (c .bytes)) (omega arith))
+
+    pub assembly-wrote : n ≤ length out → (d o : List ℕ) → d ≡ take n (drop (35328 + i * 512) s) → o ≡ sets out 0 d
+        → (2 ^ 8 * n, o) ≡ liftedRead (assemblyReadAt i) s out
+    assembly-wrote g d o ed eo =
+        let m = (size-is s t b i p) in
+        read-wrote s out t (assemblyReadAt i) n o (c .bytes) (fits-in (length out) (c .bytes) (Wrote (c .bytes)) (omega arith)) (omega arith)
+        (eo ∙ ap (sets out 0) (ed ∙ ap (λ (k : ℕ). take k (drop (35328 + i * 512) s)) en ∙ (data-is s t b i p)))
+
+    -- ---- output
+
+    read-after : (a : Answer) → outputAt (length out) (view s) (some i) ≡ a → outputReadAt i (length out) (view s) ≡ settled a (outputRead (view s) (some i)) (view s)
+    read-after a e = ap (λ (x : Answer). settled x (outputRead (view s) (some i)) (view s)) e
+
+    pub output-short : length out ≤ n → (8, (s, out)) ≡ liftedOut (outputReadAt i) s out
+    output-short g =
+        let m = (size-is s t b i p) in
+        out-no s out t (outputReadAt i) b NoRoom
+        (read-after (Refused NoRoom) (fits-not (length out) (outputBytes c) (Wrote (outputBytes c)) (omega arith)))
+
+    pub output-wrote : n < length out → (run : ℕ) (d o₁ o₂ s₁ : List ℕ) → run ≡ le 1 s (240 + i) % 2 → d ≡ take n (drop (35328 + i * 512) s)
+        → o₁ ≡ put 1 out 0 run → o₂ ≡ sets o₁ 1 d → s₁ ≡ put 1 s (240 + i) run
+        → (2 ^ 8 * (n + 1), (s₁, o₂)) ≡ liftedOut (outputReadAt i) s out
+    unfolding put bytesLe
+    output-wrote g run d o₁ o₂ s₁ er ed e₁ e₂ es =
+        let m = (size-is s t b i p) in
+        let r : run ≡ ofBool (c .run) = er ∙ (run-is s t b i p) in
+        let bs : d ≡ c .bytes = ed ∙ ap (λ (k : ℕ). take k (drop (35328 + i * 512) s)) en ∙ (data-is s t b i p) in
+        let left : store (markAs i (c .run) false (view s)) s ≡ store (outputRead (view s) (some i)) s =
+        ap (λ (z : List Content). store (withContents z (view s)) s) (sym (change-set (view s .contents) i read)) in
+        out-wrote s out t (outputReadAt i) (n + 1) s₁ o₂ (outputBytes c) (outputRead (view s) (some i))
+        (read-after (Wrote (outputBytes c)) (fits-in (length out) (outputBytes c) (Wrote (outputBytes c)) (omega arith)))
+        (omega arith)
+        (es ∙ ap (put 1 s (240 + i)) (r ∙ (let z : ofBool (c .run) ≡ ofBool (c .run) + 2 * ofBool false = omega arith in z))
+        ∙ mark-put s (view s) s h i (c .run) false (in-contents s t b i p) ∙ left)
+        (e₂ ∙ (λ j. sets (e₁ j) 1 (bs j)) ∙ (λ j. sets (sets out 0 (r j ∷ [])) 1 (c .bytes)) ∙ sym (sets-append out 0 (ofBool (c .run) ∷ []) (c .bytes)))
+
+-- ---- the calls, by the place that was found
+
+module _ (s out : List ℕ) (t : tested s ≡ true) (kind n : ℕ) (o : Option ℕ) (e : placeOf (kindTest kind) (setupOf s) n ≡ o) where
+  pub assembly-none : o ≡ none → (6, out) ≡ liftedRead (assemblyAnswer kind n) s out
+  unfolding assemblyAnswer view
+  assembly-none q = read-no s out t (assemblyAnswer kind n) NoAssembly (ap (assemblyAt (length out) (view s)) (e ∙ q))
+
+  pub assembly-some : (i : ℕ) → o ≡ some i → (r : ℕ × List ℕ) → r ≡ liftedRead (assemblyReadAt i) s out → r ≡ liftedRead (assemblyAnswer kind n) s out
+  unfolding assemblyAnswer view
+  assembly-some i q r w = w ∙ read-same s out t (assemblyReadAt i) (assemblyAnswer kind n) (ap (assemblyAt (length out) (view s)) (sym (e ∙ q)))
+
+module _ (s out : List ℕ) (t : tested s ≡ true) (n : ℕ) (o : Option ℕ) (e : placeOf (kindTest 2) (setupOf s) n ≡ o) where
+  pub output-none : Bytes s → o ≡ none → (6, (s, out)) ≡ liftedOut (outputCall n) s out
+  unfolding outputCall outputAnswer outputEffect view
+  output-none b q =
+      out-no s out t (outputCall n) b NoAssembly
+      (ap (λ (z : Option ℕ). settled (outputAt (length out) (view s) z) (outputRead (view s) z) (view s)) (e ∙ q))
+
+  pub output-some : (i : ℕ) → o ≡ some i → (r : ℕ × (List ℕ × List ℕ)) → r ≡ liftedOut (outputReadAt i) s out → r ≡ liftedOut (outputCall n) s out
+  unfolding outputCall outputAnswer outputEffect view
+  output-some i q r w =
+      w ∙ out-same s out t (outputReadAt i) (outputCall n)
+      (ap (λ (z : Option ℕ). settled (outputAt (length out) (view s) z) (outputRead (view s) z) (view s)) (sym (e ∙ q)))

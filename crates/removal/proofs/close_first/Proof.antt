@@ -1,0 +1,96 @@
+use native.Mathlib.Omega.{arith}
+use Rattle.rules.specs.Removal.{inStream}
+use Rattle.removal.specs.Turns.{found-in, turn-gone}
+use Rattle.removal.specs.Listeners.{dropped-none, dropped-one, closes-none, closes-one}
+use borrow.Author.Needs.{needs}
+use Rattle.removal.proofs.close_first.Statement.{statement}
+use Rattle.removal.proofs.close_first.Tie as tie
+
+u16-at-requires : tie.Need-u16-at-requires
+u16-at-requires c κs = search needs
+
+cast-n : tie.Need-cast-n
+cast-n c = search needs
+
+sub-find-stream : tie.Need-sub-find-stream
+sub-find-stream c = search needs
+
+part-find-stream-start : tie.Need-part-find-stream-start
+part-find-stream-start c = search needs
+
+part-find-stream-end : tie.Need-part-find-stream-end
+part-find-stream-end c = search needs
+
+find-stream-requires : tie.Need-find-stream-requires
+find-stream-requires c κs = search needs
+
+enum-told : tie.Need-enum-told
+enum-told c = search needs
+
+enum-known-j : tie.Need-enum-known-j
+enum-known-j c = search needs
+
+sub-fixed-at : tie.Need-sub-fixed-at
+sub-fixed-at c = search needs
+
+part-fixed-at-start : tie.Need-part-fixed-at-start
+part-fixed-at-start c = search needs
+
+part-fixed-at-end : tie.Need-part-fixed-at-end
+part-fixed-at-end c = search needs
+
+fixed-at-requires : tie.Need-fixed-at-requires
+fixed-at-requires c κs =
+    let a = c .before .before .before .before .before .before .before .before .before .before .before .args in
+    let p = found-in (inStream (a .id)) (a .s .now) (c .before .before .before .before .before .before .before .before .u16-at .result) (c .before .before .before .before .before .find-stream .result) (c .before .before .before .before .before .before .before .before .u16-at .ensures) (c .before .before .before .before .before .find-stream .ensures) (c .before .before .before .j .given .0 .0) (c .before .before .before .j .given .1) in
+    let k = c .before .before .before .before .before .before .before .before .before .before .before .pre .conns in
+    (omega arith, search needs)
+
+remove-row-requires : tie.Need-remove-row-requires
+remove-row-requires c κs =
+    let a = c .before .before .before .before .before .before .before .before .before .before .before .before .before .args in (c .before .before .before .before .before .before .before .before .before .before .before .before .before .pre, found-in (inStream (a .id)) (a .s .now) (c .before .before .before .before .before .before .before .before .before .before .u16-at .result) (c .before .before .before .before .before .before .before .find-stream .result) (c .before .before .before .before .before .before .before .before .before .before .u16-at .ensures) (c .before .before .before .before .before .before .before .find-stream .ensures) (c .before .before .before .before .before .j .given .0 .0) (c .before .before .before .before .before .j .given .1))
+
+tell-requires : tie.Need-tell-requires
+tell-requires c κs = search needs
+
+same-length : tie.Need-same-length
+same-length c = search needs
+
+returns : tie.Need-returns
+returns c =
+    let a = c .before .before .before .before .before .before .before .before .args in (dropped-none (a .s .now) (c .before .before .before .before .before .before .before .before .pre), closes-none (a .id) (a .s .now) (c .before .before .before .before .before .u16-at .result) (c .before .before .find-stream .result) (c .before .before .before .before .before .u16-at .ensures) (c .before .before .find-stream .ensures) (c .enum-told .given .1))
+
+same-length-2 : tie.Need-same-length-2
+same-length-2 c = search needs
+
+returns-2 : tie.Need-returns-2
+returns-2 c =
+    let a = c .before .before .before .before .before .before .before .before .before .before .before .before .before .before .before .before .before .before .before .before .args in
+    let s₁ = c .before .before .before .before .before .before .remove-row .last .0 in
+    let s₂ = c .before .before .tell .last .0 in (
+      dropped-one (a .id) (a .s .now) (c .before .before .before .before .before .before .before .before .before .before .before .before .before .before .before .before .before .u16-at .result) (c .before .before .before .before .before .before .before .before .before .before .before .before .before .before .find-stream .result) (c .before .before .before .before .before .before .before .before .before .before .before .before .before .before .before .before .before .u16-at .ensures) (c .before .before .before .before .before .before .before .before .before .before .before .before .before .before .find-stream .ensures) (c .before .before .before .before .before .before .before .before .before .before .before .before .j .given .0 .0) (c .before .before .before .before .before .before .before .before .before .before .before .before .j .given .1) s₁ s₂ (c .before .before .before .before .before .before .remove-row .ensures .0) (c .before .before .tell .ensures .0),
+      closes-one (a .id) (a .s .now) (c .before .before .before .before .before .before .before .before .before .before .before .before .before .before .before .before .before .u16-at .result) (c .before .before .before .before .before .before .before .before .before .before .before .before .before .before .find-stream .result) (c .before .before .before .before .before .before .before .before .before .before .before .before .before .before .before .before .before .u16-at .ensures) (c .before .before .before .before .before .before .before .before .before .before .before .before .before .before .find-stream .ensures) (c .before .before .before .before .before .before .before .before .before .before .before .before .j .given .0 .0) (c .before .before .before .before .before .before .before .before .before .before .before .before .j .given .1) (c .before .before .before .before .before .before .before .before .fixed-at .result) (c .before .before .before .before .before .before .before .before .fixed-at .ensures) s₁ s₂ (turn-gone (a .s .now) s₁ (c .before .before .before .before .before .before .before .before .before .before .before .before .j .given .0 .0) (c .before .before .before .before .before .before .remove-row .ensures .1)) (c .before .before .tell .ensures .1),
+    )
+
+pub close-first-spec : {M : Type 1} → statement M
+close-first-spec =
+    tie.close
+    (tie.spec
+    u16-at-requires
+    cast-n
+    sub-find-stream
+    part-find-stream-start
+    part-find-stream-end
+    find-stream-requires
+    enum-told
+    enum-known-j
+    sub-fixed-at
+    part-fixed-at-start
+    part-fixed-at-end
+    fixed-at-requires
+    remove-row-requires
+    tell-requires
+    same-length
+    returns
+    same-length-2
+    returns-2)

@@ -1,0 +1,4 @@
+pub mod Turns
+pub mod Hands
+pub mod Listeners
+pub mod Removals

@@ -1,0 +1,129 @@
+-- Steps of a removal over a held state: what code must know of the buffer after each, and what the buffer then holds.
+use Prim.Native.Nat.{ℕ, _+_, _≤_, _<_}
+use mathlib.Core.Bool.{Bool, true, false, cond, not, _&&_}
+use mathlib.Core.List.{List, [], _++_, append-nil}
+use mathlib.Core.Option.{Option, none, some}
+use mathlib.Core.Path.{_≡_, refl, ap, sym, subst, _∙_}
+use native.Mathlib.Omega.{arith}
+use lib.ListN.{length, getD, drop, drop-of-length-le}
+use lib.Seq.{sets, sets-eq}
+use Rattle.cells.specs.Numbers.{le}
+use Rattle.tables.specs.Tables.{rows, length-rows}
+use Rattle.rules.specs.Lists.{place}
+use Rattle.rules.specs.State.{Setup, State}
+use Rattle.rules.specs.Events.{infoOf, infoRecord}
+use Rattle.rules.specs.declared.Conn.{Conn}
+use Rattle.rules.specs.declared.Fixed.{Fixed}
+use Rattle.rules.specs.declared.Info.{Info}
+use Rattle.layout.specs.Places.{setupIn, tableIn}
+use Rattle.layout.specs.Setups.{setupFrom}
+use Rattle.layout.specs.Rows.{decConn}
+use Rattle.image.specs.Image.{store}
+use Rattle.image.specs.Fits.{Suits}
+use Rattle.image.specs.StoreLaws.{length-setupIn}
+use Rattle.image.specs.TestLaws.{assemblies-in}
+use Rattle.image.specs.Updates.{noConn}
+use Rattle.image.specs.Holds.{Holds, Held, Ready, Becomes, BecomesHeld, conns-held, setup-held, table-held, conn-held}
+use Rattle.image.specs.Kept.{Kept, length-without, suits-removed}
+use Rattle.image.specs.Changes.{rowGone, eventPushed, suits-pushed}
+use Rattle.image.specs.Searches.{place-in}
+use Rattle.records.specs.Fields.{length-info}
+use Rattle.records.specs.Shapes.{info-in}
+use Rattle.lookup.specs.declared.Found.{Found}
+use Rattle.lookup.specs.declared.Found.the-variants.{At, Nothing}
+use Rattle.lookup.specs.RowTests.{rowAt, foundOf, found-at, found-none}
+
+-- s′ holds what f makes of the state that s holds
+abbrev pub Turns : List ℕ → List ℕ → (State → State) → Type 0
+Turns s s′ f = (st : State) (l : List ℕ) → Held s st l → Held s′ (f st) l
+
+-- the bounds, and no more connections
+pub record Fewer (s s′ : List ℕ) : Type 0 where
+  pub ready : Ready s′
+  pub fewer : le 2 s′ 224 ≤ le 2 s 224
+
+pub fewer-none : (s : List ℕ) → Ready s → Fewer s s
+fewer-none s r = record { ready = r; fewer = omega arith }
+
+pub fewer-both : (s₀ s s′ : List ℕ) → Fewer s₀ s → Fewer s s′ → Fewer s₀ s′
+fewer-both s₀ s s′ a b = record { ready = b .ready; fewer = let p = a .fewer in let q = b .fewer in omega arith }
+
+pub fewer-kept : (n : ℕ) (s s′ : List ℕ) → Kept n s s′ → n ≤ le 2 s 224 → Fewer s s′
+fewer-kept n s s′ k h = record { ready = k .ready; fewer = let e = k .conns in omega arith }
+
+-- ---- how a step is made
+
+pub turn : (s s′ : List ℕ) (f : State → State) → Becomes s s′ f → ((st : State) (l : List ℕ) → Suits st l → Suits (f st) l)
+    → ((st : State) → length (f st .table) ≤ length (st .table)) → Turns s s′ f
+turn s s′ f b w n st l o =
+    record {
+      holds = record { is = b st l (o .holds); suits = w st l (o .holds .suits) };
+      fewer = let a = n st in let q = o .fewer in omega arith;
+    }
+
+pub turn-as : (s s′ : List ℕ) (f g : State → State) → Turns s s′ f → ((st : State) (l : List ℕ) → Held s st l → f st ≡ g st) → Turns s s′ g
+turn-as s s′ f g d e st l o = subst (λ (z : State). Held s′ z l) (e st l o) (d st l o)
+
+pub turn-none : (s : List ℕ) (g : State → State) → ((st : State) (l : List ℕ) → Held s st l → st ≡ g st) → Turns s s g
+turn-none s g e st l o = subst (λ (z : State). Held s z l) (e st l o) o
+
+pub turn-both : (s s₁ s₂ : List ℕ) (f g : State → State) → Turns s s₁ f → Turns s₁ s₂ g → Turns s s₂ (λ st. g (f st))
+turn-both s s₁ s₂ f g a b st l o = b (f st) l (a st l o)
+
+-- ---- a row gone
+
+pub turn-gone : (s s′ : List ℕ) (i : ℕ) → BecomesHeld s s′ (rowGone i) → Turns s s′ (rowGone i)
+turn-gone s s′ i b st l o =
+    record {
+      holds = record { is = b st l o; suits = suits-removed st l (o .holds .suits) i };
+      fewer = let a = length-without (st .table) i in let q = o .fewer in omega arith;
+    }
+
+-- ---- an event told
+
+abbrev pub told : ℕ → Fixed → State → State
+told what f st = eventPushed (infoRecord what (infoOf (st .setup) f)) st
+
+pub sets-whole : (l bs : List ℕ) → length l ≡ length bs → sets l 0 bs ≡ bs
+sets-whole l bs e =
+    sets-eq bs l 0 (omega arith)
+    ∙ ap (λ (z : List ℕ). bs ++ z) (drop-of-length-le l {i = 0 + length bs} (omega arith))
+    ∙ append-nil bs
+
+-- what the record's writer asks of the setup's region
+pub setup-ready : (s : List ℕ) → Ready s → (le 1 (setupIn s) 0 ≤ 16) × (192 ≤ length (setupIn s))
+setup-ready s r =
+    let e = assemblies-in s in let a = r .assemblies in let n = length-setupIn s (r .long) in
+    (omega arith, omega arith)
+
+pub turn-told : (s s′ e : List ℕ) (what : ℕ) (f : Fixed) (i : Info) → i ≡ infoOf (setupFrom (setupIn s) []) f → e ≡ infoRecord what i
+    → Becomes s s′ (eventPushed e) → Turns s s′ (told what f)
+turn-told s s′ e what f i ei ee b =
+    turn s s′ (told what f) become (λ st l w. suits-pushed st l w (infoRecord what (infoOf (st .setup) f)) (length-info what (infoOf (st .setup) f))) (λ st. omega arith)
+  where
+    become : Becomes s s′ (told what f)
+    become st l h =
+        b st l h
+        ∙ ap (λ (z : List ℕ). store (eventPushed z st) l) (ee ∙ ap (infoRecord what) (ei ∙ info-in s f ∙ ap (λ (u : Setup). infoOf u f) (setup-held s st l h)))
+
+-- ---- what a search along a held state's rows found
+
+module _ (p : Conn → Bool) (s : List ℕ) (n : ℕ) (x : Found) (en : n ≡ le 2 s 224) (ex : x ≡ foundOf (place p (rows 70 decConn n (tableIn s)))) where
+  held-place : (st : State) (l : List ℕ) → Held s st l → foundOf (place p (st .table)) ≡ x
+  held-place st l o =
+      sym (ex ∙ ap (λ (k : ℕ). foundOf (place p (rows 70 decConn k (tableIn s)))) en ∙ ap (λ (z : List Conn). foundOf (place p z)) (table-held s st l (o .holds)))
+
+  pub found-in : (i : ℕ) → x ≡ At i → i < le 2 s 224
+  found-in i e =
+      let z = place-in p noConn (rows 70 decConn n (tableIn s)) i (found-at (place p (rows 70 decConn n (tableIn s))) i (sym ex ∙ e)) in
+      let w = length-rows 70 decConn n (tableIn s) in omega arith
+
+  pub found-there : (i : ℕ) → x ≡ At i → (st : State) (l : List ℕ) → Held s st l → place p (st .table) ≡ some i
+  found-there i e st l o = found-at (place p (st .table)) i (held-place st l o ∙ e)
+
+  pub found-nowhere : x ≡ Nothing → (st : State) (l : List ℕ) → Held s st l → place p (st .table) ≡ none
+  found-nowhere e st l o = found-none (place p (st .table)) (held-place st l o ∙ e)
+
+-- a row that is read is the connection's
+pub row-held : (s : List ℕ) (i : ℕ) → i < le 2 s 224 → (st : State) (l : List ℕ) → Held s st l → decConn (rowAt (tableIn s) i) ≡ getD (st .table) i noConn
+row-held s i p st l o = let n = conns-held s st l (o .holds) in conn-held s st l (o .holds) i (omega arith)

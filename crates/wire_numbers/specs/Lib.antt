@@ -1,0 +1,4 @@
+pub mod Transport
+pub mod Timeout
+pub mod Group
+pub mod NumberLaws
