@@ -3,7 +3,7 @@ use Prim.Native.Nat.{ℕ, zero, suc}
 use mathlib.Core.Bool.{true, cond}
 use mathlib.Core.List.{List, [], _∷_}
 use mathlib.Core.Option.{Option, none, some}
-use mathlib.Core.Path.{_≡_, refl, ap, sym, _∙_}
+use mathlib.Core.Path.{_≡_, refl, ap, _∙_}
 use native.Mathlib.Omega.{arith}
 use lib.Dec.{eqb}
 use lib.ListN.{take, drop}
@@ -13,7 +13,6 @@ use Rattle.wire_opens.specs.declared.ForwardOpen.{ForwardOpen}
 use Rattle.wire_paths.specs.declared.ConnectionPath.{ConnectionPath}
 use Rattle.wire_paths.specs.declared.PathAnswer.{PathAnswer}
 use Rattle.rules.specs.declared.Fixed.{Fixed}
-use Rattle.rules.specs.declared.Plan.{Plan}
 use Rattle.rules.specs.declared.Stop.{Stop}
 use Rattle.rules.specs.declared.Stores.the-variants.{Nothing}
 use Rattle.rules.specs.declared.Verdict.{Verdict}
@@ -27,7 +26,7 @@ use Rattle.layout.specs.Setups.{identityOf, setupFrom, setupOf}
 use Rattle.image.specs.Image.{view, tested}
 use Rattle.image.specs.Fits.{few-assemblies, is-long, is-sound, few-conns, shapes-good}
 use Rattle.image.specs.StoreLaws.{length-setupIn, length-tableIn}
-use Rattle.deciding.specs.Decided.{SetupRegion, Regions}
+use Rattle.deciding.specs.Decided.{Regions}
 
 -- the EDS is not asked: each check of the setup by itself, then the decision
 module _ (r e : List ℕ) (table : List Fixed) (o : ForwardOpen) (p : ConnectionPath) where

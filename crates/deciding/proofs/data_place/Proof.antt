@@ -1,5 +1,4 @@
 use Rattle.deciding.specs.DecidedLaws.{data-none, data-some}
-use borrow.Author.Needs.{needs}
 use Rattle.deciding.proofs.data_place.Statement.{statement}
 use Rattle.deciding.proofs.data_place.Tie as tie
 
