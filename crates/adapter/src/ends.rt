@@ -4,6 +4,7 @@ ghost use mathlib.Core.Path.{_≡_};
 ghost use Rattle.rules.specs.Removal.{closeCall, expireCall};
 ghost use Rattle.image.specs.Lift.{lifted, liftedOut};
 
+// Closes a connection. Yes: 10 reply bytes. No: 1, 4, 9, 8.
 #[no_mangle]
 pub extern "C" fn threshtide_close(state: &mut [u8], request: &[u8], out: &mut [u8]) -> u64
     ensures { λ r. ⌜ (r, (now (state .exit), now (out .exit))) ≡ liftedOut (closeCall (now (request .entry))) (now (state .entry)) (now (out .entry)) ⌝ }
@@ -17,6 +18,7 @@ pub extern "C" fn threshtide_close(state: &mut [u8], request: &[u8], out: &mut [
     }
 }
 
+// Removes what was silent for longer than its timeout; how many went stands in bits 8 and up. No: 1, 3.
 #[no_mangle]
 pub extern "C" fn threshtide_expire(state: &mut [u8], time: u64) -> u64
     ensures { λ r. ⌜ (r, now (state .exit)) ≡ lifted (expireCall time) (now (state .entry)) ⌝ }

@@ -12,6 +12,7 @@ pub extern "C" fn threshtide_state_size() -> u64
     109056
 }
 
+// Gives an input new bytes; what they do not reach becomes zero. No: 1, 6, 7.
 #[no_mangle]
 pub extern "C" fn threshtide_set_input(state: &mut [u8], instance: u32, bytes: &[u8]) -> u64
     ensures { λ r. ⌜ (r, now (state .exit)) ≡ lifted (setInputCall instance (now (bytes .entry))) (now (state .entry)) ⌝ }
@@ -22,6 +23,7 @@ pub extern "C" fn threshtide_set_input(state: &mut [u8], instance: u32, bytes: &
     answers::number(inputs::set_input(state, instance, bytes))
 }
 
+// Reads an output: the run byte, then its bytes; the next change gives an event again. No: 1, 6, 8.
 #[no_mangle]
 pub extern "C" fn threshtide_output(state: &mut [u8], instance: u32, out: &mut [u8]) -> u64
     ensures { λ r. ⌜ (r, (now (state .exit), now (out .exit))) ≡ liftedOut (outputCall instance) (now (state .entry)) (now (out .entry)) ⌝ }
@@ -32,6 +34,7 @@ pub extern "C" fn threshtide_output(state: &mut [u8], instance: u32, out: &mut [
     answers::number(outputs::output(state, instance, out))
 }
 
+// Reads the bytes of an assembly of a kind: 1 input, 2 output, 3 configuration. No: 1, 6, 8.
 #[no_mangle]
 pub extern "C" fn threshtide_assembly(state: &[u8], kind: u8, instance: u32, out: &mut [u8]) -> u64
     ensures { λ r. ⌜ (r, now (out .exit)) ≡ liftedRead (assemblyAnswer kind instance) (now (state .entry)) (now (out .entry)) ⌝ }
@@ -42,6 +45,7 @@ pub extern "C" fn threshtide_assembly(state: &[u8], kind: u8, instance: u32, out
     answers::number(outputs::assembly(state, kind, instance, out))
 }
 
+// Takes the oldest event: a record of 32 bytes. No: 1, 9, 8.
 #[no_mangle]
 pub extern "C" fn threshtide_next_event(state: &mut [u8], out: &mut [u8]) -> u64
     ensures { λ r. ⌜ (r, (now (state .exit), now (out .exit))) ≡ liftedOut nextEventCall (now (state .entry)) (now (out .entry)) ⌝ }
@@ -52,6 +56,7 @@ pub extern "C" fn threshtide_next_event(state: &mut [u8], out: &mut [u8]) -> u64
     answers::number(queue::next_event(state, out))
 }
 
+// Packets produced, those that were late, the greatest lateness in microseconds: 8 bytes each. No: 1, 8.
 #[no_mangle]
 pub extern "C" fn threshtide_stats(state: &[u8], out: &mut [u8]) -> u64
     ensures { λ r. ⌜ (r, now (out .exit)) ≡ liftedRead statsAnswer (now (state .entry)) (now (out .entry)) ⌝ }
@@ -62,6 +67,7 @@ pub extern "C" fn threshtide_stats(state: &[u8], out: &mut [u8]) -> u64
     answers::number(counts::stats(state, out))
 }
 
+// The connections in table order, a record of 32 bytes each. No: 1, 8.
 #[no_mangle]
 pub extern "C" fn threshtide_connections(state: &[u8], out: &mut [u8]) -> u64
     ensures { λ r. ⌜ (r, now (out .exit)) ≡ liftedRead connectionsAnswer (now (state .entry)) (now (out .entry)) ⌝ }

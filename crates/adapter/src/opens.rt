@@ -9,6 +9,7 @@ ghost use Rattle.image.specs.Lift.{liftedOut};
 ghost use Rattle.refusing.specs.Refusals.{answered};
 ghost use Rattle.adapter.specs.Origins.{originOf};
 
+// Opens a connection. Yes: 26 reply bytes; multicast in bits 8 to 15, port in 16 to 31, address in 32 to 63. No: 1, 3, 4, 5, 8.
 #[no_mangle]
 pub extern "C" fn threshtide_open(
     state: &mut [u8],
@@ -47,6 +48,7 @@ pub extern "C" fn threshtide_open(
     }
 }
 
+// The 10 bytes of data of a refused open's reply. No: 4, 8.
 #[no_mangle]
 pub extern "C" fn threshtide_open_refusal(service: u8, request: &[u8], out: &mut [u8]) -> u64
     ensures { λ r. ⌜ (r, now (out .exit)) ≡ answered (refusalAnswer service (now (request .entry))) (now (out .entry)) ⌝ }

@@ -3,6 +3,7 @@ use starting::checks;
 ghost use mathlib.Core.Path.{_≡_};
 ghost use Rattle.starting.specs.Block.{setupCall};
 
+// Sets a state up from a block of 192 bytes and an EDS; ids begin at the seed. No: 1, 2.
 #[no_mangle]
 pub extern "C" fn threshtide_setup(state: &mut [u8], block: &[u8], eds: &[u8], seed: u32) -> u64
     ensures { λ r. ⌜ (r, now (state .exit)) ≡ setupCall (now (state .entry)) (now (block .entry)) (now (eds .entry)) seed ⌝ }

@@ -5,6 +5,7 @@ ghost use Rattle.rules.specs.Receiving.{receiveCall};
 ghost use Rattle.rules.specs.Producing.{produceCall};
 ghost use Rattle.image.specs.Lift.{lifted, liftedOut, liftedRead};
 
+// The time when a packet is due or a connection lives no longer, 8 bytes. No: 1, 9, 8.
 #[no_mangle]
 pub extern "C" fn threshtide_next_deadline(state: &[u8], out: &mut [u8]) -> u64
     ensures { λ r. ⌜ (r, now (out .exit)) ≡ liftedRead deadlineAnswer (now (state .entry)) (now (out .entry)) ⌝ }
@@ -15,6 +16,7 @@ pub extern "C" fn threshtide_next_deadline(state: &[u8], out: &mut [u8]) -> u64
     deadlines::next_deadline(state, out)
 }
 
+// A frame from an address; one of no use is ignored. No: 1, 3.
 #[no_mangle]
 pub extern "C" fn threshtide_receive(state: &mut [u8], time: u64, from: u32, frame: &[u8]) -> u64
     ensures { λ r. ⌜ (r, now (state .exit)) ≡ lifted (receiveCall time from (now (frame .entry))) (now (state .entry)) ⌝ }
@@ -29,6 +31,7 @@ pub extern "C" fn threshtide_receive(state: &mut [u8], time: u64, from: u32, fra
     0
 }
 
+// All packets that are due, one behind the other; their length stands in bits 8 and up. No: 1, 3, 8.
 #[no_mangle]
 pub extern "C" fn threshtide_produce(state: &mut [u8], time: u64, out: &mut [u8]) -> u64
     ensures { λ r. ⌜ (r, (now (state .exit), now (out .exit))) ≡ liftedOut (produceCall time) (now (state .entry)) (now (out .entry)) ⌝ }
