@@ -9,7 +9,6 @@ use Rattle.routing.specs.Answered.{answered}
 use Rattle.rules.specs.Opening.{refusalAnswer}
 use Rattle.rules.specs.Opening.{openCall, refusalAnswer}
 use Rattle.rules.specs.declared.Origin.{Origin}
-use Rattle.refusing.specs.Refusals.{answered}
 use Rattle.rules.specs.Producing.{produceCall}
 use Rattle.image.specs.Lift.{lifted, liftedOut, liftedRead, two-outcomes}
 

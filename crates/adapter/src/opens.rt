@@ -6,7 +6,7 @@ use wire_opens::OpenAnswer;
 ghost use mathlib.Core.Path.{_≡_};
 ghost use Rattle.rules.specs.Opening.{openCall, refusalAnswer};
 ghost use Rattle.image.specs.Lift.{liftedOut};
-ghost use Rattle.refusing.specs.Refusals.{answered};
+ghost use Rattle.routing.specs.Answered.{answered};
 ghost use Rattle.adapter.specs.Origins.{originOf};
 
 // Opens a connection. Yes: 26 reply bytes; multicast in bits 8 to 15, port in 16 to 31, address in 32 to 63. No: 1, 3, 4, 5, 8.

@@ -18,12 +18,9 @@ use Rattle.wire_opens.specs.Requests.{openOf}
 use Rattle.wire_replies.specs.Replies.{openRefusal}
 use Rattle.wire_replies.specs.ReplyLaws.{open-refusal-long}
 use Rattle.rules.specs.Answers.{Answer, Wrote, Refused, Failed, NotParsed, NoRoom, wordsOf, wordsNumber, answerNumber, answerBytes, fitting}
+use Rattle.routing.specs.Answered.{answered}
 use Rattle.rules.specs.Opening.{requestOf, refusalFor, refusalAnswer}
 use Rattle.rules.specs.declared.Stop.{Stop}
-
--- an answer that depends on nothing but the room: its number, and its bytes at the start of the lent output
-unfoldable pub answered : (ℕ → Answer) → List ℕ → ℕ × List ℕ
-answered a out = (answerNumber (a (length out)), sets out 0 (answerBytes (a (length out))))
 
 -- ---- which open
 

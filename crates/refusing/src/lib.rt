@@ -8,7 +8,8 @@ ghost use mathlib.Core.List.{[], _∷_};
 ghost use lib.ListN.{length};
 ghost use Rattle.rules.specs.Answers.{Failed, wordsNumber, answerNumber};
 ghost use Rattle.rules.specs.Opening.{requestOf, refusalAnswer};
-ghost use Rattle.refusing.specs.Refusals.{answered, refusalOf};
+ghost use Rattle.routing.specs.Answered.{answered};
+ghost use Rattle.refusing.specs.Refusals.{refusalOf};
 
 // The open that a service's data is: 0x54 is a small one, 0x5B a large one.
 pub fn request_of(service: u8, request: &[u8]) -> OpenAnswer
