@@ -6,7 +6,6 @@ use Rattle.rules.specs.Host.{setInputCall, outputCall, assemblyAnswer, nextEven
 use Rattle.starting.specs.Block.{setupCall}
 use Rattle.rules.specs.Routing.{pathAnswer, requestAnswer}
 use Rattle.routing.specs.Answered.{answered}
-use Rattle.rules.specs.Opening.{refusalAnswer}
 use Rattle.rules.specs.Opening.{openCall, refusalAnswer}
 use Rattle.rules.specs.declared.Origin.{Origin}
 use Rattle.rules.specs.Producing.{produceCall}
