@@ -7,7 +7,10 @@ use Rattle.starting.specs.Block.{setupCall}
 use Rattle.rules.specs.Routing.{pathAnswer, requestAnswer}
 use Rattle.routing.specs.Answered.{answered}
 use Rattle.rules.specs.Opening.{refusalAnswer}
+use Rattle.rules.specs.Opening.{openCall, refusalAnswer}
+use Rattle.rules.specs.declared.Origin.{Origin}
 use Rattle.refusing.specs.Refusals.{answered}
+use Rattle.rules.specs.Producing.{produceCall}
 use Rattle.image.specs.Lift.{lifted, liftedOut, liftedRead, two-outcomes}
 
 pub setup-once : (s block eds : List ℕ) (seed : ℕ) (x y : ℕ × List ℕ) → x ≡ setupCall s block eds seed → y ≡ setupCall s block eds seed → x ≡ y
@@ -39,3 +42,8 @@ request-once message out x y = two-outcomes x y
 
 pub open-refusal-once : (request out : List ℕ) (service : ℕ) (x y : ℕ × List ℕ) → x ≡ answered (refusalAnswer service request) out → y ≡ answered (refusalAnswer service request) out → x ≡ y
 open-refusal-once request out service x y = two-outcomes x y
+pub produce-once : (s out : List ℕ) (t : ℕ) (x y : ℕ × (List ℕ × List ℕ)) → x ≡ liftedOut (produceCall t) s out → y ≡ liftedOut (produceCall t) s out → x ≡ y
+produce-once s out t x y = two-outcomes x y
+
+pub open-once : (s request out : List ℕ) (t service : ℕ) (g : Origin) (x y : ℕ × (List ℕ × List ℕ)) → x ≡ liftedOut (openCall t service request g) s out → y ≡ liftedOut (openCall t service request g) s out → x ≡ y
+open-once s request out t service g x y = two-outcomes x y

@@ -4,4 +4,3 @@ pub mod RequestLaws
 pub mod KeyLaws
 pub mod Places
 pub mod PlaceLaws
-pub mod TableLaws

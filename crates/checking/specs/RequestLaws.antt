@@ -5,16 +5,13 @@ use mathlib.Core.Path.{_≡_, refl, ap, sym, _∙_}
 use Prim.Native.Nat.{ℕ, _<_, _≤_}
 use lib.Dec.{leb}
 use borrow.Author.Tests.{le-leb, lt-leb}
-use Rattle.wire_paths.specs.declared.ConnectionPath.{ConnectionPath}
-use Rattle.wire_paths.specs.declared.PathAnswer.{PathAnswer}
-use Rattle.wire_paths.specs.declared.PathAnswer.the-variants.{Parsed, Unparsed}
 use Rattle.wire_opens.specs.declared.ForwardOpen.{ForwardOpen}
 use Rattle.wire_opens.specs.declared.NetType.{NetType}
 use Rattle.wire_opens.specs.Transport.{transportOk}
 use Rattle.rules.specs.declared.Stop.{Stop}
 use Rattle.rules.specs.State.{Setup}
-use Rattle.rules.specs.declared.Stop.the-variants.{Transport, PathBroken, PathBarred, OtRpi, ToRpi, OtType, ToType}
-use Rattle.rules.specs.Checks.{must, andThen, transportCheck, pathCheck, rpiOk, rpiCheck, isPoint, isMulticast, typeCheck}
+use Rattle.rules.specs.declared.Stop.the-variants.{Transport, OtRpi, ToRpi, OtType, ToType}
+use Rattle.rules.specs.Checks.{must, andThen, transportCheck, rpiOk, rpiCheck, isPoint, isMulticast, typeCheck}
 use Rattle.checking.specs.SaysLaws.{must-yes, must-no, then-on, then-no}
 
 module _ (o : ForwardOpen) (b : Bool) (e : b ≡ transportOk (o .transport)) where
@@ -87,15 +84,6 @@ module _ (o : ForwardOpen) (b : Bool) (eb : b ≡ isPoint (o .ot .params .net)) 
 
       pub type-to : m ≡ false → some (ToType (o .to .params .net)) ≡ typeCheck o
       type-to k = type-second (some (ToType (o .to .params .net))) (must-no _ _ (type-is ∙ k))
-
--- check 2
-pub path-broken : (a : PathAnswer) (n : ℕ) → a ≡ Unparsed n → some (PathBroken n) ≡ pathCheck a
-unfolding pathCheck
-path-broken a n e = sym (ap pathCheck e)
-
-pub path-parsed : (a : PathAnswer) (p : ConnectionPath) (c : Option Stop) → a ≡ Parsed p → c ≡ must (not (p .barred)) PathBarred → c ≡ pathCheck a
-unfolding pathCheck
-path-parsed a p c e h = h ∙ sym (ap pathCheck e)
 
 -- an RPI against the range
 pub below-min : (min max us : ℕ) → us < min → false ≡ (leb min us && leb us max)

@@ -1,9 +1,8 @@
-// The decision of an open: document 01's thirteen checks, in its order, over the lent bytes. One function for each check; what
-// stops an open carries the value found and what would have passed.
+// The checks of an open that read the request and the setup's numbers: document 01's checks 1, 2, 3, 6 and 7, over the lent bytes. One
+// function for each; what stops an open carries the value found and what would have passed.
 pub mod key;
 pub mod places;
 pub mod request;
-pub mod table;
 
 use rules::Stop;
 

@@ -4,7 +4,6 @@ use rules::Stop;
 use wire_opens::ForwardOpen;
 use wire_opens::NetType;
 use wire_paths::ConnectionPath;
-use wire_paths::PathAnswer;
 ghost use mathlib.Core.Path.{_≡_};
 ghost use mathlib.Core.List.{[]};
 ghost use mathlib.Core.Bool.{_&&_, not};
@@ -12,7 +11,7 @@ ghost use Prim.Native.Nat.{_≤_};
 ghost use lib.Dec.{leb};
 ghost use lib.ListN.{length};
 ghost use Rattle.rules.specs.declared.Stop.the-variants.{PathBarred};
-ghost use Rattle.rules.specs.Checks.{must, transportCheck, pathCheck, pathIn, rpiCheck, isPoint, isMulticast, typeCheck};
+ghost use Rattle.rules.specs.Checks.{must, transportCheck, rpiCheck, isPoint, isMulticast, typeCheck};
 ghost use Rattle.layout.specs.Setups.{setupFrom};
 ghost use Rattle.checking.specs.Says.{stopIn};
 
@@ -26,23 +25,14 @@ pub fn transport(o: ForwardOpen) -> Check
     Check::Stops(Stop::Transport(o.transport))
 }
 
-fn unbarred(p: ConnectionPath) -> Check
+// Check 2, of a path that has parsed.
+pub fn unbarred(p: ConnectionPath) -> Check
     ensures { λ x. ⌜ stopIn x ≡ must (not (p .barred)) PathBarred ⌝ }
 {
     if p.barred {
         return Check::Stops(Stop::PathBarred);
     }
     Check::Holds
-}
-
-// Check 2.
-pub fn path(answer: PathAnswer) -> Check
-    ensures { λ x. ⌜ stopIn x ≡ pathCheck answer ⌝ }
-{
-    match answer {
-        PathAnswer::Unparsed(offset) => Check::Stops(Stop::PathBroken(offset)),
-        PathAnswer::Parsed(p) => unbarred(p),
-    }
 }
 
 fn within(min: u32, max: u32, us: u32) -> bool

@@ -179,13 +179,9 @@ module _ (r : List ℕ) (i : ℕ) where
   mark-in : le 1 (take 1 (drop (i * 1) r)) 0 ≡ getD r i 0
   mark-in = in-row 1 1 0 r (i * 1) (omega arith) ∙ le-1 r (i * 1 + 0) ∙ ap (λ (k : ℕ). getD r k 0) (omega arith)
 
-  pub mark-bad : 3 < getD r i 0 → goodMark (take 1 (drop (i * 1) r)) ≡ false
+  pub mark-is : goodMark (take 1 (drop (i * 1) r)) ≡ leb (getD r i 0) 3
   unfolding goodMark
-  mark-bad h = let e = mark-in in lt-leb (le 1 (take 1 (drop (i * 1) r)) 0) 3 (omega arith)
-
-  pub mark-good : getD r i 0 ≤ 3 → goodMark (take 1 (drop (i * 1) r)) ≡ true
-  unfolding goodMark
-  mark-good h = let e = mark-in in le-leb (le 1 (take 1 (drop (i * 1) r)) 0) 3 (omega arith)
+  mark-is = ap (λ (k : ℕ). leb k 3) mark-in
 
   size-in : le 2 (take 5 (drop (i * 5) (drop 110 r))) 2 ≡ le 2 r (i * 5 + 112)
   size-in = in-row 2 5 2 (drop 110 r) (i * 5) (omega arith) ∙ le-drop 2 r 110 (i * 5 + 2) ∙ ap (le 2 r) (omega arith)

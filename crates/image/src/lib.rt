@@ -70,20 +70,6 @@ fn shapes_good(r: &[u8], n: usize) -> bool
     true
 }
 
-fn marks_good(r: &[u8], n: usize) -> bool
-    requires { ⌜ n ≤ length (now r) ⌝ }
-    ensures { λ x. ⌜ x ≡ all (rows 1 goodMark n (now (r .entry))) ⌝ }
-{
-    let mut i = 0;
-    while i < n {
-        if r[i] > 3 {
-            return false;
-        }
-        i += 1;
-    }
-    true
-}
-
 // Without a jump, so that a loop over it has none.
 fn both(a: bool, b: bool) -> bool
     ensures { λ r. ⌜ r ≡ (a && b) ⌝ }
@@ -92,6 +78,19 @@ fn both(a: bool, b: bool) -> bool
         return b;
     }
     false
+}
+
+fn marks_good(r: &[u8], n: usize) -> bool
+    requires { ⌜ n ≤ length (now r) ⌝ }
+    ensures { λ x. ⌜ x ≡ all (rows 1 goodMark n (now (r .entry))) ⌝ }
+{
+    let mut good = true;
+    let mut i = 0;
+    while i < n {
+        good = both(good, r[i] <= 3);
+        i += 1;
+    }
+    good
 }
 
 // One byte of each row in use.

@@ -96,7 +96,8 @@ fn repeats(h: Heard, cip: u16) -> bool
     h.cip == cip
 }
 
-fn lives_until(time: u64, rpi: u32, multiplier: u8) -> u64
+// How long a connection lives that was heard at a time.
+pub fn lives_until(time: u64, rpi: u32, multiplier: u8) -> u64
     requires { ⌜ time < 9223372036854775808 ⌝ }
     ensures { λ r. ⌜ r ≡ time + timeoutOf rpi multiplier ⌝ }
 {

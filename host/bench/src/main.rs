@@ -112,10 +112,19 @@ fn figure(case: &Case, connections: usize, size: usize, o: &Options) -> Figure {
     Figure { library: median(library), original: median(original), ratio: median(ratios) }
 }
 
+/// On other processors than x86 the name is not in /proc/cpuinfo.
+fn of_lscpu() -> Option<String> {
+    let out = std::process::Command::new("lscpu").output().ok()?;
+    let text = String::from_utf8(out.stdout).ok()?;
+    let line = text.lines().find(|l| l.starts_with("Model name"))?;
+    Some(format!("{} ({})", line.split(':').nth(1)?.trim(), std::env::consts::ARCH))
+}
+
 fn processor() -> String {
     let text = std::fs::read_to_string("/proc/cpuinfo").unwrap_or_default();
     let line = text.lines().find(|l| l.starts_with("model name"));
-    line.and_then(|l| l.split(':').nth(1)).map_or("unknown".into(), |s| s.trim().into())
+    let named = line.and_then(|l| l.split(':').nth(1)).map(|s| s.trim().to_string());
+    named.or_else(of_lscpu).unwrap_or_else(|| std::env::consts::ARCH.into())
 }
 
 fn main() -> ExitCode {

@@ -13,6 +13,7 @@ mod generate;
 mod record;
 mod rng;
 mod run;
+mod script;
 mod seen;
 mod show;
 mod shrink;

@@ -24,6 +24,7 @@
 use crate::call::Call;
 use crate::generate::Generator;
 use crate::run::{LENT, Make};
+use crate::script;
 use crate::seen::Seen;
 
 /// The numbers of a record, in the order of their places.
@@ -103,10 +104,18 @@ fn put(file: &mut Vec<u8>, call: &Call, answer: u64, out: &[u8]) {
     file.extend(&out[..written]);
 }
 
-/// The runs of a seed, each cut after so many calls, until the file has that size. A run whose setup has a long EDS is left
+/// The runs written by hand, then the runs of a seed, each cut after so many calls, until the file has that size. A run whose setup has a long EDS is left
 /// out: it would fill the file.
 pub fn record(side: Make, seed: u64, calls: usize, size: usize) -> Vec<u8> {
     let mut file = Vec::new();
+    for run in script::runs() {
+        let mut side = side();
+        for call in &run {
+            let mut out = vec![LENT; call.room()];
+            let answer = side.call(call, &mut out);
+            put(&mut file, call, answer, &out);
+        }
+    }
     let mut number = 0;
     while file.len() < size {
         let mut generator = Generator::new(seed, number);

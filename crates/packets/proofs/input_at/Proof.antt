@@ -1,0 +1,24 @@
+use native.Mathlib.Omega.{arith}
+use Prim.Native.Nat.{_*_}
+use mathlib.Core.Path.{sym, _∙_}
+use Rattle.layout.specs.RowLaws.{in-row}
+use Rattle.layout.specs.Rows.{decFixed}
+use borrow.Author.Needs.{needs}
+use Rattle.packets.proofs.input_at.Statement.{statement}
+use Rattle.packets.proofs.input_at.Tie as tie
+
+mul-u8-at : tie.Need-mul-u8-at
+mul-u8-at c = search needs
+
+add-u8-at : tie.Need-add-u8-at
+add-u8-at c = search needs
+
+u8-at-requires : tie.Need-u8-at-requires
+u8-at-requires c κs = search needs
+
+returns : tie.Need-returns
+unfolding decFixed
+returns c = let a = c .before .before .args in c .u8-at .ensures ∙ sym (in-row 1 70 29 (a .r .now) (a .i * 70) (omega arith))
+
+pub input-at-spec : {M : Type 1} → statement M
+input-at-spec = tie.close (tie.spec mul-u8-at add-u8-at u8-at-requires returns)

@@ -1,0 +1,30 @@
+-- The state test accepts what produce leaves.
+use Prim.Native.Nat.{ℕ, _≤_}
+use mathlib.Core.Bool.{true}
+use mathlib.Core.List.{List, map}
+use mathlib.Core.Path.{_≡_}
+use native.Mathlib.Omega.{arith}
+use lib.ListN.{length, length-map}
+use Rattle.rules.specs.ListLaws.{either-way}
+use Rattle.rules.specs.State.{State}
+use Rattle.rules.specs.Answers.{isYes}
+use Rattle.rules.specs.Producing.{sends, delays, counters, produceAnswer, produceEffect, produceCall}
+use Rattle.image.specs.Image.{view, store, tested}
+use Rattle.image.specs.Fits.{Suits}
+use Rattle.image.specs.ViewLaws.{suits-view}
+use Rattle.image.specs.Passes.{tested-store}
+use Rattle.image.specs.Kept.{suits-table, suits-counters}
+use Rattle.producing.specs.Passes.{sentAll}
+
+suits-produced : (t : ℕ) (st : State) (l : List ℕ) → Suits st l → Suits (produceEffect t st) l
+unfolding produceEffect
+suits-produced t st l w =
+    let n = length-map (st .table) (sends t) in
+    let m = w .fits .table in
+    suits-counters (sentAll t st) l (suits-table st l w (map (sends t) (st .table)) (omega arith)) (counters (st .setup) (delays t (st .table)) (st .counters))
+
+pub produce-accepted : (l : List ℕ) → tested l ≡ true → (t room : ℕ) → tested (store (produceCall t room (view l) .1) l) ≡ true
+unfolding produceCall
+produce-accepted l ok t room =
+    tested-store (produceCall t room (view l) .1) l
+    (either-way (λ (z : State). Suits z l) (isYes (produceAnswer t room (view l))) {x = produceEffect t (view l)} {y = view l} (suits-produced t (view l) l (suits-view l ok)) (suits-view l ok))

@@ -1,0 +1,35 @@
+use borrow.Author.Tests.{not-true, not-false}
+use mathlib.Core.List.{[]}
+use Rattle.tables.specs.Tables.{rows}
+use Rattle.layout.specs.Rows.{decFixed}
+use Rattle.layout.specs.Setups.{setupFrom}
+use Rattle.streams.specs.Owning.{owner-other, owner-free, owner-taken}
+use borrow.Author.Needs.{needs}
+use Rattle.streams.proofs.owning.owner.Statement.{statement}
+use Rattle.streams.proofs.owning.owner.Tie as tie
+
+is-owner-requires : tie.Need-is-owner-requires
+is-owner-requires c κs = search needs
+
+returns : tie.Need-returns
+returns c = let a = c .before .before .before .before .args in
+    owner-other (setupFrom (a .r .now) []) (a .kind) (a .output) (rows 70 decFixed (a .n) (a .t .now)) (c .before .is-owner .result) (c .before .is-owner .ensures) (not-true (c .before .is-owner .result) (c .if1 .taken))
+
+owned-requires : tie.Need-owned-requires
+owned-requires c κs = search needs
+
+returns-2 : tie.Need-returns-2
+returns-2 c = let a = c .before .before .before .before .before .before .args in
+    owner-free (setupFrom (a .r .now) []) (a .kind) (a .output) (rows 70 decFixed (a .n) (a .t .now)) (c .before .before .before .is-owner .result) (c .before .before .before .is-owner .ensures) (not-false (c .before .before .before .is-owner .result) (c .before .before .if1 .left)) (c .before .owned .result) (c .before .owned .ensures) (not-true (c .before .owned .result) (c .if2 .taken))
+
+instance-of-requires : tie.Need-instance-of-requires
+instance-of-requires c κs = search needs
+
+returns-3 : tie.Need-returns-3
+returns-3 c = let a = c .before .before .before .before .before .before .before .args in
+    owner-taken (setupFrom (a .r .now) []) (a .kind) (a .output) (rows 70 decFixed (a .n) (a .t .now)) (c .before .before .before .before .is-owner .result) (c .before .before .before .before .is-owner .ensures) (not-false (c .before .before .before .before .is-owner .result) (c .before .before .before .if1 .left)) (c .before .before .owned .result) (c .before .before .owned .ensures) (not-false (c .before .before .owned .result) (c .before .if2 .left)) (c .instance-of .result) (c .instance-of .ensures)
+
+pub owner-spec : {M : Type 1} → statement M
+owner-spec =
+    tie.close
+    (tie.spec is-owner-requires returns owned-requires returns-2 instance-of-requires returns-3)

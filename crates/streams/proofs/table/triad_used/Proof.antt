@@ -1,0 +1,67 @@
+use mathlib.Core.Path.{_≡_, refl, sym, _∙_}
+use Prim.Native.Nat.{_≤_, _-_}
+use native.Mathlib.Omega.{arith}
+use lib.ListN.{drop}
+use Rattle.tables.specs.Tables.{rows}
+use Rattle.rules.specs.Lists.{any}
+use Rattle.rules.specs.Checks.{hasTriad}
+use Rattle.layout.specs.Rows.{decFixed}
+use Rattle.streams.specs.TableLaws.{any-hit, any-miss, any-ends}
+use borrow.Author.Needs.{needs}
+use Rattle.streams.proofs.table.triad_used.Statement.{statement}
+use Rattle.streams.proofs.table.triad_used.Tie as tie
+
+abbrev Inv-loop : tie.InvT-loop
+Inv-loop r n t i₀ i =
+    (i ≤ n) × (any (hasTriad t) (rows 70 decFixed n r) ≡ any (hasTriad t) (drop i (rows 70 decFixed n r)))
+
+abbrev μ-loop : tie.MeasureT-loop
+μ-loop r n t i₀ i =
+    n - i
+
+loop-holds : tie.Need-loop-holds Inv-loop μ-loop
+loop-holds c =
+    (omega arith, refl)
+
+has-triad-at-requires : tie.Need-has-triad-at-requires Inv-loop μ-loop
+has-triad-at-requires c κs = search needs
+
+returns : tie.Need-returns Inv-loop μ-loop
+returns c =
+    let a = c .before .before .before .before .before .args in
+    let w = c .before .before .before .loop in
+    sym (w .inv .1 ∙ any-hit 70 decFixed (hasTriad (a .t)) (a .n) (a .r .now) (w .i) (omega arith) (sym (c .before .has-triad-at .ensures) ∙ c .if1 .taken))
+
+add-i : tie.Need-add-i Inv-loop μ-loop
+add-i c =
+    omega arith
+
+loop-less : tie.Need-loop-less Inv-loop μ-loop
+loop-less c =
+    omega arith
+
+loop-again : tie.Need-loop-again Inv-loop μ-loop
+loop-again c =
+    let a = c .before .before .before .before .before .args in
+    let w = c .before .before .before .loop in
+    (omega arith, w .inv .1 ∙ any-miss 70 decFixed (hasTriad (a .t)) (a .n) (a .r .now) (w .i) (omega arith) (sym (c .before .has-triad-at .ensures) ∙ c .if1 .left))
+
+returns-2 : tie.Need-returns-2 Inv-loop μ-loop
+returns-2 c =
+    let a = c .before .before .before .args in
+    let w = c .before .loop in
+    sym (w .inv .1 ∙ any-ends 70 decFixed (hasTriad (a .t)) (a .n) (a .r .now) (w .i) (omega arith))
+
+pub triad-used-spec : {M : Type 1} → statement M
+triad-used-spec =
+    tie.close
+    (tie.spec
+    Inv-loop
+    μ-loop
+    loop-holds
+    has-triad-at-requires
+    returns
+    add-i
+    loop-less
+    loop-again
+    returns-2)
