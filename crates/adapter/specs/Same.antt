@@ -42,6 +42,7 @@ request-once message out x y = two-outcomes x y
 
 pub open-refusal-once : (request out : List ℕ) (service : ℕ) (x y : ℕ × List ℕ) → x ≡ answered (refusalAnswer service request) out → y ≡ answered (refusalAnswer service request) out → x ≡ y
 open-refusal-once request out service x y = two-outcomes x y
+
 pub produce-once : (s out : List ℕ) (t : ℕ) (x y : ℕ × (List ℕ × List ℕ)) → x ≡ liftedOut (produceCall t) s out → y ≡ liftedOut (produceCall t) s out → x ≡ y
 produce-once s out t x y = two-outcomes x y
 
