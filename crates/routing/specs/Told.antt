@@ -1,7 +1,7 @@
 -- The answers by what was read.
 use Prim.Native.Nat.{ℕ, _≤_, _<_}
 use mathlib.Core.List.{List, [], _∷_}
-use mathlib.Core.Path.{_≡_, refl, ap, sym}
+use mathlib.Core.Path.{_≡_, refl, ap, sym, _∙_}
 use lib.ListN.{length}
 use Rattle.cells.specs.Records.{sum, ofBool, putFields}
 use Rattle.wire_paths.specs.declared.Key.{Key}
@@ -56,6 +56,28 @@ module _ (out : List ℕ) where
   pub request-all : (q : Request) (out′ : List ℕ) → 20 ≤ length out → out′ ≡ putFields requestWidths out 0 (requestFields q) → (5120, out′) ≡ answered (requestTold q) out
   unfolding requestTold requestRecord sum
   request-all q out′ h f = wrote-all requestWidths (requestFields q) out tt 20 refl out′ h f
+
+  -- a record's parts, one after the other
+  pub path-parts : (p : ConnectionPath) (o₁ o₂ o₃ o₄ : List ℕ)
+      → o₁ ≡ putFields (1 ∷ 1 ∷ 1 ∷ 1 ∷ []) out 0 (ofBool (p .barred) ∷ ofBool (p .haskey) ∷ ofBool (p .hasclass) ∷ p .count ∷ [])
+      → o₂ ≡ putFields (2 ∷ 2 ∷ 2 ∷ 1 ∷ 1 ∷ []) o₁ 4 (p .key .vendor ∷ p .key .device ∷ p .key .product ∷ p .key .major ∷ p .key .minor ∷ [])
+      → o₃ ≡ putFields (4 ∷ 4 ∷ 4 ∷ 4 ∷ []) o₂ 12 (p .class ∷ p .first ∷ p .second ∷ p .third ∷ [])
+      → o₄ ≡ putFields (2 ∷ 2 ∷ []) o₃ 28 (p .datastart ∷ p .datalen ∷ [])
+      → o₄ ≡ putFields pathWidths out 0 (pathFields p)
+  path-parts p o₁ o₂ o₃ o₄ e₁ e₂ e₃ e₄ =
+      e₄ ∙ ap (λ (x : List ℕ). putFields (2 ∷ 2 ∷ []) x 28 (p .datastart ∷ p .datalen ∷ []))
+      (e₃ ∙ ap (λ (x : List ℕ). putFields (4 ∷ 4 ∷ 4 ∷ 4 ∷ []) x 12 (p .class ∷ p .first ∷ p .second ∷ p .third ∷ []))
+      (e₂ ∙ ap (λ (x : List ℕ). putFields (2 ∷ 2 ∷ 2 ∷ 1 ∷ 1 ∷ []) x 4 (p .key .vendor ∷ p .key .device ∷ p .key .product ∷ p .key .major ∷ p .key .minor ∷ [])) e₁))
+
+  pub request-parts : (q : Request) (o₁ o₂ : List ℕ) (n h a b c : ℕ) → n ≡ isNamed (q .object) → h ≡ hasAttribute (q .attribute)
+      → a ≡ classOf (q .object) → b ≡ instanceOf (q .object) → c ≡ attributeOf (q .attribute)
+      → o₁ ≡ putFields (1 ∷ 1 ∷ 1 ∷ 1 ∷ []) out 0 (q .service ∷ n ∷ h ∷ 0 ∷ [])
+      → o₂ ≡ putFields (4 ∷ 4 ∷ 4 ∷ 4 ∷ []) o₁ 4 (a ∷ b ∷ c ∷ q .datastart ∷ [])
+      → o₂ ≡ putFields requestWidths out 0 (requestFields q)
+  request-parts q o₁ o₂ n h a b c en eh ea eb ec e₁ e₂ =
+      let m : o₁ ≡ putFields (1 ∷ 1 ∷ 1 ∷ 1 ∷ []) out 0 (q .service ∷ isNamed (q .object) ∷ hasAttribute (q .attribute) ∷ 0 ∷ []) =
+      e₁ ∙ (λ i. putFields (1 ∷ 1 ∷ 1 ∷ 1 ∷ []) out 0 (q .service ∷ en i ∷ eh i ∷ 0 ∷ [])) in
+      e₂ ∙ (λ i. putFields (4 ∷ 4 ∷ 4 ∷ 4 ∷ []) (m i) 4 (ea i ∷ eb i ∷ ec i ∷ q .datastart ∷ []))
 
 -- the readers
 module _ (s out : List ℕ) where

@@ -1,3 +1,4 @@
+use Rattle.cells.specs.Records.{puts, done, step}
 use borrow.Author.Needs.{needs}
 use Rattle.routing.proofs.put_four.Statement.{statement}
 use Rattle.routing.proofs.put_four.Tie as tie
@@ -36,7 +37,9 @@ same-length : tie.Need-same-length
 same-length c = search needs
 
 returns : tie.Need-returns
-returns c = cc
+returns c =
+    puts
+    (step (c .before .before .before .before .before .before .before .before .before .before .before .before .before .before .put-u32 .ensures) (step (c .before .before .before .before .before .before .before .before .before .before .put-u322 .ensures) (step (c .before .before .before .before .before .before .put-u323 .ensures) (step (c .before .before .put-u324 .ensures) done))))
 
 pub put-four-spec : {M : Type 1} → statement M
 put-four-spec =

@@ -1,3 +1,4 @@
+use Rattle.cells.specs.Records.{puts, done, step}
 use borrow.Author.Needs.{needs}
 use Rattle.routing.proofs.put_head.Statement.{statement}
 use Rattle.routing.proofs.put_head.Tie as tie
@@ -18,7 +19,9 @@ same-length : tie.Need-same-length
 same-length c = search needs
 
 returns : tie.Need-returns
-returns c = cc
+returns c =
+    puts
+    (step (c .before .before .before .before .before .before .before .before .before .before .before .before .before .before .put-u8 .ensures) (step (c .before .before .before .before .before .before .before .before .before .before .put-u82 .ensures) (step (c .before .before .before .before .before .before .put-u83 .ensures) (step (c .before .before .put-u84 .ensures) done))))
 
 pub put-head-spec : {M : Type 1} → statement M
 put-head-spec =

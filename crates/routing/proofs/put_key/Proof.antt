@@ -1,3 +1,4 @@
+use Rattle.cells.specs.Records.{puts, done, step}
 use borrow.Author.Needs.{needs}
 use Rattle.routing.proofs.put_key.Statement.{statement}
 use Rattle.routing.proofs.put_key.Tie as tie
@@ -21,7 +22,9 @@ same-length : tie.Need-same-length
 same-length c = search needs
 
 returns : tie.Need-returns
-returns c = cc
+returns c =
+    puts
+    (step (c .before .before .before .before .before .before .before .before .before .before .before .before .before .before .before .before .before .before .put-u16 .ensures) (step (c .before .before .before .before .before .before .before .before .before .before .before .before .before .before .put-u162 .ensures) (step (c .before .before .before .before .before .before .before .before .before .before .put-u163 .ensures) (step (c .before .before .before .before .before .before .put-u8 .ensures) (step (c .before .before .put-u82 .ensures) done)))))
 
 pub put-key-spec : {M : Type 1} → statement M
 put-key-spec =

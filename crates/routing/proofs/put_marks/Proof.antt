@@ -1,3 +1,4 @@
+use Rattle.cells.specs.Records.{puts, done, step}
 use borrow.Author.Needs.{needs}
 use Rattle.routing.proofs.put_marks.Statement.{statement}
 use Rattle.routing.proofs.put_marks.Tie as tie
@@ -18,7 +19,9 @@ same-length : tie.Need-same-length
 same-length c = search needs
 
 returns : tie.Need-returns
-returns c = cc
+returns c =
+    puts
+    (step (c .before .before .before .before .before .before .before .before .before .before .before .before .before .before .put-bool .ensures) (step (c .before .before .before .before .before .before .before .before .before .before .put-bool2 .ensures) (step (c .before .before .before .before .before .before .put-bool3 .ensures) (step (c .before .before .put-u8 .ensures) done))))
 
 pub put-marks-spec : {M : Type 1} → statement M
 put-marks-spec =

@@ -1,5 +1,5 @@
 use native.Mathlib.Omega.{arith}
-use Rattle.routing.specs.Told.{path-none, path-all}
+use Rattle.routing.specs.Told.{path-none, path-all, path-parts}
 use borrow.Author.Needs.{needs}
 use Rattle.routing.proofs.put_path.Statement.{statement}
 use Rattle.routing.proofs.put_path.Tie as tie
@@ -32,7 +32,9 @@ same-length : tie.Need-same-length
 same-length c = search needs
 
 returns-2 : tie.Need-returns-2
-returns-2 c = path-all _ _ _ (omega arith) (cc)
+returns-2 c =
+    path-all _ _ _ (omega arith)
+    (path-parts (c .before .before .before .before .before .before .before .before .before .before .before .before .before .before .before .before .before .before .before .before .before .args .out .now) (c .before .before .before .before .before .before .before .before .before .before .before .before .before .before .before .before .before .before .before .before .before .args .p) _ _ _ _ (c .before .before .before .before .before .before .before .before .before .before .before .before .before .before .before .before .put-marks .ensures) (c .before .before .before .before .before .before .before .before .before .before .before .before .put-key .ensures) (c .before .before .before .before .before .before .before .before .put-four .ensures) (c .before .before .put-place .ensures))
 
 pub put-path-spec : {M : Type 1} → statement M
 put-path-spec =

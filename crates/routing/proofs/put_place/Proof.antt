@@ -1,3 +1,4 @@
+use Rattle.cells.specs.Records.{puts, done, step}
 use borrow.Author.Needs.{needs}
 use Rattle.routing.proofs.put_place.Statement.{statement}
 use Rattle.routing.proofs.put_place.Tie as tie
@@ -12,7 +13,9 @@ same-length : tie.Need-same-length
 same-length c = search needs
 
 returns : tie.Need-returns
-returns c = cc
+returns c =
+    puts
+    (step (c .before .before .before .before .before .before .put-u16 .ensures) (step (c .before .before .put-u162 .ensures) done))
 
 pub put-place-spec : {M : Type 1} → statement M
 put-place-spec = tie.close (tie.spec put-u16-requires put-u16-requires-2 same-length returns)

@@ -1,5 +1,5 @@
 use native.Mathlib.Omega.{arith}
-use Rattle.routing.specs.Told.{request-none, request-all}
+use Rattle.routing.specs.Told.{request-none, request-all, request-parts}
 use borrow.Author.Needs.{needs}
 use Rattle.routing.proofs.put_request.Statement.{statement}
 use Rattle.routing.proofs.put_request.Tie as tie
@@ -35,7 +35,9 @@ same-length : tie.Need-same-length
 same-length c = search needs
 
 returns-2 : tie.Need-returns-2
-returns-2 c = request-all _ _ _ (omega arith) (cc)
+returns-2 c =
+    request-all _ _ _ (omega arith)
+    (request-parts (c .before .before .before .before .before .before .before .before .before .before .before .before .before .before .before .before .args .out .now) (c .before .before .before .before .before .before .before .before .before .before .before .before .before .before .before .before .args .q) _ _ _ _ _ _ _ (c .before .before .before .before .before .before .before .before .before .before .before .before .is-named .ensures) (c .before .before .before .before .before .before .before .before .before .before .before .has-attribute .ensures) (c .before .before .before .before .before .before .class-of .ensures) (c .before .before .before .before .before .instance-of .ensures) (c .before .before .before .before .attribute-of .ensures) (c .before .before .before .before .before .before .before .before .before .before .put-head .ensures) (c .before .before .put-four .ensures))
 
 pub put-request-spec : {M : Type 1} → statement M
 put-request-spec =
