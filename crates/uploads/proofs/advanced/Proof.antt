@@ -1,3 +1,4 @@
+use Rattle.rules.specs.declared.objects.Last.the-variants.{Was}
 use Rattle.uploads.specs.Steps.{advancedTo}
 use borrow.Author.Needs.{needs}
 use Rattle.uploads.proofs.advanced.Statement.{statement}
@@ -11,7 +12,7 @@ next-offset-requires c κs = search needs
 
 returns : tie.Need-returns
 unfolding advancedTo
-returns c = cc
+returns c = λ i. record { size = c .before .before .args .p .size; next = c .before .next-number .ensures i; offset = c .next-offset .ensures i; last = Was (c .before .before .args .p .next) (c .before .before .args .p .offset) }
 
 pub advanced-spec : {M : Type 1} → statement M
 advanced-spec = tie.close (tie.spec next-number-requires next-offset-requires returns)

@@ -1,3 +1,5 @@
+use mathlib.Core.Path.{_∙_}
+use Rattle.uploads.specs.Positions.{plain}
 use borrow.Author.Needs.{needs}
 use Rattle.uploads.proofs.bytes_plain.Statement.{statement}
 use Rattle.uploads.proofs.bytes_plain.Tie as tie
@@ -24,7 +26,9 @@ plain-requires : tie.Need-plain-requires
 plain-requires c κs = search needs
 
 returns : tie.Need-returns
-returns c = cc
+returns c =
+    c .plain .ensures
+    ∙ (λ i. plain (c .before .before .before .before .before .before .u8-at .ensures i) (c .before .before .before .before .before .u8-at2 .ensures i) (c .before .before .before .before .u8-at3 .ensures i) (c .before .before .before .u8-at4 .ensures i) (c .before .before .u16-at .ensures i) (c .before .u16-at2 .ensures i))
 
 pub bytes-plain-spec : {M : Type 1} → statement M
 bytes-plain-spec =

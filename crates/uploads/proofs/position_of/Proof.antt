@@ -1,4 +1,5 @@
-use Rattle.uploads.specs.Positions.{decPosition}
+use mathlib.Core.Path.{_∙_}
+use Rattle.uploads.specs.Positions.{decPosition, toLast}
 use borrow.Author.Needs.{needs}
 use Rattle.uploads.proofs.position_of.Statement.{statement}
 use Rattle.uploads.proofs.position_of.Tie as tie
@@ -26,7 +27,13 @@ last-of-requires c κs = search needs
 
 returns : tie.Need-returns
 unfolding decPosition
-returns c = cc
+returns c = λ i.
+    record {
+      size = c .before .before .before .before .before .before .u8-at .ensures i;
+      next = c .before .before .before .before .before .u8-at2 .ensures i;
+      offset = c .before .before .before .before .u16-at .ensures i;
+      last = (c .last-of .ensures ∙ (λ j. toLast (c .before .before .before .u8-at3 .ensures j) (c .before .before .u8-at4 .ensures j) (c .before .u16-at2 .ensures j))) i;
+    }
 
 pub position-of-spec : {M : Type 1} → statement M
 position-of-spec =

@@ -1,3 +1,4 @@
+use Rattle.cells.specs.Records.{puts, done, step}
 use borrow.Author.Needs.{needs}
 use Rattle.uploads.proofs.put_fields.Statement.{statement}
 use Rattle.uploads.proofs.put_fields.Tie as tie
@@ -24,7 +25,9 @@ same-length : tie.Need-same-length
 same-length c = search needs
 
 returns : tie.Need-returns
-returns c = cc
+returns c =
+    puts
+    (step (c .before .before .before .before .before .before .before .before .before .before .before .before .before .before .before .before .before .before .before .before .before .before .put-u8 .ensures) (step (c .before .before .before .before .before .before .before .before .before .before .before .before .before .before .before .before .before .before .put-u82 .ensures) (step (c .before .before .before .before .before .before .before .before .before .before .before .before .before .before .put-u83 .ensures) (step (c .before .before .before .before .before .before .before .before .before .before .put-u84 .ensures) (step (c .before .before .before .before .before .before .put-u16 .ensures) (step (c .before .before .put-u162 .ensures) done))))))
 
 pub put-fields-spec : {M : Type 1} → statement M
 put-fields-spec =

@@ -1,3 +1,4 @@
+use Rattle.cells.specs.Records.{puts, done, step}
 use Rattle.uploads.proofs.SendLaws.{length-sent}
 use borrow.Author.Needs.{needs}
 use Rattle.uploads.proofs.replies.send_length.Statement.{statement}
@@ -16,7 +17,7 @@ same-length : tie.Need-same-length
 same-length c = search needs
 
 returns : tie.Need-returns
-returns c = let a = c .before .before .before .before .before .before .before .before .before .before .args in length-sent (a .eds .now) (a .size) _ _ (cc)
+returns c = let a = c .before .before .before .before .before .before .before .before .before .before .args in length-sent (a .eds .now) (a .size) _ _ (puts (step (c .before .before .before .before .before .before .put-u32 .ensures) (step (c .before .before .put-u8 .ensures) done)))
 
 pub send-length-spec : {M : Type 1} → statement M
 send-length-spec =
