@@ -5,3 +5,7 @@ mod opens;
 mod routes;
 mod start;
 mod traffic;
+pub mod ends;
+pub mod host;
+pub mod start;
+pub mod traffic;

@@ -1,0 +1,65 @@
+// Two owners in the table, written as docs/STATE.md has the rows, and their frames.
+use crate::memory;
+use adapter::traffic::threshtide_receive;
+
+pub const PEER: u32 = 0x0A000001;
+
+// An owner of the output at a place, from 10.0.0.1, O->T RPI 10,000 with multiplier 0; it lives until 100,000 and does not produce.
+fn add_owner(row: &mut [u8], id: u8, output: u8) {
+    memory::put(row, 30, output);
+    memory::put(row, 33, id);
+    memory::put(row, 37, 1);
+    memory::put(row, 40, 10);
+    memory::put(row, 61, id);
+    if row.len() == 70 {
+        cells::put_u64(row, 16, 100000);
+        cells::put_u32(row, 45, 10000);
+    }
+}
+
+// Id 1 owns the output at place 1, instance 101; id 2 owns that at place 4, instance 104.
+pub fn add_owners(state: &mut [u8]) {
+    if state.len() != 109056 {
+        return;
+    }
+    add_owner(&mut state[256..326], 1, 1);
+    add_owner(&mut state[326..396], 2, 4);
+    memory::put(state, 224, 2);
+}
+
+// A frame of a connection: its number as sequence and CIP sequence, run, and four bytes of data.
+pub fn hear(state: &mut [u8], time: u64, id: u8, n: u16, byte: u8) -> u64 {
+    let mut f = [
+        2u8,
+        0,
+        2,
+        128,
+        8,
+        0,
+        id,
+        0,
+        0,
+        0,
+        0,
+        0,
+        0,
+        0,
+        177,
+        0,
+        10,
+        0,
+        0,
+        0,
+        1,
+        0,
+        0,
+        0,
+        byte,
+        0,
+        0,
+        0,
+    ];
+    cells::put_u16(&mut f, 10, n);
+    cells::put_u16(&mut f, 18, n);
+    threshtide_receive(state, time, PEER, &f)
+}
