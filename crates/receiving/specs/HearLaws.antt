@@ -31,8 +31,8 @@ use Rattle.image.specs.Holds.{Holds, Becomes, conns-held, conn-held, table-held
 use Rattle.image.specs.Kept.{suits-row}
 use Rattle.image.specs.Changes.{heardAs}
 use Rattle.image.specs.Searches.{place-in, find-at, change-at, change-at-place}
-use Rattle.receiving.specs.declared.Found.{Found}
-use Rattle.receiving.specs.declared.Found.the-variants.{At, Nowhere}
+use Rattle.hearing.specs.declared.Found.{Found}
+use Rattle.hearing.specs.declared.Found.the-variants.{At, Nowhere}
 use Rattle.receiving.specs.Steps.{placeOf, hears, heardAt, accepted, offered, Offers, Hears, HearsFrom}
 
 -- ---- states

@@ -19,16 +19,7 @@ use Rattle.image.specs.Image.{store}
 use Rattle.image.specs.Updates.{noConn}
 use Rattle.image.specs.Holds.{Holds, Becomes}
 use Rattle.image.specs.Changes.{bytesAs}
-use Rattle.receiving.specs.declared.Found.{Found}
-use Rattle.receiving.specs.declared.Found.the-variants.{At, Nowhere}
-
-abbrev pub placeOf : Found → Option ℕ
-placeOf (At i) = some i
-placeOf Nowhere = none
-
--- the connection with that O→T id and sender address
-abbrev pub hears : OtId → ℕ → Conn → Bool
-hears id from c = eqb (c .fixed .otid .0) (id .0) && eqb (c .fixed .originator) from
+pub use Rattle.hearing.specs.Decisions.{placeOf, hears}
 
 -- what a frame does at the connection of place i
 unfoldable pub heardAt : ℕ → Frame → ℕ → State → State

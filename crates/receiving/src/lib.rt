@@ -1,100 +1,22 @@
 // Frames in. A frame is for the first connection with its O→T id and its sender's address; document 01's order decides what is
 // recorded before what is looked at.
+use hearing::Found;
 use ids::OtId;
 use rules::Event;
 use rules::Heard;
-use rules::Kind;
 use wire_items::IoFrame;
 ghost use mathlib.Core.Path.{_≡_};
-ghost use mathlib.Core.Bool.{Bool, true, false, not, _&&_, _||_, Bool·beq};
-ghost use Prim.Native.Nat.{ℕ, _+_, _*_, _≤_, _<_};
-ghost use lib.Dec.{eqb, leb};
-ghost use lib.ListN.{length, take, drop, getD};
+ghost use mathlib.Core.Bool.{not, _||_, Bool·beq};
+ghost use Prim.Native.Nat.{_+_, _≤_, _<_};
+ghost use lib.Dec.{eqb};
+ghost use lib.ListN.{length};
 ghost use Rattle.cells.specs.Numbers.{le};
-ghost use Rattle.tables.specs.Tables.{rows};
 ghost use Rattle.wire_opens.specs.Timeout.{timeoutOf};
-ghost use Rattle.rules.specs.Lists.{place, same};
-ghost use Rattle.rules.specs.State.{isOwner};
-ghost use Rattle.rules.specs.Receiving.{newer, receiveEffect};
-ghost use Rattle.layout.specs.Rows.{decConn};
+ghost use Rattle.rules.specs.Lists.{same};
+ghost use Rattle.rules.specs.Receiving.{receiveEffect};
 ghost use Rattle.image.specs.Holds.{Ready, Slotted, Becomes};
 ghost use Rattle.image.specs.Kept.{Kept};
-ghost use Rattle.receiving.specs.Steps.{placeOf, hears, Replaces, TakesIn, Offers, Hears, HearsFrom};
-
-// Where a connection is.
-pub enum Found {
-    At(usize),
-    Nowhere,
-}
-
-// ---- what is decided
-
-fn is_for(r: &[u8], i: usize, id: OtId, from: u32) -> bool
-    requires { ⌜ (i < 32) × (2304 ≤ length (now r)) ⌝ }
-    ensures { λ x. ⌜ x ≡ hears id from (decConn (take 70 (drop (i * 70) (now (r .entry))))) ⌝ }
-{
-    let x = layout::otid_at(r, i);
-    if x.0 != id.0 {
-        return false;
-    }
-    layout::originator_at(r, i) == from
-}
-
-fn find(r: &[u8], n: usize, id: OtId, from: u32) -> Found
-    requires { ⌜ (n ≤ 32) × (2304 ≤ length (now r)) ⌝ }
-    ensures { λ x. ⌜ placeOf x ≡ place (hears id from) (rows 70 decConn n (now (r .entry))) ⌝ }
-{
-    let mut i = 0;
-    while i < n {
-        if is_for(r, i, id, from) {
-            return Found::At(i);
-        }
-        i += 1;
-    }
-    Found::Nowhere
-}
-
-// The sequence minus the last, modulo 2^32, must be 1 to 0x7FFFFFFF; the first is free.
-fn is_newer(h: Heard, q: u32) -> bool
-    ensures { λ r. ⌜ r ≡ newer h q ⌝ }
-{
-    if !h.any {
-        return true;
-    }
-    let a = ((q as u64) + 4294967296 - (h.sequence as u64)) % 4294967296;
-    if a < 1 {
-        return false;
-    }
-    a <= 2147483647
-}
-
-fn is_owner(k: Kind) -> bool
-    ensures { λ r. ⌜ r ≡ isOwner k ⌝ }
-{
-    match k {
-        Kind::Owner => true,
-        Kind::InputOnly => false,
-        Kind::ListenOnly => false,
-    }
-}
-
-fn has_cip(k: Kind, d: &[u8]) -> bool
-    ensures { λ r. ⌜ r ≡ isOwner k && leb 2 (length (now (d .entry))) ⌝ }
-{
-    if !is_owner(k) {
-        return false;
-    }
-    2 <= d.len()
-}
-
-fn repeats(h: Heard, cip: u16) -> bool
-    ensures { λ r. ⌜ r ≡ h .anycip && eqb (h .cip) cip ⌝ }
-{
-    if !h.anycip {
-        return false;
-    }
-    h.cip == cip
-}
+ghost use Rattle.receiving.specs.Steps.{Replaces, TakesIn, Offers, Hears, HearsFrom};
 
 // How long a connection lives that was heard at a time.
 pub fn lives_until(time: u64, rpi: u32, multiplier: u8) -> u64
@@ -187,13 +109,13 @@ fn hear(s: &mut [u8], i: usize, time: u64, q: u32, d: &[u8])
     ensures { λ _. ⌜ Hears i time q (now (d .entry)) (now (s .entry)) (now (s .exit)) ⌝ }
 {
     let h = layout::heard_at(&s[256..2560], i);
-    if !is_newer(h, q) {
+    if !hearing::is_newer(h, q) {
         return;
     }
     let f = layout::fixed_at(&s[256..2560], i);
     let k = f.kind;
     let until = lives_until(time, f.otrpi, f.multiplier);
-    if !has_cip(k, d) {
+    if !hearing::has_cip(k, d) {
         let x = Heard {
             until,
             any: true,
@@ -213,7 +135,7 @@ fn hear(s: &mut [u8], i: usize, time: u64, q: u32, d: &[u8])
         cip,
     };
     changes::put_heard(s, i, x);
-    if repeats(h, cip) {
+    if hearing::repeats(h, cip) {
         return;
     }
     offer(s, f.output, d);
@@ -224,7 +146,7 @@ fn hear_from(s: &mut [u8], time: u64, from: u32, id: OtId, q: u32, d: &[u8])
     ensures { λ _. ⌜ HearsFrom time from id q (now (d .entry)) (now (s .entry)) (now (s .exit)) ⌝ }
 {
     let n = cells::u16_at(s, 224) as usize;
-    match find(&s[256..2560], n, id, from) {
+    match hearing::find(&s[256..2560], n, id, from) {
         Found::At(i) => {
             hear(s, i, time, q, d);
         }

@@ -1,9 +1,9 @@
 use native.Mathlib.Omega.{arith}
 use borrow.Author.Tests.{not-true, not-false}
-use Rattle.receiving.specs.DecisionLaws.{newer-first, newer-low, newer-rest}
+use Rattle.hearing.specs.DecisionLaws.{newer-first, newer-low, newer-rest}
 use borrow.Author.Needs.{needs}
-use Rattle.receiving.proofs.is_newer.Statement.{statement}
-use Rattle.receiving.proofs.is_newer.Tie as tie
+use Rattle.hearing.proofs.is_newer.Statement.{statement}
+use Rattle.hearing.proofs.is_newer.Tie as tie
 
 returns : tie.Need-returns
 returns c = newer-first (c .before .before .args .h) (c .before .before .args .q) (not-true (c .before .before .args .h .any) (c .if1 .taken))

@@ -1,8 +1,8 @@
 use borrow.Author.Tests.{not-true, not-false}
-use Rattle.receiving.specs.DecisionLaws.{cip-not, cip-rest}
+use Rattle.hearing.specs.DecisionLaws.{cip-not, cip-rest}
 use borrow.Author.Needs.{needs}
-use Rattle.receiving.proofs.has_cip.Statement.{statement}
-use Rattle.receiving.proofs.has_cip.Tie as tie
+use Rattle.hearing.proofs.has_cip.Statement.{statement}
+use Rattle.hearing.proofs.has_cip.Tie as tie
 
 is-owner-requires : tie.Need-is-owner-requires
 is-owner-requires c κs = search needs

@@ -6,10 +6,10 @@ use Rattle.tables.specs.Tables.{rows}
 use Rattle.rules.specs.Lists.{place}
 use Rattle.layout.specs.Rows.{decConn}
 use Rattle.image.specs.Searches.{later, later-zero, search-hit, search-miss, search-ends}
-use Rattle.receiving.specs.Steps.{hears}
+use Rattle.hearing.specs.Decisions.{hears}
 use borrow.Author.Needs.{needs}
-use Rattle.receiving.proofs.find.Statement.{statement}
-use Rattle.receiving.proofs.find.Tie as tie
+use Rattle.hearing.proofs.find.Statement.{statement}
+use Rattle.hearing.proofs.find.Tie as tie
 
 abbrev Inv-loop : tie.InvT-loop
 Inv-loop r n id from i₀ i = (i ≤ n) × (place (hears id from) (rows 70 decConn n r) ≡ later i (place (hears id from) (drop i (rows 70 decConn n r))))

@@ -1,8 +1,8 @@
 use borrow.Author.Tests.{not-true, not-false}
-use Rattle.receiving.specs.DecisionLaws.{repeats-not, repeats-rest}
+use Rattle.hearing.specs.DecisionLaws.{repeats-not, repeats-rest}
 use borrow.Author.Needs.{needs}
-use Rattle.receiving.proofs.repeats.Statement.{statement}
-use Rattle.receiving.proofs.repeats.Tie as tie
+use Rattle.hearing.proofs.repeats.Statement.{statement}
+use Rattle.hearing.proofs.repeats.Tie as tie
 
 returns : tie.Need-returns
 returns c = repeats-not (c .before .before .args .h) (c .before .before .args .cip) (not-true (c .before .before .args .h .anycip) (c .if1 .taken))

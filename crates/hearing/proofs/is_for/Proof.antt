@@ -1,9 +1,9 @@
 use Prim.Native.Nat.{_*_}
 use lib.ListN.{take, drop}
-use Rattle.receiving.specs.DecisionLaws.{other-id, same-id}
+use Rattle.hearing.specs.DecisionLaws.{other-id, same-id}
 use borrow.Author.Needs.{needs}
-use Rattle.receiving.proofs.is_for.Statement.{statement}
-use Rattle.receiving.proofs.is_for.Tie as tie
+use Rattle.hearing.proofs.is_for.Statement.{statement}
+use Rattle.hearing.proofs.is_for.Tie as tie
 
 otid-at-requires : tie.Need-otid-at-requires
 otid-at-requires c κs = search needs

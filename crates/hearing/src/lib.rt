@@ -1,0 +1,90 @@
+// What receive decides: whom a frame is for, whether it is newer, whether it has a CIP sequence, and whether that was the last one.
+use ids::OtId;
+use rules::Heard;
+use rules::Kind;
+ghost use mathlib.Core.Path.{_≡_};
+ghost use mathlib.Core.Bool.{_&&_};
+ghost use Prim.Native.Nat.{_*_, _≤_, _<_};
+ghost use lib.Dec.{eqb, leb};
+ghost use lib.ListN.{length, take, drop};
+ghost use Rattle.tables.specs.Tables.{rows};
+ghost use Rattle.rules.specs.Lists.{place};
+ghost use Rattle.rules.specs.State.{isOwner};
+ghost use Rattle.rules.specs.Receiving.{newer};
+ghost use Rattle.layout.specs.Rows.{decConn};
+ghost use Rattle.hearing.specs.Decisions.{placeOf, hears};
+
+// Where a connection is.
+pub enum Found {
+    At(usize),
+    Nowhere,
+}
+
+fn is_for(r: &[u8], i: usize, id: OtId, from: u32) -> bool
+    requires { ⌜ (i < 32) × (2304 ≤ length (now r)) ⌝ }
+    ensures { λ x. ⌜ x ≡ hears id from (decConn (take 70 (drop (i * 70) (now (r .entry))))) ⌝ }
+{
+    let x = layout::otid_at(r, i);
+    if x.0 != id.0 {
+        return false;
+    }
+    layout::originator_at(r, i) == from
+}
+
+pub fn find(r: &[u8], n: usize, id: OtId, from: u32) -> Found
+    requires { ⌜ (n ≤ 32) × (2304 ≤ length (now r)) ⌝ }
+    ensures { λ x. ⌜ placeOf x ≡ place (hears id from) (rows 70 decConn n (now (r .entry))) ⌝ }
+{
+    let mut i = 0;
+    while i < n {
+        if is_for(r, i, id, from) {
+            return Found::At(i);
+        }
+        i += 1;
+    }
+    Found::Nowhere
+}
+
+// The sequence minus the last, modulo 2^32, must be 1 to 0x7FFFFFFF; the first is free.
+pub fn is_newer(h: Heard, q: u32) -> bool
+    ensures { λ r. ⌜ r ≡ newer h q ⌝ }
+{
+    if !h.any {
+        return true;
+    }
+    let a = ((q as u64) + 4294967296 - (h.sequence as u64)) % 4294967296;
+    if a < 1 {
+        return false;
+    }
+    a <= 2147483647
+}
+
+fn is_owner(k: Kind) -> bool
+    ensures { λ r. ⌜ r ≡ isOwner k ⌝ }
+{
+    match k {
+        Kind::Owner => true,
+        Kind::InputOnly => false,
+        Kind::ListenOnly => false,
+    }
+}
+
+// Whether a CIP sequence is there: an owner alone has one.
+pub fn has_cip(k: Kind, d: &[u8]) -> bool
+    ensures { λ r. ⌜ r ≡ isOwner k && leb 2 (length (now (d .entry))) ⌝ }
+{
+    if !is_owner(k) {
+        return false;
+    }
+    2 <= d.len()
+}
+
+// Whether the last frame had the same CIP sequence.
+pub fn repeats(h: Heard, cip: u16) -> bool
+    ensures { λ r. ⌜ r ≡ h .anycip && eqb (h .cip) cip ⌝ }
+{
+    if !h.anycip {
+        return false;
+    }
+    h.cip == cip
+}
