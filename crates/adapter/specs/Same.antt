@@ -4,6 +4,8 @@ use mathlib.Core.List.{List}
 use mathlib.Core.Path.{_≡_}
 use Rattle.rules.specs.Host.{setInputCall, outputCall, assemblyAnswer, nextEventCall, connectionsAnswer, statsAnswer}
 use Rattle.rules.specs.Producing.{produceCall}
+use Rattle.rules.specs.Receiving.{receiveCall}
+use Rattle.rules.specs.Removal.{deadlineAnswer, closeCall, expireCall}
 use Rattle.image.specs.Lift.{lifted, liftedOut, liftedRead, two-outcomes}
 
 pub set-input-once : (s bytes : List ℕ) (n : ℕ) (x y : ℕ × List ℕ) → x ≡ lifted (setInputCall n bytes) s → y ≡ lifted (setInputCall n bytes) s → x ≡ y
@@ -26,3 +28,15 @@ stats-once s out x y = two-outcomes x y
 
 pub produce-once : (s out : List ℕ) (t : ℕ) (x y : ℕ × (List ℕ × List ℕ)) → x ≡ liftedOut (produceCall t) s out → y ≡ liftedOut (produceCall t) s out → x ≡ y
 produce-once s out t x y = two-outcomes x y
+
+pub receive-once : (s frame : List ℕ) (t from : ℕ) (x y : ℕ × List ℕ) → x ≡ lifted (receiveCall t from frame) s → y ≡ lifted (receiveCall t from frame) s → x ≡ y
+receive-once s frame t from x y = two-outcomes x y
+
+pub next-deadline-once : (s out : List ℕ) (x y : ℕ × List ℕ) → x ≡ liftedRead deadlineAnswer s out → y ≡ liftedRead deadlineAnswer s out → x ≡ y
+next-deadline-once s out x y = two-outcomes x y
+
+pub close-once : (s request out : List ℕ) (x y : ℕ × (List ℕ × List ℕ)) → x ≡ liftedOut (closeCall request) s out → y ≡ liftedOut (closeCall request) s out → x ≡ y
+close-once s request out x y = two-outcomes x y
+
+pub expire-once : (s : List ℕ) (t : ℕ) (x y : ℕ × List ℕ) → x ≡ lifted (expireCall t) s → y ≡ lifted (expireCall t) s → x ≡ y
+expire-once s t x y = two-outcomes x y

@@ -1,8 +1,8 @@
 -- The pass that counts: one row, the rows in turn, and what the rules count.
 use Prim.Native.Nat.{ℕ, _+_, _*_, _-_, _≤_, _<_, max}
 use mathlib.Core.Bool.{Bool, true, false, cond}
-use mathlib.Core.List.{List, [], _∷_, _++_, map}
-use mathlib.Core.Path.{_≡_, refl, ap, ap₂, sym, _∙_}
+use mathlib.Core.List.{List, [], _∷_, _++_}
+use mathlib.Core.Path.{_≡_, ap, ap₂, sym, _∙_}
 use native.Mathlib.Omega.{arith}
 use native.Mathlib.Numerals.{add-one}
 use lib.Dec.{leb}
@@ -12,7 +12,7 @@ use borrow.Author.Tests.{le-leb, lt-leb, ne-eqb}
 use Rattle.cells.specs.Numbers.{le, le-take}
 use Rattle.cells.specs.Records.{ofBool}
 use Rattle.tables.specs.Ring.{by-cases}
-use Rattle.rules.specs.Lists.{keep, joined}
+use Rattle.rules.specs.Lists.{keep}
 use Rattle.rules.specs.State.{Setup, Content, State, noContent}
 use Rattle.rules.specs.Producing.{dueBy, due, lateBy, lateLimit, delays, greatest, inputBytes, packet, packets}
 use Rattle.rules.specs.declared.Conn.{Conn}

@@ -1,14 +1,14 @@
--- Packets out as code makes them: a pass that counts, and a pass that sends.
+-- Packets out as code makes them: one pass that counts, and one that sends.
 use Prim.Native.Nat.{ℕ, _+_, _≤_, max}
-use mathlib.Core.Bool.{Bool, cond}
-use mathlib.Core.List.{List, [], _∷_, _++_, map}
+use mathlib.Core.Bool.{cond}
+use mathlib.Core.List.{List, [], _∷_, map}
 use mathlib.Core.Path.{_≡_}
 use lib.Dec.{eqb, leb}
-use lib.ListN.{length, getD, take, drop, set}
+use lib.ListN.{length, getD, set}
 use lib.Seq.{sets}
 use Rattle.cells.specs.Records.{ofBool}
-use Rattle.rules.specs.Lists.{keep, joined}
-use Rattle.rules.specs.State.{Content, State, withTable, withSent}
+use Rattle.rules.specs.Lists.{keep}
+use Rattle.rules.specs.State.{Content, State, withTable}
 use Rattle.rules.specs.Answers.{answerNumber, answerBytes}
 use Rattle.rules.specs.Producing.{due, lateBy, lateLimit, delays, counted, greatest, sends, inputBytes, packet, packets, produceCall}
 use Rattle.rules.specs.declared.Conn.{Conn}

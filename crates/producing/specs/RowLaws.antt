@@ -1,15 +1,14 @@
 -- One connection: what the rules' words for it come to.
 use Prim.Native.Nat.{ℕ, _+_, _*_, _-_, _≤_, _<_}
 use mathlib.Core.Bool.{Bool, true, false, cond}
-use mathlib.Core.List.{List, [], _∷_, _++_, append-assoc}
-use mathlib.Core.Path.{_≡_, refl, ap, ap₂, sym, _∙_}
+use mathlib.Core.List.{List, [], append-assoc}
+use mathlib.Core.Path.{_≡_, refl, ap, sym, _∙_}
 use native.Mathlib.Omega.{arith}
 use lib.ListN.{length, getD, take, drop, set, length-drop}
 use lib.Seq.{sets, set-getD, length-take-le}
 use borrow.Rule.Slice.PartMut.{putMid}
 use Rattle.cells.specs.Numbers.{le, lent}
-use Rattle.cells.specs.Records.{ofBool}
-use Rattle.rules.specs.State.{Content, State, contentAt, withTable, withSent}
+use Rattle.rules.specs.State.{Content, State, withTable, withSent}
 use Rattle.rules.specs.Producing.{dueBy, due, sent, sends, inputBytes, frameOf, packet}
 use Rattle.rules.specs.declared.Conn.{Conn}
 use Rattle.rules.specs.declared.Fixed.{Fixed}
@@ -20,9 +19,9 @@ use Rattle.image.specs.Image.{store}
 use Rattle.image.specs.Holds.{Holds, Becomes, conns-held, conn-held}
 use Rattle.image.specs.Updates.{noConn}
 use Rattle.image.specs.Changes.{sentAs}
-use Rattle.packets.specs.Steps.{stepped, head, frameBytes, packetOf, Data}
+use Rattle.packets.specs.Steps.{stepped, head, packetOf, Data}
 use Rattle.packets.specs.PacketLaws.{length-packet}
-use Rattle.producing.specs.Passes.{packetOr, packetAt, sentRow, RowSent, Sends}
+use Rattle.producing.specs.Passes.{packetOr, packetAt, Sends}
 
 -- ---- the rules' packet is the one that code writes
 

@@ -24,7 +24,7 @@ same-length-2 : tie.Need-same-length-2
 same-length-2 c = search needs
 
 returns-2 : tie.Need-returns-2
-returns-2 c = 
+returns-2 c =
     let a = c .before .before .before .before .before .before .args in
     let s = a .state .now in
     let n = length (a .out .now) in
@@ -33,7 +33,7 @@ returns-2 c =
     (late-number (a .time) n (view s) (c .if2 .taken)) (late-state (a .time) n (view s) (c .if2 .taken)) (late-bytes (a .time) n (view s) (c .if2 .taken))
 
 produce-requires : tie.Need-produce-requires
-produce-requires c κs = 
+produce-requires c κs =
     let s = c .before .before .before .before .before .before .before .before .args .state .now in
     let t = sym (c .before .before .before .before .test-state .ensures) ∙ not-false (c .before .before .before .before .test-state .result) (c .before .before .before .if1 .left) in
     (ready-tested s t, slotted-tested s t, omega arith)
@@ -45,7 +45,7 @@ same-length-4 : tie.Need-same-length-4
 same-length-4 c = search needs
 
 returns-3 : tie.Need-returns-3
-returns-3 c = 
+returns-3 c =
     let a = c .before .before .before .before .before .before .before .before .before .before .before .before .before .args in
     let s = a .state .now in
     let t = sym (c .before .before .before .before .before .before .before .before .before .test-state .ensures) ∙ not-false (c .before .before .before .before .before .before .before .before .before .test-state .result) (c .before .before .before .before .before .before .before .before .if1 .left) in
