@@ -17,8 +17,9 @@ use Rattle.rules.specs.declared.Conn.{Conn}
 use Rattle.image.specs.Image.{store}
 use Rattle.image.specs.Holds.{Becomes, produced-held, late-held}
 use Rattle.image.specs.Changes.{countersAs}
-use Rattle.producing.specs.declared.Tally.{Tally}
-use Rattle.producing.specs.Passes.{totals, Totals, tallyKept, sentAll, SendsAll, Produces}
+use Rattle.counting.specs.declared.Tally.{Tally}
+use Rattle.counting.specs.Tallies.{totals, Totals}
+use Rattle.producing.specs.Passes.{tallyKept, sentAll, SendsAll, Produces}
 
 -- ---- the answers
 

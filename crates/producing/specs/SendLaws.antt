@@ -17,7 +17,8 @@ use Rattle.image.specs.Fits.{Suits}
 use Rattle.image.specs.Holds.{Holds, conns-held}
 use Rattle.image.specs.Kept.{suits-row}
 use Rattle.image.specs.Updates.{noConn}
-use Rattle.producing.specs.Passes.{packetOr, packetAt, sentRow, Sends, SendsAll}
+use Rattle.packets.specs.Rows.{packetOr}
+use Rattle.producing.specs.Passes.{packetAt, sentRow, Sends, SendsAll}
 
 -- ---- packets one behind the other
 
