@@ -2,9 +2,9 @@ use native.Mathlib.Omega.{arith}
 use Prim.Native.Nat.{_≤_, _*_, _-_}
 use mathlib.Core.Path.{_≡_, refl}
 use Rattle.cells.specs.Numbers.{le}
-use Rattle.producing.specs.CountLaws.{TallySoFar, tally-start, tally-turn, tally-end}
-use Rattle.producing.proofs.count_all.Statement.{statement}
-use Rattle.producing.proofs.count_all.Tie as tie
+use Rattle.counting.specs.CountLaws.{TallySoFar, tally-start, tally-turn, tally-end}
+use Rattle.counting.proofs.count_all.Statement.{statement}
+use Rattle.counting.proofs.count_all.Tie as tie
 
 abbrev Inv-loop : tie.InvT-loop
 Inv-loop s time n limit k₀ i₀ k i = (i ≤ n) × (k .need ≤ i * 545) × (k .count ≤ i) × (k .late ≤ i) × (n ≡ le 2 s 224) × (n ≤ 32) × TallySoFar time limit (le 8 s 208) i s k

@@ -1,8 +1,8 @@
 use Rattle.cells.specs.Numbers.{le}
-use Rattle.producing.specs.CountLaws.{limit-none, limit-some}
+use Rattle.counting.specs.CountLaws.{limit-none, limit-some}
 use borrow.Author.Needs.{needs}
-use Rattle.producing.proofs.late_limit.Statement.{statement}
-use Rattle.producing.proofs.late_limit.Tie as tie
+use Rattle.counting.proofs.late_limit.Statement.{statement}
+use Rattle.counting.proofs.late_limit.Tie as tie
 
 u32-at-requires : tie.Need-u32-at-requires
 u32-at-requires c κs = search needs

@@ -2,8 +2,8 @@ use mathlib.Core.Path.{ap, sym}
 use native.Mathlib.Omega.{arith}
 use borrow.Author.Tests.{le-leb, lt-leb}
 use Rattle.cells.specs.Records.{ofBool}
-use Rattle.producing.proofs.one_if_late.Statement.{statement}
-use Rattle.producing.proofs.one_if_late.Tie as tie
+use Rattle.counting.proofs.one_if_late.Statement.{statement}
+use Rattle.counting.proofs.one_if_late.Tie as tie
 
 returns : tie.Need-returns
 returns c = let a = c .before .args in (ap ofBool (sym (le-leb (a .limit) (a .d) (c .if1 .taken))), omega arith)

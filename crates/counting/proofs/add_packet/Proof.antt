@@ -1,8 +1,8 @@
 use native.Mathlib.Omega.{arith}
-use Rattle.producing.specs.CountLaws.{added-is}
+use Rattle.counting.specs.CountLaws.{added-is}
 use borrow.Author.Needs.{needs}
-use Rattle.producing.proofs.add_packet.Statement.{statement}
-use Rattle.producing.proofs.add_packet.Tie as tie
+use Rattle.counting.proofs.add_packet.Statement.{statement}
+use Rattle.counting.proofs.add_packet.Tie as tie
 
 add-t5 : tie.Need-add-t5
 add-t5 c = search needs

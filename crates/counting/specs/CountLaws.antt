@@ -1,8 +1,8 @@
 -- The pass that counts: one row, the rows in turn, and what the rules count.
 use Prim.Native.Nat.{ℕ, _+_, _*_, _-_, _≤_, _<_, max}
 use mathlib.Core.Bool.{Bool, true, false, cond}
-use mathlib.Core.List.{List, [], _∷_, _++_, map}
-use mathlib.Core.Path.{_≡_, refl, ap, ap₂, sym, _∙_}
+use mathlib.Core.List.{List, [], _∷_, _++_}
+use mathlib.Core.Path.{_≡_, ap, ap₂, sym, _∙_}
 use native.Mathlib.Omega.{arith}
 use native.Mathlib.Numerals.{add-one}
 use lib.Dec.{leb}
@@ -12,7 +12,7 @@ use borrow.Author.Tests.{le-leb, lt-leb, ne-eqb}
 use Rattle.cells.specs.Numbers.{le, le-take}
 use Rattle.cells.specs.Records.{ofBool}
 use Rattle.tables.specs.Ring.{by-cases}
-use Rattle.rules.specs.Lists.{keep, joined}
+use Rattle.rules.specs.Lists.{keep}
 use Rattle.rules.specs.State.{Setup, Content, State, noContent}
 use Rattle.rules.specs.Producing.{dueBy, due, lateBy, lateLimit, delays, greatest, inputBytes, packet, packets}
 use Rattle.rules.specs.declared.Conn.{Conn}
@@ -24,9 +24,9 @@ use Rattle.layout.specs.Rows.{decFixed, decSent}
 use Rattle.image.specs.Holds.{Holds, conns-held, setup-held, maxLate-held}
 use Rattle.image.specs.Updates.{noConn}
 use Rattle.packets.specs.Steps.{Data}
-use Rattle.producing.specs.declared.Tally.{Tally}
-use Rattle.producing.specs.Passes.{packetOr, limitOf, added, tallied, tallyFrom, Tallies, totals, Totals}
-use Rattle.producing.specs.RowLaws.{row-held, long-packet}
+use Rattle.packets.specs.Rows.{packetOr, row-held, long-packet}
+use Rattle.counting.specs.declared.Tally.{Tally}
+use Rattle.counting.specs.Tallies.{limitOf, added, tallied, tallyFrom, Tallies, totals, Totals}
 
 -- ---- numbers
 
@@ -45,7 +45,7 @@ added-is n d limit late worst k el ew = λ j. record { need = k .need + n; count
 
 module _ (t limit i : ℕ) (s : List ℕ) (p : i < le 2 s 224) (d : Due) (ed : d ≡ decSent (take 70 (drop (i * 70) (tableIn s))) .due) (k : Tally) where
   due-is : (st : State) (l : List ℕ) → Holds s st l → getD (st .table) i noConn .sent .due ≡ d
-  due-is st l h = sym (ed ∙ ap (λ (c : Conn). c .sent .due) (row-held t i s p st l h))
+  due-is st l h = sym (ed ∙ ap (λ (c : Conn). c .sent .due) (row-held i s p st l h))
 
   not-counted : dueBy t d ≡ false → Tallies t limit i s k k
   unfolding tallied
@@ -69,7 +69,7 @@ module _ (t limit i : ℕ) (s : List ℕ) (p : i < le 2 s 224) (d : Due) (ed : d
       let size : n ≡ length (inputBytes (st .contents) (c .fixed)) =
       sym (length-take-le n (drop a s) (rw length-drop (omega arith)))
       ∙ ap length (g st l h)
-      ∙ ap (λ (m : ℕ). length (getD (st .contents) m noContent .bytes)) (ej ∙ ap (λ (y : Conn). y .fixed .input) (row-held t i s p st l h)) in
+      ∙ ap (λ (m : ℕ). length (getD (st .contents) m noContent .bytes)) (ej ∙ ap (λ (y : Conn). y .fixed .input) (row-held i s p st l h)) in
       er
       ∙ (λ x. added (33 + size x) (by x) limit k)
       ∙ sym (ap (λ (b : Bool). cond b (added (33 + length (inputBytes (st .contents) (c .fixed))) (lateBy t (c .sent .due)) limit k) k) now′)

@@ -1,8 +1,8 @@
 use native.Mathlib.Omega.{arith}
-use Rattle.producing.specs.CountLaws.{count-never, count-later, count-due}
+use Rattle.counting.specs.CountLaws.{count-never, count-later, count-due}
 use borrow.Author.Needs.{needs}
-use Rattle.producing.proofs.count_row.Statement.{statement}
-use Rattle.producing.proofs.count_row.Tie as tie
+use Rattle.counting.proofs.count_row.Statement.{statement}
+use Rattle.counting.proofs.count_row.Tie as tie
 
 sub-due-at : tie.Need-sub-due-at
 sub-due-at c = search needs
