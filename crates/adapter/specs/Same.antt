@@ -48,6 +48,7 @@ produce-once s out t x y = two-outcomes x y
 
 pub open-once : (s request out : List ℕ) (t service : ℕ) (g : Origin) (x y : ℕ × (List ℕ × List ℕ)) → x ≡ liftedOut (openCall t service request g) s out → y ≡ liftedOut (openCall t service request g) s out → x ≡ y
 open-once s request out t service g x y = two-outcomes x y
+
 pub receive-once : (s frame : List ℕ) (t from : ℕ) (x y : ℕ × List ℕ) → x ≡ lifted (receiveCall t from frame) s → y ≡ lifted (receiveCall t from frame) s → x ≡ y
 receive-once s frame t from x y = two-outcomes x y
 
