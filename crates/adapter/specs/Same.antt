@@ -3,6 +3,8 @@ use Prim.Native.Nat.{ℕ}
 use mathlib.Core.List.{List}
 use mathlib.Core.Path.{_≡_}
 use Rattle.rules.specs.Host.{setInputCall, outputCall, assemblyAnswer, nextEventCall, connectionsAnswer, statsAnswer}
+use Rattle.rules.specs.Routing.{pathAnswer, requestAnswer}
+use Rattle.routing.specs.Answered.{answered}
 use Rattle.image.specs.Lift.{lifted, liftedOut, liftedRead, two-outcomes}
 
 pub set-input-once : (s bytes : List ℕ) (n : ℕ) (x y : ℕ × List ℕ) → x ≡ lifted (setInputCall n bytes) s → y ≡ lifted (setInputCall n bytes) s → x ≡ y
@@ -22,3 +24,9 @@ connections-once s out x y = two-outcomes x y
 
 pub stats-once : (s out : List ℕ) (x y : ℕ × List ℕ) → x ≡ liftedRead statsAnswer s out → y ≡ liftedRead statsAnswer s out → x ≡ y
 stats-once s out x y = two-outcomes x y
+
+pub path-once : (path out : List ℕ) (x y : ℕ × List ℕ) → x ≡ answered (pathAnswer path) out → y ≡ answered (pathAnswer path) out → x ≡ y
+path-once path out x y = two-outcomes x y
+
+pub request-once : (message out : List ℕ) (x y : ℕ × List ℕ) → x ≡ answered (requestAnswer message) out → y ≡ answered (requestAnswer message) out → x ≡ y
+request-once message out x y = two-outcomes x y

@@ -1,3 +1,5 @@
 pub mod StepLaws
 pub mod ByteLaws
 pub mod WholeLaws
+pub mod SendLaws
+pub mod TurnLaws

@@ -26,13 +26,13 @@ unfolding sum
 sum-empty [] h = refl
 sum-empty (x ∷ l) h = absurd (omega arith)
 
-module _ (l : List ℕ) (i s : ℕ) (e : (s + sum (drop i l)) % 65536 ≡ sum l % 65536) where
-  pub sum-more : (b : ℕ) → b ≡ getD l i 0 → i < length l → ((s + b) % 65536 + sum (drop (i + 1) l)) % 65536 ≡ sum l % 65536
+module _ (l : List ℕ) (i s : ℕ) (e : s + sum (drop i l) ≡ sum l) where
+  pub sum-more : (b : ℕ) → b ≡ getD l i 0 → i < length l → s + b + sum (drop (i + 1) l) ≡ sum l
   sum-more b q h = omega (arith, e, q, sum-step l i h)
 
-  pub sum-done : length l ≤ i → s < 65536 → (65536 - s) % 65536 ≡ checksum l
+  pub sum-done : length l ≤ i → (65536 - s % 65536) % 65536 ≡ checksum l
   unfolding checksum
-  sum-done h f =
+  sum-done h =
       let z : sum (drop i l) ≡ 0 = sum-empty (drop i l) (rw length-drop (omega arith)) in
       omega (arith, e, z)
 

@@ -1,11 +1,9 @@
--- The next position and the reply of initiate by the length of the EDS alone, as code computes them.
-use mathlib.Core.List.{List, [], _∷_}
+-- The next position by the length of the EDS alone, as code computes it.
+use mathlib.Core.List.{List}
 use mathlib.Core.Path.{_≡_, refl}
 use Prim.Native.Nat.{ℕ, _+_, _%_, min}
 use lib.ListN.{length}
-use Rattle.cells.specs.Numbers.{bytesLe}
-use Rattle.cells.specs.Records.{encFields}
-use Rattle.rules.specs.Upload.{advanced, initiateReply}
+use Rattle.rules.specs.Upload.{advanced}
 use Rattle.rules.specs.declared.objects.Last.{Last}
 use Rattle.rules.specs.declared.objects.Last.the-variants.{NoLast, Was}
 use Rattle.rules.specs.declared.objects.Position.{Position}
@@ -23,11 +21,3 @@ advancedTo len p =
 pub advanced-to : (eds : List ℕ) (p : Position) → advancedTo (length eds) p ≡ advanced eds p
 unfolding advancedTo advanced
 advanced-to eds p = refl
-
-unfoldable pub lengthReply : ℕ → ℕ → List ℕ
-lengthReply len size = encFields (4 ∷ 1 ∷ []) (len ∷ size ∷ [])
-
--- it is the rule's
-pub length-reply : (eds : List ℕ) (size : ℕ) → lengthReply (length eds) size ≡ initiateReply eds size
-unfolding lengthReply encFields bytesLe
-length-reply eds size = refl

@@ -1,15 +1,14 @@
 // The EDS upload: the checksum, the size that is agreed, what a transfer's number asks for, and the position as lent bytes.
+mod replies;
+pub mod steps;
 ghost use mathlib.Core.Path.{_≡_};
 ghost use Prim.Native.Nat.{_+_, _≤_, _<_, _%_, min};
 ghost use mathlib.Core.List.{[], _∷_};
 ghost use lib.ListN.{length};
 ghost use Rattle.cells.specs.Records.{decFields, putFields};
-ghost use Rattle.cells.specs.Writes.{written};
 ghost use Rattle.rules.specs.Upload.{checksum, clamped, nextTurn, turnOf, lastOk};
 ghost use Rattle.uploads.specs.Steps.{advancedTo};
 ghost use Rattle.uploads.specs.Positions.{wPosition, toLast, decPosition, decUpload, lastNumber, anyLast, lastOffset, heldIn, listUpload, plain, plainList, fits, okWith, uploadTested};
-ghost use Rattle.uploads.specs.Steps.{lengthReply};
-use cells::Written;
 use rules::objects::Last;
 use rules::objects::Position;
 use rules::objects::Turn;
@@ -21,17 +20,18 @@ fn wide(b: u8) -> u32
     b as u32
 }
 
-// The negated 16-bit sum of bytes.
+// The negated 16-bit sum of bytes; the sum of 65,535 of them fits 32 bits.
 pub fn checksum(bytes: &[u8]) -> u16
+    requires { ⌜ length (now bytes) ≤ 65535 ⌝ }
     ensures { λ r. ⌜ r ≡ checksum (now (bytes .entry)) ⌝ }
 {
     let mut sum: u32 = 0;
     let mut i = 0;
     while i < bytes.len() {
-        sum = (sum + wide(bytes[i])) % 65536;
+        sum = sum + wide(bytes[i]);
         i += 1;
     }
-    ((65536 - sum) % 65536) as u16
+    ((65536 - sum % 65536) % 65536) as u16
 }
 
 fn lesser(a: u8, b: u8) -> u8
@@ -310,18 +310,4 @@ pub fn upload_tested(s: &[u8], limit: u8, given: bool, size: u16) -> bool
     }
     let up = upload_of(s);
     upload_fits(up, limit, given, size)
-}
-
-// ---- the replies
-
-// The reply data of initiate: the length of the EDS in 4 bytes, and the size.
-pub fn initiate_reply(out: &mut [u8], len: u32, size: u8) -> Written
-    ensures { λ r. ⌜ (r, now (out .exit)) ≡ written (now (out .entry)) (lengthReply len size) ⌝ }
-{
-    if out.len() < 5 {
-        return Written::NoRoom;
-    }
-    cells::put_u32(out, 0, len);
-    cells::put_u8(out, 4, size);
-    Written::Bytes(5)
 }

@@ -1,7 +1,7 @@
 use borrow.Author.Needs.{needs}
 use native.Mathlib.Nat.{zero-add}
-use Prim.Native.Nat.{ℕ, _+_, _-_, _%_, _≤_, _<_}
-use mathlib.Core.Path.{_≡_, ap}
+use Prim.Native.Nat.{_+_, _*_, _-_, _≤_}
+use mathlib.Core.Path.{_≡_}
 use native.Mathlib.Omega.{arith}
 use lib.ListN.{length, drop}
 use Rattle.cells.specs.Records as Records
@@ -10,13 +10,13 @@ use Rattle.uploads.proofs.checksum.Statement.{statement}
 use Rattle.uploads.proofs.checksum.Tie as tie
 
 abbrev Inv-loop : tie.InvT-loop
-Inv-loop bytes sum₀ i₀ sum i = (i ≤ length bytes) × (sum < 65536) × ((sum + Records.sum (drop i bytes)) % 65536 ≡ Records.sum bytes % 65536)
+Inv-loop bytes sum₀ i₀ sum i = (i ≤ length bytes) × (sum ≤ 255 * i) × (sum + Records.sum (drop i bytes) ≡ Records.sum bytes)
 
 abbrev μ-loop : tie.MeasureT-loop
 μ-loop bytes sum₀ i₀ sum i = length bytes - i
 
 loop-holds : tie.Need-loop-holds Inv-loop μ-loop
-loop-holds c = (omega arith, omega arith, ap (λ (x : ℕ). x % 65536) (zero-add _))
+loop-holds c = (omega arith, omega arith, zero-add _)
 
 shared-slice-read-wide : tie.Need-shared-slice-read-wide Inv-loop μ-loop
 shared-slice-read-wide c = search needs
@@ -43,7 +43,7 @@ cast-result : tie.Need-cast-result Inv-loop μ-loop
 cast-result c = search needs
 
 returns : tie.Need-returns Inv-loop μ-loop
-returns c = let w = c .before .loop in sum-done _ (w .i) (w .sum) (w .inv .2) (omega arith) (w .inv .1)
+returns c = let w = c .before .loop in sum-done _ (w .i) (w .sum) (w .inv .2) (omega arith)
 
 pub checksum-spec : {M : Type 1} → statement M
 checksum-spec =

@@ -1,0 +1,36 @@
+use borrow.Author.Needs.{needs}
+use Rattle.routing.proofs.put_key.Statement.{statement}
+use Rattle.routing.proofs.put_key.Tie as tie
+
+put-u16-requires : tie.Need-put-u16-requires
+put-u16-requires c κs = search needs
+
+put-u16-requires-2 : tie.Need-put-u16-requires-2
+put-u16-requires-2 c κs = search needs
+
+put-u16-requires-3 : tie.Need-put-u16-requires-3
+put-u16-requires-3 c κs = search needs
+
+put-u8-requires : tie.Need-put-u8-requires
+put-u8-requires c κs = search needs
+
+put-u8-requires-2 : tie.Need-put-u8-requires-2
+put-u8-requires-2 c κs = search needs
+
+same-length : tie.Need-same-length
+same-length c = search needs
+
+returns : tie.Need-returns
+returns c = cc
+
+pub put-key-spec : {M : Type 1} → statement M
+put-key-spec =
+    tie.close
+    (tie.spec
+    put-u16-requires
+    put-u16-requires-2
+    put-u16-requires-3
+    put-u8-requires
+    put-u8-requires-2
+    same-length
+    returns)
