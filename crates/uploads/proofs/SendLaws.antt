@@ -90,10 +90,11 @@ module _ (eds : List ℕ) (last : Bool) (out : List ℕ) (at : ℕ) where
   pub tail-last : last ≡ true → (k : ℕ) → k ≡ checksum eds → (out′ : List ℕ) → out′ ≡ put 2 out at k
       → (2 ≡ length (tailOf eds last)) × (2 ≤ 2) × (out′ ≡ sets out at (tailOf eds last))
   unfolding tailOf put
-  tail-last e k f out′ g =
-      (sym (ap (λ (b : Bool). length (tailOf eds b)) e ∙ length-bytesLe 2 (checksum eds)),
-      omega arith,
-      g ∙ ap (λ (n : ℕ). sets out at (bytesLe 2 n)) f ∙ sym (ap (λ (b : Bool). sets out at (tailOf eds b)) e))
+  tail-last e k f out′ g = (
+    sym (ap (λ (b : Bool). length (tailOf eds b)) e ∙ length-bytesLe 2 (checksum eds)),
+    omega arith,
+    g ∙ ap (λ (n : ℕ). sets out at (bytesLe 2 n)) f ∙ sym (ap (λ (b : Bool). sets out at (tailOf eds b)) e),
+  )
 
   pub tail-none : last ≡ false → (0 ≡ length (tailOf eds last)) × (0 ≤ 2) × (out ≡ sets out at (tailOf eds last))
   unfolding tailOf

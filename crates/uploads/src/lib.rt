@@ -1,6 +1,7 @@
 // The EDS upload: the checksum, the size that is agreed, what a transfer's number asks for, and the position as lent bytes.
 mod replies;
 pub mod steps;
+
 ghost use mathlib.Core.Path.{_≡_};
 ghost use Prim.Native.Nat.{_+_, _≤_, _<_, _%_, min};
 ghost use mathlib.Core.List.{[], _∷_};

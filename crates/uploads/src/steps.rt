@@ -103,13 +103,7 @@ fn transfer_step(up: Upload, given: &[u8], len: u16) -> Step
 
 // ---- over the lent position, 8 bytes
 
-pub fn initiate(
-    limit: u8,
-    eds: &[u8],
-    position: &mut [u8],
-    given: &[u8],
-    out: &mut [u8],
-) -> Given
+pub fn initiate(limit: u8, eds: &[u8], position: &mut [u8], given: &[u8], out: &mut [u8]) -> Given
     requires { ⌜ (length (now position) ≡ 8) × (length (now eds) ≤ 65535) × (259 ≤ length (now out)) ⌝ }
     ensures { λ r. ⌜ (r, (now (position .exit), now (out .exit))) ≡ stepped (initiate limit (now (eds .entry)) (decUpload (now (position .entry))) (now (given .entry))) (now (out .entry)) ⌝ }
 {

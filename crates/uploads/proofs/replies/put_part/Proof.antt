@@ -34,13 +34,14 @@ same-length : tie.Need-same-length
 same-length c = search needs
 
 returns : tie.Need-returns
-returns c = 
+returns c =
     let v = c .before .before .before .before .before .before .within in
     let w = c .before .before .before .before .before .within2 in
-    let a = c .before .before .before .before .before .before .before .before .before .args in
-    (sym (part-long (a .eds .now) (a .size) (a .offset) (v .result) (w .result) (v .ensures) (w .ensures)),
-    omega (arith, v .ensures, w .ensures),
-    c .before .before .copy-in .ensures ∙ ap (sets (a .out .now) 2) (part-is (a .eds .now) (a .size) (a .offset) (v .result) (w .result) (v .ensures) (w .ensures)))
+    let a = c .before .before .before .before .before .before .before .before .before .args in (
+      sym (part-long (a .eds .now) (a .size) (a .offset) (v .result) (w .result) (v .ensures) (w .ensures)),
+      omega (arith, v .ensures, w .ensures),
+      c .before .before .copy-in .ensures ∙ ap (sets (a .out .now) 2) (part-is (a .eds .now) (a .size) (a .offset) (v .result) (w .result) (v .ensures) (w .ensures)),
+    )
 
 pub put-part-spec : {M : Type 1} → statement M
 put-part-spec =
