@@ -5,6 +5,7 @@ use mathlib.Core.Path.{_≡_}
 use Rattle.rules.specs.Host.{setInputCall, outputCall, assemblyAnswer, nextEventCall, connectionsAnswer, statsAnswer}
 use Rattle.rules.specs.Routing.{pathAnswer, requestAnswer}
 use Rattle.routing.specs.Answered.{answered}
+use Rattle.messages.specs.Lifted.{liftedMessage}
 use Rattle.image.specs.Lift.{lifted, liftedOut, liftedRead, two-outcomes}
 
 pub set-input-once : (s bytes : List ℕ) (n : ℕ) (x y : ℕ × List ℕ) → x ≡ lifted (setInputCall n bytes) s → y ≡ lifted (setInputCall n bytes) s → x ≡ y
@@ -30,3 +31,7 @@ path-once path out x y = two-outcomes x y
 
 pub request-once : (message out : List ℕ) (x y : ℕ × List ℕ) → x ≡ answered (requestAnswer message) out → y ≡ answered (requestAnswer message) out → x ≡ y
 request-once message out x y = two-outcomes x y
+
+pub message-once : (s upload message out : List ℕ) (local mask : ℕ) (x y : ℕ × (List ℕ × List ℕ)) → x ≡ liftedMessage local mask message s upload out
+    → y ≡ liftedMessage local mask message s upload out → x ≡ y
+message-once s upload message out local mask x y = two-outcomes x y
