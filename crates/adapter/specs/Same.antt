@@ -11,6 +11,7 @@ use Rattle.rules.specs.declared.Origin.{Origin}
 use Rattle.rules.specs.Producing.{produceCall}
 use Rattle.rules.specs.Receiving.{receiveCall}
 use Rattle.rules.specs.Removal.{deadlineAnswer, closeCall, expireCall}
+use Rattle.messages.specs.Lifted.{liftedMessage}
 use Rattle.image.specs.Lift.{lifted, liftedOut, liftedRead, two-outcomes}
 
 pub setup-once : (s block eds : List ℕ) (seed : ℕ) (x y : ℕ × List ℕ) → x ≡ setupCall s block eds seed → y ≡ setupCall s block eds seed → x ≡ y
@@ -60,3 +61,6 @@ close-once s request out x y = two-outcomes x y
 
 pub expire-once : (s : List ℕ) (t : ℕ) (x y : ℕ × List ℕ) → x ≡ lifted (expireCall t) s → y ≡ lifted (expireCall t) s → x ≡ y
 expire-once s t x y = two-outcomes x y
+pub message-once : (s upload message out : List ℕ) (local mask : ℕ) (x y : ℕ × (List ℕ × List ℕ)) → x ≡ liftedMessage local mask message s upload out
+    → y ≡ liftedMessage local mask message s upload out → x ≡ y
+message-once s upload message out local mask x y = two-outcomes x y

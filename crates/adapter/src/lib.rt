@@ -5,3 +5,8 @@ pub mod opens;
 pub mod routes;
 pub mod start;
 pub mod traffic;
+mod ends;
+mod explicit;
+mod host;
+mod routes;
+mod traffic;
