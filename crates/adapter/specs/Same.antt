@@ -61,6 +61,7 @@ close-once s request out x y = two-outcomes x y
 
 pub expire-once : (s : List ℕ) (t : ℕ) (x y : ℕ × List ℕ) → x ≡ lifted (expireCall t) s → y ≡ lifted (expireCall t) s → x ≡ y
 expire-once s t x y = two-outcomes x y
+
 pub message-once : (s upload message out : List ℕ) (local mask : ℕ) (x y : ℕ × (List ℕ × List ℕ)) → x ≡ liftedMessage local mask message s upload out
     → y ≡ liftedMessage local mask message s upload out → x ≡ y
 message-once s upload message out local mask x y = two-outcomes x y

@@ -2,6 +2,15 @@
 ghost use mathlib.Core.Path.{_≡_};
 ghost use Rattle.messages.specs.Lifted.{liftedMessage};
 
+// How many bytes an upload position has; all zero is none.
+#[no_mangle]
+pub extern "C" fn threshtide_upload_size() -> u64
+    ensures { λ r. ⌜ r ≡ 8 ⌝ }
+{
+    8
+}
+
+// The reply to an explicit message; an upload of the EDS moves its position. No: 1, 8.
 #[no_mangle]
 pub extern "C" fn threshtide_message(
     state: &[u8],
