@@ -14,23 +14,38 @@
 extern "C" {
 #endif
 
-/* The size of a state in bytes. */
-uint64_t threshtide_state_size(void);
-
-/* The size of an upload position in bytes; all zero is none. */
-uint64_t threshtide_upload_size(void);
-
-/* Sets a state up from a block of 192 bytes and an EDS; ids begin at the seed.
- * No: 1, 2. */
-uint64_t threshtide_setup(
+/* Closes a connection. Yes: 10 reply bytes. No: 1, 4, 9, 8. */
+uint64_t threshtide_close(
     uint8_t *state,
     size_t state_len,
-    const uint8_t *block,
-    size_t block_len,
-    const uint8_t *eds,
-    size_t eds_len,
-    uint32_t seed);
+    const uint8_t *request,
+    size_t request_len,
+    uint8_t *out,
+    size_t out_len);
 
+/* Removes what was silent for longer than its timeout; how many went stands in bits 8 and up. No: 1, 3. */
+uint64_t threshtide_expire(uint8_t *state, size_t state_len, uint64_t time);
+
+/* How many bytes an upload position has; all zero is none. */
+uint64_t threshtide_upload_size(void);
+
+/* The reply to an explicit message; an upload of the EDS moves its position. No: 1, 8. */
+uint64_t threshtide_message(
+    const uint8_t *state,
+    size_t state_len,
+    uint8_t *upload,
+    size_t upload_len,
+    uint32_t local,
+    uint32_t mask,
+    const uint8_t *message,
+    size_t message_len,
+    uint8_t *out,
+    size_t out_len);
+
+/* How many bytes a host has to lend as the state. */
+uint64_t threshtide_state_size(void);
+
+/* Gives an input new bytes; what they do not reach becomes zero. No: 1, 6, 7. */
 uint64_t threshtide_set_input(
     uint8_t *state,
     size_t state_len,
@@ -38,8 +53,10 @@ uint64_t threshtide_set_input(
     const uint8_t *bytes,
     size_t bytes_len);
 
+/* Reads an output: the run byte, then its bytes; the next change gives an event again. No: 1, 6, 8. */
 uint64_t threshtide_output(uint8_t *state, size_t state_len, uint32_t instance, uint8_t *out, size_t out_len);
 
+/* Reads the bytes of an assembly of a kind: 1 input, 2 output, 3 configuration. No: 1, 6, 8. */
 uint64_t threshtide_assembly(
     const uint8_t *state,
     size_t state_len,
@@ -48,8 +65,16 @@ uint64_t threshtide_assembly(
     uint8_t *out,
     size_t out_len);
 
-/* Opens a connection: the thirteen checks of document 01, then the effect.
- * Yes: 26 reply bytes; multicast in bits 8 to 15, port in 16 to 31, address in 32 to 63. No: 1, 3, 4, 5, 8. */
+/* Takes the oldest event: a record of 32 bytes. No: 1, 9, 8. */
+uint64_t threshtide_next_event(uint8_t *state, size_t state_len, uint8_t *out, size_t out_len);
+
+/* Packets produced, those that were late, the greatest lateness in microseconds: 8 bytes each. No: 1, 8. */
+uint64_t threshtide_stats(const uint8_t *state, size_t state_len, uint8_t *out, size_t out_len);
+
+/* The connections in table order, a record of 32 bytes each. No: 1, 8. */
+uint64_t threshtide_connections(const uint8_t *state, size_t state_len, uint8_t *out, size_t out_len);
+
+/* Opens a connection. Yes: 26 reply bytes; multicast in bits 8 to 15, port in 16 to 31, address in 32 to 63. No: 1, 3, 4, 5, 8. */
 uint64_t threshtide_open(
     uint8_t *state,
     size_t state_len,
@@ -67,6 +92,7 @@ uint64_t threshtide_open(
     uint8_t *out,
     size_t out_len);
 
+/* The 10 bytes of data of a refused open's reply. No: 4, 8. */
 uint64_t threshtide_open_refusal(
     uint8_t service,
     const uint8_t *request,
@@ -74,14 +100,26 @@ uint64_t threshtide_open_refusal(
     uint8_t *out,
     size_t out_len);
 
-uint64_t threshtide_close(
+/* What a path holds, a record of 32 bytes. No: 4, 8. */
+uint64_t threshtide_path(const uint8_t *path, size_t path_len, uint8_t *out, size_t out_len);
+
+/* What an explicit message asks, a record of 20 bytes. No: 4, 8. */
+uint64_t threshtide_request(const uint8_t *message, size_t message_len, uint8_t *out, size_t out_len);
+
+/* Sets a state up from a block of 192 bytes and an EDS; ids begin at the seed. No: 1, 2. */
+uint64_t threshtide_setup(
     uint8_t *state,
     size_t state_len,
-    const uint8_t *request,
-    size_t request_len,
-    uint8_t *out,
-    size_t out_len);
+    const uint8_t *block,
+    size_t block_len,
+    const uint8_t *eds,
+    size_t eds_len,
+    uint32_t seed);
 
+/* The time when a packet is due or a connection lives no longer, 8 bytes. No: 1, 9, 8. */
+uint64_t threshtide_next_deadline(const uint8_t *state, size_t state_len, uint8_t *out, size_t out_len);
+
+/* A frame from an address; one of no use is ignored. No: 1, 3. */
 uint64_t threshtide_receive(
     uint8_t *state,
     size_t state_len,
@@ -90,33 +128,8 @@ uint64_t threshtide_receive(
     const uint8_t *frame,
     size_t frame_len);
 
+/* All packets that are due, one behind the other; their length stands in bits 8 and up. No: 1, 3, 8. */
 uint64_t threshtide_produce(uint8_t *state, size_t state_len, uint64_t time, uint8_t *out, size_t out_len);
-
-uint64_t threshtide_expire(uint8_t *state, size_t state_len, uint64_t time);
-
-uint64_t threshtide_next_deadline(const uint8_t *state, size_t state_len, uint8_t *out, size_t out_len);
-
-uint64_t threshtide_next_event(uint8_t *state, size_t state_len, uint8_t *out, size_t out_len);
-
-uint64_t threshtide_connections(const uint8_t *state, size_t state_len, uint8_t *out, size_t out_len);
-
-uint64_t threshtide_stats(const uint8_t *state, size_t state_len, uint8_t *out, size_t out_len);
-
-uint64_t threshtide_message(
-    const uint8_t *state,
-    size_t state_len,
-    uint8_t *upload,
-    size_t upload_len,
-    uint32_t local,
-    uint32_t mask,
-    const uint8_t *message,
-    size_t message_len,
-    uint8_t *out,
-    size_t out_len);
-
-uint64_t threshtide_path(const uint8_t *path, size_t path_len, uint8_t *out, size_t out_len);
-
-uint64_t threshtide_request(const uint8_t *message, size_t message_len, uint8_t *out, size_t out_len);
 
 #ifdef __cplusplus
 }

@@ -9,6 +9,9 @@ use Rattle.routing.specs.Answered.{answered}
 use Rattle.rules.specs.Opening.{openCall, refusalAnswer}
 use Rattle.rules.specs.declared.Origin.{Origin}
 use Rattle.rules.specs.Producing.{produceCall}
+use Rattle.rules.specs.Receiving.{receiveCall}
+use Rattle.rules.specs.Removal.{deadlineAnswer, closeCall, expireCall}
+use Rattle.messages.specs.Lifted.{liftedMessage}
 use Rattle.image.specs.Lift.{lifted, liftedOut, liftedRead, two-outcomes}
 
 pub setup-once : (s block eds : List ℕ) (seed : ℕ) (x y : ℕ × List ℕ) → x ≡ setupCall s block eds seed → y ≡ setupCall s block eds seed → x ≡ y
@@ -46,3 +49,19 @@ produce-once s out t x y = two-outcomes x y
 
 pub open-once : (s request out : List ℕ) (t service : ℕ) (g : Origin) (x y : ℕ × (List ℕ × List ℕ)) → x ≡ liftedOut (openCall t service request g) s out → y ≡ liftedOut (openCall t service request g) s out → x ≡ y
 open-once s request out t service g x y = two-outcomes x y
+
+pub receive-once : (s frame : List ℕ) (t from : ℕ) (x y : ℕ × List ℕ) → x ≡ lifted (receiveCall t from frame) s → y ≡ lifted (receiveCall t from frame) s → x ≡ y
+receive-once s frame t from x y = two-outcomes x y
+
+pub next-deadline-once : (s out : List ℕ) (x y : ℕ × List ℕ) → x ≡ liftedRead deadlineAnswer s out → y ≡ liftedRead deadlineAnswer s out → x ≡ y
+next-deadline-once s out x y = two-outcomes x y
+
+pub close-once : (s request out : List ℕ) (x y : ℕ × (List ℕ × List ℕ)) → x ≡ liftedOut (closeCall request) s out → y ≡ liftedOut (closeCall request) s out → x ≡ y
+close-once s request out x y = two-outcomes x y
+
+pub expire-once : (s : List ℕ) (t : ℕ) (x y : ℕ × List ℕ) → x ≡ lifted (expireCall t) s → y ≡ lifted (expireCall t) s → x ≡ y
+expire-once s t x y = two-outcomes x y
+
+pub message-once : (s upload message out : List ℕ) (local mask : ℕ) (x y : ℕ × (List ℕ × List ℕ)) → x ≡ liftedMessage local mask message s upload out
+    → y ≡ liftedMessage local mask message s upload out → x ≡ y
+message-once s upload message out local mask x y = two-outcomes x y

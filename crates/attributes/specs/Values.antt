@@ -53,6 +53,11 @@ module _ (out : List ℕ) where
   pub value-is : (table : Attributes) (n k : ℕ) (x : Given × List ℕ) (o : Outcome) → n ≡ k → valueOf k table ≡ o → x ≡ told o out → x ≡ told (valueOf n table) out
   value-is table n k x o e f g = g ∙ ap (λ (z : Outcome). told z out) (sym f) ∙ ap (λ (m : ℕ). told (valueOf m table) out) (sym e)
 
+-- a number read and told, in its width
+pub value-number : (out : List ℕ) (table : Attributes) (n k w v u : ℕ) (x : Given × List ℕ) → n ≡ k → valueOf k table ≡ Gives (bytesLe w v) → u ≡ v
+    → x ≡ told (Gives (bytesLe w u)) out → x ≡ told (valueOf n table) out
+value-number out table n k w v u x e f g h = value-is out table n k x (Gives (bytesLe w v)) e f (h ∙ ap (λ (m : ℕ). told (Gives (bytesLe w m)) out) g)
+
 -- a number that no entry has
 abbrev pub Without : ℕ → Attributes → Type 0
 Without n [] = Unit {0}

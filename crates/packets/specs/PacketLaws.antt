@@ -1,15 +1,15 @@
 -- One connection and its packet: one law for each way out.
 use Prim.Native.Nat.{ℕ, _+_, _*_, _-_, _%_, _≤_, _<_}
-use mathlib.Core.Bool.{Bool, true, false}
-use mathlib.Core.List.{List, [], _∷_, _++_, append-assoc, append-nil}
-use mathlib.Core.Path.{_≡_, refl, ap, ap₂, sym, _∙_}
+use mathlib.Core.Bool.{true}
+use mathlib.Core.List.{List, [], _∷_, _++_}
+use mathlib.Core.Path.{_≡_, ap, sym, _∙_}
 use native.Mathlib.Omega.{arith}
 use borrow.Author.Tests.{le-leb, lt-leb, leb-true}
 use lib.Dec.{leb}
-use lib.ListN.{length, getD, take, drop, length-append, length-drop, take-append-drop, List·getD-eq-default}
+use lib.ListN.{length, take, drop, length-append, length-drop, take-append-drop, List·getD-eq-default}
 use lib.Seq.{sets, length-sets, length-take-le}
 use Rattle.cells.specs.Pick.{pick}
-use Rattle.cells.specs.Numbers.{le, put, bytesLe, sets-append, length-bytesLe}
+use Rattle.cells.specs.Numbers.{le, put, bytesLe, sets-append}
 use Rattle.cells.specs.BigEndian.{bytesBe, putBe, length-bytesBe}
 use Rattle.cells.specs.Writes.{written, written-all}
 use Rattle.cells.specs.Records.{ofBool}
@@ -18,15 +18,15 @@ use Rattle.cells.specs.declared.Written.the-variants.{Bytes, NoRoom}
 use Rattle.tables.specs.Store.{sets-right}
 use Rattle.wire_frames.specs.Writing.{frameWritten, behind, frameAppended}
 use Rattle.wire_frames.proofs.WriteLaws.{frame-length}
-use Rattle.rules.specs.State.{State, Content, contentAt, noContent, Shape}
+use Rattle.rules.specs.State.{Content, contentAt, noContent, Shape}
 use Rattle.rules.specs.Producing.{dueBy, nextTime, nextDue}
 use Rattle.rules.specs.declared.Due.{Due}
-use Rattle.rules.specs.declared.Due.the-variants.{Never, At}
+use Rattle.rules.specs.declared.Due.the-variants.{At}
 use Rattle.rules.specs.declared.Fixed.{Fixed}
 use Rattle.rules.specs.declared.Sent.{Sent}
 use Rattle.layout.specs.Setups.{shapeIn}
 use Rattle.layout.specs.Rows.{ofDue}
-use Rattle.image.specs.Holds.{Holds, Ready, assemblies-held, shape-held, bytes-held}
+use Rattle.image.specs.Holds.{assemblies-held, shape-held, bytes-held}
 use Rattle.packets.specs.Steps.{stepped, head, frameBytes, packetOf, Data}
 
 -- ---- due times
@@ -40,9 +40,6 @@ module _ (t rpi v : ℕ) where
 
 pub due-before : (t v : ℕ) (d : Due) → d ≡ At v → dueBy t d ≡ true → v ≤ t
 due-before t v d e h = leb-true v t (ap (dueBy t) (sym e) ∙ h)
-
-pub never-due : (t : ℕ) (d : Due) → d ≡ Never → false ≡ dueBy t d
-never-due t d e = sym (ap (dueBy t) e)
 
 pub at-due : (t v : ℕ) (d : Due) → d ≡ At v → leb v t ≡ dueBy t d
 at-due t v d e = sym (ap (dueBy t) e)
@@ -128,9 +125,6 @@ module _ (s : List ℕ) (i n : ℕ) (en : n ≡ le 1 s 0) where
       ap (λ (k : ℕ). take k (drop (35328 + i * 512) s)) e ∙ bytes-held s st l h i (omega arith)
 
 -- ---- a step
-
-pub next-never : (t rpi : ℕ) (d : Due) → d ≡ Never → (Never ≡ nextDue t rpi d) × (ofDue Never < 18446744073709551616)
-next-never t rpi d e = (sym (ap (nextDue t rpi) e), omega arith)
 
 pub next-at : (t rpi v : ℕ) (d : Due) (n : ℕ) → d ≡ At v → n ≡ nextTime t rpi v → n < 18446744073709551615
     → (At n ≡ nextDue t rpi d) × (ofDue (At n) < 18446744073709551616)

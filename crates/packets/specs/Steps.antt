@@ -1,8 +1,8 @@
 -- Packets out step by step, as code makes them.
 use Prim.Native.Nat.{ℕ, _+_, _%_, _^_}
-use mathlib.Core.List.{List, [], _∷_, _++_}
+use mathlib.Core.List.{List, _++_}
 use mathlib.Core.Path.{_≡_}
-use lib.ListN.{length, getD, take, drop}
+use lib.ListN.{length, take, drop}
 use Rattle.cells.specs.BigEndian.{bytesBe}
 use Rattle.cells.specs.Records.{ofBool}
 use Rattle.wire_items.specs.Frames.{ioFrame}

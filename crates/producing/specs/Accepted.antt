@@ -1,10 +1,10 @@
 -- The state test accepts what produce leaves.
-use Prim.Native.Nat.{ℕ, _≤_}
+use Prim.Native.Nat.{ℕ}
 use mathlib.Core.Bool.{true}
 use mathlib.Core.List.{List, map}
 use mathlib.Core.Path.{_≡_}
 use native.Mathlib.Omega.{arith}
-use lib.ListN.{length, length-map}
+use lib.ListN.{length-map}
 use Rattle.rules.specs.ListLaws.{either-way}
 use Rattle.rules.specs.State.{State}
 use Rattle.rules.specs.Answers.{isYes}

@@ -1,26 +1,25 @@
 -- The call's ways out: nothing due, too little room, sent; and No. 3.
-use Prim.Native.Nat.{ℕ, _+_, _*_, _≤_, _<_, min}
-use mathlib.Core.Bool.{Bool, true, false, cond}
+use Prim.Native.Nat.{ℕ, _+_, _*_, _≤_, _<_}
 use mathlib.Core.List.{List, [], _∷_, map}
 use mathlib.Core.Path.{_≡_, refl, ap, ap₂, sym, _∙_}
 use native.Mathlib.Omega.{arith}
-use lib.Dec.{leb}
-use lib.ListN.{length, getD}
+use lib.ListN.{length}
 use lib.Seq.{sets}
 use borrow.Author.Tests.{le-leb, lt-leb}
 use Rattle.cells.specs.Numbers.{le, le-8}
 use Rattle.cells.specs.Back.{Bytes}
 use Rattle.tables.specs.Ring.{by-cases}
 use Rattle.rules.specs.Lists.{keep}
-use Rattle.rules.specs.State.{Counters, State, withTable, withCounters}
+use Rattle.rules.specs.State.{State}
 use Rattle.rules.specs.Answers.{Answer, Wrote, Refused, BadTime, NoRoom, answerNumber, answerBytes}
 use Rattle.rules.specs.Producing.{due, sends, delays, counted, counters, packets, produceAnswer, produceEffect, produceCall}
 use Rattle.rules.specs.declared.Conn.{Conn}
 use Rattle.image.specs.Image.{store}
-use Rattle.image.specs.Holds.{Holds, Becomes, produced-held, late-held}
+use Rattle.image.specs.Holds.{Becomes, produced-held, late-held}
 use Rattle.image.specs.Changes.{countersAs}
-use Rattle.producing.specs.declared.Tally.{Tally}
-use Rattle.producing.specs.Passes.{totals, Totals, tallyKept, sentAll, SendsAll, Produced, Produces}
+use Rattle.counting.specs.declared.Tally.{Tally}
+use Rattle.counting.specs.Tallies.{totals, Totals}
+use Rattle.producing.specs.Passes.{tallyKept, sentAll, SendsAll, Produces}
 
 -- ---- the answers
 

@@ -1,64 +1,35 @@
--- One connection: what the rules' words for it come to.
+-- Row i: not due, no room, sent.
 use Prim.Native.Nat.{ℕ, _+_, _*_, _-_, _≤_, _<_}
 use mathlib.Core.Bool.{Bool, true, false, cond}
-use mathlib.Core.List.{List, [], _∷_, _++_, append-assoc}
-use mathlib.Core.Path.{_≡_, refl, ap, ap₂, sym, _∙_}
+use mathlib.Core.List.{List, []}
+use mathlib.Core.Path.{_≡_, ap, sym, _∙_}
 use native.Mathlib.Omega.{arith}
 use lib.ListN.{length, getD, take, drop, set, length-drop}
 use lib.Seq.{sets, set-getD, length-take-le}
 use borrow.Rule.Slice.PartMut.{putMid}
 use Rattle.cells.specs.Numbers.{le, lent}
-use Rattle.cells.specs.Records.{ofBool}
-use Rattle.rules.specs.State.{Content, State, contentAt, withTable, withSent}
-use Rattle.rules.specs.Producing.{dueBy, due, sent, sends, inputBytes, frameOf, packet}
+use Rattle.rules.specs.State.{State, withTable, withSent}
+use Rattle.rules.specs.Producing.{dueBy, due, sent, sends, inputBytes}
 use Rattle.rules.specs.declared.Conn.{Conn}
 use Rattle.rules.specs.declared.Fixed.{Fixed}
 use Rattle.rules.specs.declared.Sent.{Sent}
 use Rattle.layout.specs.Places.{tableIn}
-use Rattle.layout.specs.Rows.{decConn, decFixed, decSent}
+use Rattle.layout.specs.Rows.{decFixed, decSent}
 use Rattle.image.specs.Image.{store}
-use Rattle.image.specs.Holds.{Holds, Becomes, conns-held, conn-held}
+use Rattle.image.specs.Holds.{Holds, Becomes}
 use Rattle.image.specs.Updates.{noConn}
 use Rattle.image.specs.Changes.{sentAs}
-use Rattle.packets.specs.Steps.{stepped, head, frameBytes, packetOf, Data}
+use Rattle.packets.specs.Steps.{stepped, packetOf, Data}
 use Rattle.packets.specs.PacketLaws.{length-packet}
-use Rattle.producing.specs.Passes.{packetOr, packetAt, sentRow, RowSent, Sends}
-
--- ---- the rules' packet is the one that code writes
-
-pub sent-is : (t : ℕ) (c : Conn) → sent t c ≡ stepped t (c .fixed .torpi) (c .sent)
-unfolding sent stepped
-sent-is t c = refl
-
-pub packet-is : (t : ℕ) (d : List ℕ) (c : Conn) → packet t d c ≡ packetOf (c .fixed) (sent t c) d
-unfolding packet frameOf packetOf head
-packet-is t d c = simp append-assoc
-
-pub due-packet : (t : ℕ) (contents : List Content) (c : Conn) → due t c ≡ true
-    → packetOr t contents c ≡ packetOf (c .fixed) (stepped t (c .fixed .torpi) (c .sent)) (inputBytes contents (c .fixed))
-unfolding packetOr
-due-packet t contents c e =
-    ap (λ (b : Bool). cond b (packet t (inputBytes contents (c .fixed)) c) []) e
-    ∙ packet-is t (inputBytes contents (c .fixed)) c
-    ∙ ap (λ (x : Sent). packetOf (c .fixed) x (inputBytes contents (c .fixed))) (sent-is t c)
-
-pub no-packet : (t : ℕ) (contents : List Content) (c : Conn) → due t c ≡ false → packetOr t contents c ≡ []
-unfolding packetOr
-no-packet t contents c e = ap (λ (b : Bool). cond b (packet t (inputBytes contents (c .fixed)) c) []) e
-
-pub long-packet : (t : ℕ) (contents : List Content) (c : Conn) → due t c ≡ true → length (packetOr t contents c) ≡ 33 + length (inputBytes contents (c .fixed))
-long-packet t contents c e =
-    ap length (due-packet t contents c e) ∙ length-packet (c .fixed) (stepped t (c .fixed .torpi) (c .sent)) (inputBytes contents (c .fixed))
+use Rattle.packets.specs.Rows.{row-held, sent-is, due-packet, no-packet}
+use Rattle.producing.specs.Passes.{packetAt, Sends}
 
 -- ---- row i
 
 module _ (t i : ℕ) (s : List ℕ) (p : i < le 2 s 224) where
-  pub row-held : (st : State) (l : List ℕ) → Holds s st l → decConn (take 70 (drop (i * 70) (tableIn s))) ≡ getD (st .table) i noConn
-  row-held st l h = conn-held s st l h i (let e = conns-held s st l h in omega arith)
-
   module _ (x : Sent) (ex : x ≡ decSent (take 70 (drop (i * 70) (tableIn s)))) (b : Bool) (eb : b ≡ dueBy t (x .due)) where
     sent-held : (st : State) (l : List ℕ) → Holds s st l → getD (st .table) i noConn .sent ≡ x
-    sent-held st l h = sym (ex ∙ ap (λ (c : Conn). c .sent) (row-held st l h))
+    sent-held st l h = sym (ex ∙ ap (λ (c : Conn). c .sent) (row-held i s p st l h))
 
     due-held : (st : State) (l : List ℕ) → Holds s st l → due t (getD (st .table) i noConn) ≡ b
     due-held st l h = ap (λ (y : Sent). dueBy t (y .due)) (sent-held st l h) ∙ sym eb
@@ -78,7 +49,7 @@ module _ (t i : ℕ) (s : List ℕ) (p : i < le 2 s 224) where
 
     module _ (yes′ : b ≡ true) (f : Fixed) (ef : f ≡ decFixed (take 70 (drop (i * 70) (tableIn s)))) (a n : ℕ) (inside : a + n ≤ 109056) (long : length s ≡ 109056) (d : Data (f .input) s a n) where
       fixed-held : (st : State) (l : List ℕ) → Holds s st l → getD (st .table) i noConn .fixed ≡ f
-      fixed-held st l h = sym (ef ∙ ap (λ (c : Conn). c .fixed) (row-held st l h))
+      fixed-held st l h = sym (ef ∙ ap (λ (c : Conn). c .fixed) (row-held i s p st l h))
 
       packet-held : (st : State) (l : List ℕ) → Holds s st l → packetAt t i st ≡ packetOf f (stepped t (f .torpi) x) (take n (drop a s))
       packet-held st l h =

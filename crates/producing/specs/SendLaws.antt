@@ -1,6 +1,5 @@
 -- The pass that sends: the rows in turn.
-use Prim.Native.Nat.{ℕ, zero, suc, _+_, _*_, _-_, _≤_, _<_}
-use mathlib.Core.Bool.{Bool, true, false, cond}
+use Prim.Native.Nat.{ℕ, zero, suc, _+_, _≤_, _<_}
 use mathlib.Core.List.{List, [], _∷_, _++_, append-assoc, append-nil, map, map-append}
 use mathlib.Core.Path.{_≡_, refl, ap, ap₂, sym, _∙_, subst}
 use native.Mathlib.Omega.{arith}
@@ -9,7 +8,7 @@ use lib.ListN.{length, getD, take, drop, set, length-map, length-append, take-ap
 use lib.Seq.{sets, length-sets, set-at, getD-at, drop-cons, take-suc, append-snoc, length-take-le, take-all}
 use Rattle.cells.specs.Numbers.{le, sets-append}
 use Rattle.tables.specs.Ring.{by-cases}
-use Rattle.rules.specs.Lists.{keep, joined}
+use Rattle.rules.specs.Lists.{joined}
 use Rattle.rules.specs.State.{Content, State, withTable}
 use Rattle.rules.specs.Producing.{due, sends, inputBytes, packet, packets}
 use Rattle.rules.specs.declared.Conn.{Conn}
@@ -18,7 +17,8 @@ use Rattle.image.specs.Fits.{Suits}
 use Rattle.image.specs.Holds.{Holds, conns-held}
 use Rattle.image.specs.Kept.{suits-row}
 use Rattle.image.specs.Updates.{noConn}
-use Rattle.producing.specs.Passes.{packetOr, packetAt, sentRow, Sends, sentAll, AllSent, SendsAll}
+use Rattle.packets.specs.Rows.{packetOr}
+use Rattle.producing.specs.Passes.{packetAt, sentRow, Sends, SendsAll}
 
 -- ---- packets one behind the other
 

@@ -1,109 +1,14 @@
 // Packets out. First what is due is counted and its bytes added up, so that too little room changes nothing; then each packet is
 // written behind the one before, and the connection steps.
-use rules::Due;
+use counting::Tally;
 ghost use mathlib.Core.Path.{_≡_};
-ghost use Prim.Native.Nat.{ℕ, _+_, _*_, _≤_, _<_, max};
-ghost use lib.Dec.{leb};
+ghost use Prim.Native.Nat.{_+_, _*_, _≤_, _<_};
 ghost use lib.ListN.{length};
 ghost use Rattle.cells.specs.Numbers.{le};
-ghost use Rattle.cells.specs.Records.{ofBool};
 ghost use Rattle.rules.specs.Producing.{counted};
 ghost use Rattle.image.specs.Holds.{Ready, Slotted, Becomes};
 ghost use Rattle.image.specs.Kept.{Kept};
-ghost use Rattle.producing.specs.Passes.{limitOf, added, Tallies, Totals, Sends, SendsAll, tallyKept, Produces};
-
-// What is due: how many bytes and packets, how many of them late, and the greatest lateness that ever was.
-pub struct Tally {
-    pub need: usize,
-    pub count: u64,
-    pub late: u64,
-    pub worst: u64,
-}
-
-// ---- what is due, counted
-
-fn greater(a: u64, b: u64) -> u64
-    ensures { λ r. ⌜ r ≡ max a b ⌝ }
-{
-    if a < b {
-        return b;
-    }
-    a
-}
-
-// Late means the late limit or more.
-fn one_if_late(d: u64, limit: u64) -> u64
-    ensures { λ r. ⌜ (r ≡ ofBool (leb limit d)) × (r ≤ 1) ⌝ }
-{
-    if limit <= d {
-        return 1;
-    }
-    0
-}
-
-// A late limit of 0 means 1,000.
-fn late_limit(s: &[u8]) -> u64
-    requires { ⌜ 40 ≤ length (now s) ⌝ }
-    ensures { λ r. ⌜ r ≡ limitOf (le 4 (now (s .entry)) 36) ⌝ }
-{
-    let n = cells::u32_at(s, 36) as u64;
-    if n == 0 {
-        return 1000;
-    }
-    n
-}
-
-// A packet of n bytes more, late by d.
-fn add_packet(k: Tally, n: usize, d: u64, limit: u64) -> Tally
-    requires { ⌜ (k .need ≤ 17440) × (n ≤ 545) × (k .count ≤ 32) × (k .late ≤ 32) ⌝ }
-    ensures { λ r. ⌜ (r .need ≤ k .need + 545) × (r .count ≤ k .count + 1) × (r .late ≤ k .late + 1) × (r ≡ added n d limit k) ⌝ }
-{
-    Tally {
-        need: k.need + n,
-        count: k.count + 1,
-        late: k.late + one_if_late(d, limit),
-        worst: greater(k.worst, d),
-    }
-}
-
-fn count_row(s: &[u8], i: usize, time: u64, limit: u64, k: Tally) -> Tally
-    requires { ⌜ Ready (now s) × Slotted (now s) × (i < le 2 (now s) 224) × (k .need ≤ 17440) × (k .count ≤ 32) × (k .late ≤ 32) ⌝ }
-    ensures { λ r. ⌜ (r .need ≤ k .need + 545) × (r .count ≤ k .count + 1) × (r .late ≤ k .late + 1) × Tallies time limit i (now (s .entry)) k r ⌝ }
-{
-    let d = layout::due_at(&s[256..2560], i);
-    match d {
-        Due::Never => k,
-        Due::At(t) => {
-            if time < t {
-                return k;
-            }
-            let p = packets::data_of(s, packets::input_at(&s[256..2560], i));
-            add_packet(k, 33 + p.size, time - t, limit)
-        }
-    }
-}
-
-fn count_all(s: &[u8], time: u64) -> Tally
-    requires { ⌜ Ready (now s) × Slotted (now s) ⌝ }
-    ensures { λ r. ⌜ (r .need ≤ 17440) × Totals time (now (s .entry)) r ⌝ }
-{
-    let n = cells::u16_at(s, 224) as usize;
-    let limit = late_limit(s);
-    let mut k = Tally {
-        need: 0,
-        count: 0,
-        late: 0,
-        worst: cells::u64_at(s, 208),
-    };
-    let mut i = 0;
-    while i < n {
-        k = count_row(s, i, time, limit, k);
-        i += 1;
-    }
-    k
-}
-
-// ---- what is due, sent
+ghost use Rattle.producing.specs.Passes.{Sends, SendsAll, tallyKept, Produces};
 
 // Row i steps, and its packet is written at its place; how many bytes it has. Where there was room for all, there is room for it.
 fn send_row(s: &mut [u8], out: &mut [u8], at: usize, i: usize, time: u64) -> usize
@@ -170,7 +75,7 @@ pub fn produce(s: &mut [u8], time: u64, out: &mut [u8]) -> u64
     requires { ⌜ Ready (now s) × Slotted (now s) × (time < 9223372036854775808) ⌝ }
     ensures { λ r. ⌜ Produces time (now (s .entry)) (now (s .exit)) (now (out .entry)) (now (out .exit)) r ⌝ }
 {
-    let k = count_all(s, time);
+    let k = counting::count_all(s, time);
     if k.count == 0 {
         return 0;
     }

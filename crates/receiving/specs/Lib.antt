@@ -4,3 +4,4 @@ pub mod TakeLaws
 pub mod HearLaws
 pub mod FrameLaws
 pub mod CallLaws
+pub mod Accepted

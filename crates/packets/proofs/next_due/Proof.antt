@@ -1,4 +1,4 @@
-use Rattle.packets.specs.PacketLaws.{due-before, next-never, next-at}
+use Rattle.packets.specs.PacketLaws.{due-before, next-at}
 use borrow.Author.Needs.{needs}
 use Rattle.packets.proofs.next_due.Statement.{statement}
 use Rattle.packets.proofs.next_due.Tie as tie

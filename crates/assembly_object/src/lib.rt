@@ -1,0 +1,120 @@
+// Assembly, class 0x04: the data of an assembly of any kind, and its size.
+use application::places::Found;
+use attributes::Asked;
+use attributes::Given;
+use rules::objects::Fault;
+use wire_requests::FirstAttribute;
+ghost use mathlib.Core.Path.{_≡_};
+ghost use Prim.Native.Nat.{ℕ, _≤_, _<_, max};
+ghost use mathlib.Core.List.{[]};
+ghost use lib.ListN.{length, drop};
+ghost use Rattle.cells.specs.Numbers.{le};
+ghost use Rattle.tables.specs.Tables.{rows};
+ghost use Rattle.rules.specs.Lists.{place};
+ghost use Rattle.rules.specs.State.{contentAt};
+ghost use Rattle.rules.specs.Attributes.{valueOf, single};
+ghost use Rattle.rules.specs.Objects.{largestInstance, assemblyClass, assemblyAttributes, assembly};
+ghost use Rattle.layout.specs.Setups.{decShape, shapeIn, setupFrom};
+ghost use Rattle.image.specs.Image.{view};
+ghost use Rattle.application.specs.Outcomes.{Passed};
+ghost use Rattle.application.specs.Places.{placeIn};
+ghost use Rattle.attributes.specs.Told.{told};
+ghost use Rattle.assembly_object.specs.Instances.{hasInstance};
+
+// The first assembly of that instance, in the setup's region.
+fn find(r: &[u8], instance: u32) -> Found
+    requires { ⌜ (192 ≤ length (now r)) × (le 1 (now r) 0 ≤ 16) ⌝ }
+    ensures { λ x. ⌜ placeIn x ≡ place (hasInstance instance) (rows 5 decShape (le 1 (now (r .entry)) 0) (drop 110 (now (r .entry)))) ⌝ }
+{
+    let n = cells::u8_at(r, 0) as usize;
+    let mut i = 0;
+    while i < n {
+        if layout::instance_at(r, i) as u32 == instance {
+            return Found::At(i);
+        }
+        i += 1;
+    }
+    Found::Nowhere
+}
+
+fn greater(a: u16, b: u16) -> u16
+    ensures { λ x. ⌜ x ≡ max a b ⌝ }
+{
+    if a < b { b } else { a }
+}
+
+fn largest(r: &[u8]) -> u16
+    requires { ⌜ (192 ≤ length (now r)) × (le 1 (now r) 0 ≤ 16) ⌝ }
+    ensures { λ x. ⌜ x ≡ largestInstance (rows 5 decShape (le 1 (now (r .entry)) 0) (drop 110 (now (r .entry)))) ⌝ }
+{
+    let n = cells::u8_at(r, 0) as usize;
+    let mut most: u16 = 0;
+    let mut i = 0;
+    while i < n {
+        most = greater(most, layout::instance_at(r, i));
+        i += 1;
+    }
+    most
+}
+
+fn class_value(r: &[u8], n: u32, out: &mut [u8]) -> Given
+    requires { ⌜ (192 ≤ length (now r)) × (le 1 (now r) 0 ≤ 16) × (512 ≤ length (now out)) ⌝ }
+    ensures { λ x. ⌜ (x, now (out .exit)) ≡ told (valueOf n (assemblyClass (setupFrom (now (r .entry)) []))) (now (out .entry)) ⌝ }
+{
+    if n == 1 {
+        return attributes::number2(out, 2);
+    }
+    if n == 2 {
+        return attributes::number2(out, largest(r));
+    }
+    Given::Fails(Fault::AttributeUnknown)
+}
+
+fn class(r: &[u8], service: u8, a: FirstAttribute, out: &mut [u8]) -> Given
+    requires { ⌜ (192 ≤ length (now r)) × (le 1 (now r) 0 ≤ 16) × (512 ≤ length (now out)) ⌝ }
+    ensures { λ x. ⌜ (x, now (out .exit)) ≡ told (single service a (assemblyClass (setupFrom (now (r .entry)) []))) (now (out .entry)) ⌝ }
+{
+    match attributes::wanted(service, a) {
+        Asked::Attribute(n) => class_value(r, n, out),
+        Asked::Refused(f) => Given::Fails(f),
+    }
+}
+
+fn value(s: &[u8], i: usize, n: u32, out: &mut [u8]) -> Given
+    requires { ⌜ Passed (now s) × (i < le 1 (now s) 0) × (512 ≤ length (now out)) ⌝ }
+    ensures { λ x. ⌜ (x, now (out .exit)) ≡ told (valueOf n (assemblyAttributes (contentAt (view (now (s .entry))) i))) (now (out .entry)) ⌝ }
+{
+    let size = layout::size_at(s, i);
+    if n == 3 {
+        let from = 35328 + i * 512;
+        let e = from + size as usize;
+        return attributes::bytes(out, &s[from..e]);
+    }
+    if n == 4 {
+        return attributes::number2(out, size);
+    }
+    Given::Fails(Fault::AttributeUnknown)
+}
+
+fn here(s: &[u8], i: usize, service: u8, a: FirstAttribute, out: &mut [u8]) -> Given
+    requires { ⌜ Passed (now s) × (i < le 1 (now s) 0) × (512 ≤ length (now out)) ⌝ }
+    ensures { λ x. ⌜ (x, now (out .exit)) ≡ told (single service a (assemblyAttributes (contentAt (view (now (s .entry))) i))) (now (out .entry)) ⌝ }
+{
+    match attributes::wanted(service, a) {
+        Asked::Attribute(n) => value(s, i, n, out),
+        Asked::Refused(f) => Given::Fails(f),
+    }
+}
+
+pub fn assembly(s: &[u8], service: u8, instance: u32, a: FirstAttribute, out: &mut [u8]) -> Given
+    requires { ⌜ Passed (now s) × (512 ≤ length (now out)) ⌝ }
+    ensures { λ x. ⌜ (x, now (out .exit)) ≡ told (assembly (view (now (s .entry))) service instance a) (now (out .entry)) ⌝ }
+{
+    if instance == 0 {
+        return class(&s[0..192], service, a, out);
+    }
+    match find(&s[0..192], instance) {
+        Found::Nowhere => Given::Fails(Fault::ObjectUnknown),
+        Found::At(i) => here(s, i, service, a, out),
+    }
+}

@@ -1,0 +1,101 @@
+use Prim.Native.Nat.{ℕ, _+_, _-_}
+use mathlib.Core.Path.{ap, sym, _∙_}
+use native.Mathlib.Nat.{add-sub-cancel-left}
+use lib.ListN.{take, drop, length-take}
+use Rattle.image.specs.Fits.{is-long}
+use Rattle.application.specs.PlaceLaws.{setup-ready}
+use Rattle.attributes.specs.Values.{fails}
+use Rattle.uploads.specs.Positions.{decUpload}
+use Rattle.file_object.specs.Files.{kept}
+use Rattle.messages.specs.Positions.{mark-small, names-short, no-file, the-file}
+use native.Mathlib.Omega.{arith}
+use borrow.Author.Needs.{needs}
+use Rattle.messages.proofs.file_in.Statement.{statement}
+use Rattle.messages.proofs.file_in.Tie as tie
+
+sub-u32-at : tie.Need-sub-u32-at
+sub-u32-at c = search needs
+
+part-u32-at-start : tie.Need-part-u32-at-start
+part-u32-at-start c = search needs
+
+part-u32-at-end : tie.Need-part-u32-at-end
+part-u32-at-end c = search needs
+
+u32-at-requires : tie.Need-u32-at-requires
+u32-at-requires c κs = search needs
+
+cast-mark : tie.Need-cast-mark
+cast-mark c = search needs
+
+returns : tie.Need-returns
+returns c =
+    let a = c .before .before .before .before .before .before .before .args in
+    no-file (a .s .now) (a .service) (a .instance) (a .a) (a .given .now) (decUpload (a .position .now)) (a .out .now) _ (sym (c .before .u32-at .ensures) ∙ c .if1 .taken)
+    (kept (a .out .now) (a .position .now) _ _ _ (c .before .before .before .before .before .before .before .pre .1) (fails _ _))
+
+sub-e : tie.Need-sub-e
+sub-e c = search needs
+
+add-e : tie.Need-add-e
+add-e c = search needs
+
+sub-file : tie.Need-sub-file
+sub-file c = search needs
+
+part-file-start : tie.Need-part-file-start
+part-file-start c = search needs
+
+part-file-end : tie.Need-part-file-end
+part-file-end c = search needs
+
+sub-file-2 : tie.Need-sub-file-2
+sub-file-2 c = search needs
+
+part-file-start-2 : tie.Need-part-file-start-2
+part-file-start-2 c = search needs
+
+part-file-end-2 : tie.Need-part-file-end-2
+part-file-end-2 c = let e = c .before .before .u32-at .ensures in let h = mark-small (c .before .before .before .before .before .before .before .before .args .s .now) (c .before .before .before .before .before .before .before .before .pre .0 .test) in let n = is-long (c .before .before .before .before .before .before .before .before .args .s .now) (c .before .before .before .before .before .before .before .before .pre .0 .test) in omega arith
+
+file-requires : tie.Need-file-requires
+file-requires c κs =
+    let s = c .before .before .before .before .before .before .before .before .before .before .before .args .s .now in let t = c .before .before .before .before .before .before .before .before .before .before .before .pre .0 .test in
+    let e = c .before .before .before .before .before .u32-at .ensures in let h = mark-small s t in
+    let z = length-take (43520 + (c .before .before .before .before .before .u32-at .result - 1) - 43520) (drop 43520 s) in
+    (setup-ready s (c .before .before .before .before .before .before .before .before .before .before .before .pre .0 .ready) .0, names-short s t, omega arith, c .before .before .before .before .before .before .before .before .before .before .before .pre .1, omega arith)
+
+same-length : tie.Need-same-length
+same-length c = search needs
+
+same-length-2 : tie.Need-same-length-2
+same-length-2 c = search needs
+
+returns-2 : tie.Need-returns-2
+returns-2 c =
+    let a = c .before .before .before .before .before .before .before .before .before .before .before .before .before .before .before .before .args in
+    the-file (a .s .now) (a .service) (a .instance) (a .a) (a .given .now) (decUpload (a .position .now)) (a .out .now) _ (c .before .before .before .before .before .before .before .before .before .before .before .before .before .before .before .before .pre .0 .test) (λ q. c .before .before .before .before .before .before .before .before .before .if1 .left (c .before .before .before .before .before .before .before .before .before .before .u32-at .ensures ∙ q)) _
+    (ap (λ (k : ℕ). take k (drop 43520 (a .s .now))) (add-sub-cancel-left 43520 (c .before .before .before .before .before .before .before .before .before .before .u32-at .result - 1) ∙ ap (λ (n : ℕ). n - 1) (c .before .before .before .before .before .before .before .before .before .before .u32-at .ensures))) (c .before .before .before .before .file .ensures)
+
+pub file-in-spec : {M : Type 1} → statement M
+file-in-spec =
+    tie.close
+    (tie.spec
+    sub-u32-at
+    part-u32-at-start
+    part-u32-at-end
+    u32-at-requires
+    cast-mark
+    returns
+    sub-e
+    add-e
+    sub-file
+    part-file-start
+    part-file-end
+    sub-file-2
+    part-file-start-2
+    part-file-end-2
+    file-requires
+    same-length
+    same-length-2
+    returns-2)

@@ -1,0 +1,4 @@
+pub mod Positions
+pub mod Replies
+pub mod Ways
+pub mod Lifted
