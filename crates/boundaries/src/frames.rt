@@ -42,13 +42,23 @@ fn say_written(data: &[u8]) {
     say_written_in(&mut frame, data);
 }
 
+fn say_part(bytes: &[u8], n: usize) {
+    if n <= bytes.len() {
+        say_written(&bytes[..n]);
+    }
+}
+
+fn say_parts(data: &[u8]) {
+    say_part(data, 0);
+    say_part(data, 65516);
+    say_part(data, 65517);
+    say_part(data, 65533);
+    say_written(data);
+}
+
 pub fn say_sizes() {
     let zeros = [0u8; 65534];
-    say_written(&zeros[..0]);
-    say_written(&zeros[..65516]);
-    say_written(&zeros[..65517]);
-    say_written(&zeros[..65533]);
-    say_written(&zeros);
+    say_parts(&zeros);
 }
 
 fn say_list(frame: &[u8]) {
@@ -60,15 +70,25 @@ fn say_list(frame: &[u8]) {
     say_frame(b"the same frame", frame);
 }
 
+fn say_first(frame: &[u8], n: usize) {
+    if n <= frame.len() {
+        say_list(&frame[..n]);
+    }
+}
+
+fn say_lists(frame: &[u8]) {
+    say_first(frame, 1);
+    say_first(frame, 2);
+    say_first(frame, 65536);
+    say_first(frame, 262141);
+    say_first(frame, 262142);
+    say_list(frame);
+}
+
 // Items of no bytes, each of kind 0.
 pub fn say_counts() {
     let mut frame = [0u8; 262143];
     frame[0] = 255;
     frame[1] = 255;
-    say_list(&frame[..1]);
-    say_list(&frame[..2]);
-    say_list(&frame[..65536]);
-    say_list(&frame[..262141]);
-    say_list(&frame[..262142]);
-    say_list(&frame);
+    say_lists(&frame);
 }

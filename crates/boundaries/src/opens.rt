@@ -15,14 +15,24 @@ fn say_open(name: &[u8], request: &[u8], large: bool) {
     }
 }
 
+fn say_first_open(name: &[u8], zeros: &[u8], n: usize, large: bool) {
+    if n <= zeros.len() {
+        say_open(name, &zeros[..n], large);
+    }
+}
+
+fn say_zero_opens(zeros: &[u8]) {
+    say_first_open(b"small open", zeros, 35, false);
+    say_first_open(b"small open", zeros, 36, false);
+    say_first_open(b"large open", zeros, 39, true);
+    say_first_open(b"large open", zeros, 40, true);
+    say_first_open(b"small open", zeros, 65536, false);
+    say_open(b"small open", zeros, false);
+}
+
 pub fn say_opens() {
     let zeros = [0u8; 65537];
-    say_open(b"small open", &zeros[..35], false);
-    say_open(b"small open", &zeros[..36], false);
-    say_open(b"large open", &zeros[..39], true);
-    say_open(b"large open", &zeros[..40], true);
-    say_open(b"small open", &zeros[..65536], false);
-    say_open(b"small open", &zeros, false);
+    say_zero_opens(&zeros);
 }
 
 fn say_close(request: &[u8]) {
@@ -33,12 +43,22 @@ fn say_close(request: &[u8]) {
     }
 }
 
+fn say_first_close(zeros: &[u8], n: usize) {
+    if n <= zeros.len() {
+        say_close(&zeros[..n]);
+    }
+}
+
+fn say_zero_closes(zeros: &[u8]) {
+    say_first_close(zeros, 11);
+    say_first_close(zeros, 12);
+    say_first_close(zeros, 65536);
+    say_close(zeros);
+}
+
 pub fn say_closes() {
     let zeros = [0u8; 65537];
-    say_close(&zeros[..11]);
-    say_close(&zeros[..12]);
-    say_close(&zeros[..65536]);
-    say_close(&zeros);
+    say_zero_closes(&zeros);
 }
 
 fn say_path(path: &[u8]) {
