@@ -35,52 +35,51 @@ fn with_last(state: &mut [u8]) {
     threshtide_setup(state, &b, &[], 7);
 }
 
-pub fn say_set_input() {
-    let mut state = [0u8; 109056];
-    with_last(&mut state);
-    set_input(b"set_input, instance 0", &mut state, 0, &[9]);
-    set_input(b"set_input, instance 100", &mut state, 100, &[9]);
+fn set_low(state: &mut [u8]) {
+    set_input(b"set_input, instance 0", state, 0, b"9");
+    set_input(b"set_input, instance 100", state, 100, b"9");
+    set_input(b"set_input, instance 101, an output", state, 101, b"9");
+}
+
+fn set_high(state: &mut [u8]) {
+    set_input(b"set_input, instance 65,535", state, 65535, b"9");
+    set_input(b"set_input, instance 65,536", state, 65536, b"9");
     set_input(
         b"set_input, instance 65,636 (65,536 and 100)",
-        &mut state,
+        state,
         65636,
-        &[9],
+        b"9",
     );
-    set_input(b"set_input, instance 65,535", &mut state, 65535, &[9]);
-    set_input(b"set_input, instance 65,536", &mut state, 65536, &[9]);
-    set_input(b"set_input, instance 101, an output", &mut state, 101, &[9]);
 }
 
-pub fn say_output() {
-    let mut state = [0u8; 109056];
-    with_last(&mut state);
-    output(b"output, instance 0", &mut state, 0);
-    output(b"output, instance 101", &mut state, 101);
-    output(
-        b"output, instance 65,637 (65,536 and 101)",
-        &mut state,
-        65637,
-    );
-    output(b"output, instance 65,535, an input", &mut state, 65535);
-    output(b"output, instance 65,536", &mut state, 65536);
+fn outputs(state: &mut [u8]) {
+    output(b"output, instance 0", state, 0);
+    output(b"output, instance 101", state, 101);
+    output(b"output, instance 65,535, an input", state, 65535);
+    output(b"output, instance 65,637 (65,536 and 101)", state, 65637);
 }
 
-pub fn say_assembly() {
-    let mut state = [0u8; 109056];
-    with_last(&mut state);
-    assembly(b"assembly, input 65,535", &state, 1, 65535);
-    assembly(b"assembly, input 65,536", &state, 1, 65536);
-    assembly(b"assembly, input 65,636 (65,536 and 100)", &state, 1, 65636);
-    assembly(b"assembly, output 101", &state, 2, 101);
-    assembly(b"assembly, configuration 102", &state, 3, 102);
+fn assemblies(state: &[u8]) {
+    assembly(b"assembly, input 65,535", state, 1, 65535);
+    assembly(b"assembly, input 65,536", state, 1, 65536);
+    assembly(b"assembly, output 101", state, 2, 101);
+    assembly(b"assembly, configuration 102", state, 3, 102);
 }
 
-pub fn say_kinds() {
+fn kinds(state: &[u8]) {
+    assembly(b"assembly, output 100, an input", state, 2, 100);
+    assembly(b"assembly, kind 0", state, 0, 100);
+    assembly(b"assembly, kind 4", state, 4, 100);
+}
+
+pub fn say_instances() {
     let mut state = [0u8; 109056];
     with_last(&mut state);
-    assembly(b"assembly, output 100, an input", &state, 2, 100);
-    assembly(b"assembly, kind 0", &state, 0, 100);
-    assembly(b"assembly, kind 4", &state, 4, 100);
+    set_low(&mut state);
+    set_high(&mut state);
+    outputs(&mut state);
+    assemblies(&state);
+    kinds(&state);
 }
 
 fn show_input(state: &[u8]) {
@@ -89,20 +88,16 @@ fn show_input(state: &[u8]) {
     text::bytes(b"the input is", &out);
 }
 
+fn set_and_show(name: &[u8], state: &mut [u8], d: &[u8]) {
+    set_input(name, state, 100, d);
+    show_input(state);
+}
+
 pub fn say_lengths() {
     let mut state = [0u8; 109056];
     setups::fresh(&mut state);
-    set_input(b"set_input, 4 bytes of 4", &mut state, 100, &[1, 2, 3, 4]);
-    show_input(&state);
-    set_input(
-        b"set_input, 5 bytes of 4",
-        &mut state,
-        100,
-        &[5, 6, 7, 8, 9],
-    );
-    show_input(&state);
-    set_input(b"set_input, 2 bytes of 4", &mut state, 100, &[5, 6]);
-    show_input(&state);
-    set_input(b"set_input, 0 bytes of 4", &mut state, 100, &[]);
-    show_input(&state);
+    set_and_show(b"set_input, 4 bytes of 4", &mut state, b"1234");
+    set_and_show(b"set_input, 5 bytes of 4", &mut state, b"56789");
+    set_and_show(b"set_input, 2 bytes of 4", &mut state, b"56");
+    set_and_show(b"set_input, 0 bytes of 4", &mut state, b"");
 }

@@ -9,16 +9,21 @@ mod rooms;
 mod setups;
 mod text;
 
-fn main() {
-    setups::say_assemblies();
+fn say_setups() {
+    setups::say_counts();
+    setups::say_instances();
+    setups::say_sizes();
+    setups::say_limits();
     setups::say_names();
+    setups::say_marks();
     setups::say_eds();
     setups::say_block_lengths();
     setups::say_state_lengths();
-    instances::say_set_input();
-    instances::say_output();
-    instances::say_assembly();
-    instances::say_kinds();
+}
+
+fn main() {
+    say_setups();
+    instances::say_instances();
     instances::say_lengths();
     rooms::say_empty();
     rooms::say_rooms();

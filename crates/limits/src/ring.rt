@@ -31,23 +31,31 @@ fn say_waiting(name: &[u8], state: &mut [u8]) {
     text::words(b" waiting\n");
 }
 
-pub fn say_once() {
-    let mut state = [0u8; 109056];
+fn unread(state: &mut [u8]) {
+    owners::hear(state, 0, 1, 1, 5);
+    say_waiting(b"the output changes", state);
+    owners::hear(state, 0, 1, 2, 6);
+    say_waiting(b"the output changes again, unread", state);
+}
+
+fn read(state: &mut [u8]) {
     let mut out = [0u8; 5];
-    setups::fresh(&mut state);
-    owners::add_owners(&mut state);
-    owners::hear(&mut state, 0, 1, 1, 5);
-    say_waiting(b"the output changes", &mut state);
-    owners::hear(&mut state, 0, 1, 2, 6);
-    say_waiting(b"the output changes again, unread", &mut state);
-    threshtide_output(&mut state, 101, &mut out);
-    owners::hear(&mut state, 0, 1, 3, 6);
+    threshtide_output(state, 101, &mut out);
+    owners::hear(state, 0, 1, 3, 6);
     say_waiting(
         b"the output is read, and a frame says the same again",
-        &mut state,
+        state,
     );
-    owners::hear(&mut state, 0, 1, 4, 7);
-    say_waiting(b"the output is read, and changes", &mut state);
+    owners::hear(state, 0, 1, 4, 7);
+    say_waiting(b"the output is read, and changes", state);
+}
+
+pub fn say_once() {
+    let mut state = [0u8; 109056];
+    setups::fresh(&mut state);
+    owners::add_owners(&mut state);
+    unread(&mut state);
+    read(&mut state);
 }
 
 // A change of instance 104, and a read of it.
@@ -67,19 +75,23 @@ fn push_events(state: &mut [u8], many: u16) {
     }
 }
 
-fn say_events(name: &[u8], many: u16) {
-    let mut state = [0u8; 109056];
+fn say_oldest(state: &mut [u8]) {
     let mut out = [0u8; 32];
-    setups::fresh(&mut state);
-    owners::add_owners(&mut state);
-    push_events(&mut state, many);
-    threshtide_next_event(&mut state, &mut out);
-    text::words(name);
+    threshtide_next_event(state, &mut out);
     text::words(b": the oldest is of instance");
     text::byte(out[4]);
     text::words(b", behind it wait ");
-    text::number(take_all(&mut state));
+    text::number(take_all(state));
     text::words(b"\n");
+}
+
+fn say_events(name: &[u8], many: u16) {
+    let mut state = [0u8; 109056];
+    setups::fresh(&mut state);
+    owners::add_owners(&mut state);
+    push_events(&mut state, many);
+    text::words(name);
+    say_oldest(&mut state);
 }
 
 pub fn say_full() {
@@ -96,18 +108,28 @@ fn expire(name: &[u8], state: &mut [u8], time: u64) {
     text::line_kept(name, r, memory::same(&before, state));
 }
 
+fn receive(name: &[u8], state: &mut [u8], time: u64) {
+    text::line(name, owners::hear(state, time, 1, 1, 5));
+}
+
+fn times(state: &mut [u8]) {
+    expire(b"expire at 2^63", state, 9223372036854775808);
+    receive(b"receive at 2^63", state, 9223372036854775808);
+    expire(b"expire at the end of the timeout", state, 100000);
+    expire(b"expire a microsecond later", state, 100001);
+}
+
+fn last_times(state: &mut [u8]) {
+    say_waiting(b"events of it", state);
+    expire(b"expire at 2^63 - 1", state, 9223372036854775807);
+    receive(b"receive at 2^63 - 1", state, 9223372036854775807);
+}
+
 // Both owners live until 100,000.
 pub fn say_times() {
     let mut state = [0u8; 109056];
     setups::fresh(&mut state);
     owners::add_owners(&mut state);
-    expire(b"expire at 2^63", &mut state, 9223372036854775808);
-    let r = owners::hear(&mut state, 9223372036854775808, 1, 1, 5);
-    text::line(b"receive at 2^63", r);
-    expire(b"expire at the end of the timeout", &mut state, 100000);
-    expire(b"expire a microsecond later", &mut state, 100001);
-    say_waiting(b"events of it", &mut state);
-    expire(b"expire at 2^63 - 1", &mut state, 9223372036854775807);
-    let q = owners::hear(&mut state, 9223372036854775807, 1, 1, 5);
-    text::line(b"receive at 2^63 - 1", q);
+    times(&mut state);
+    last_times(&mut state);
 }

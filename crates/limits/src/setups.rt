@@ -52,10 +52,13 @@ fn with_eds(name: &[u8], mark: u8, eds: &[u8]) {
     try_block(name, &b, eds);
 }
 
-pub fn say_assemblies() {
+pub fn say_counts() {
     one(b"setup, no assembly", 0, 0);
     one(b"setup, 16 assemblies", 0, 16);
     one(b"setup, 17 assemblies", 0, 17);
+}
+
+pub fn say_instances() {
     one(b"setup, instance 0", 110, 0);
     two(b"setup, instance 65,535", 110, 255, 111, 255);
     one(b"setup, instance 115 twice, first and last", 110, 115);
@@ -67,31 +70,39 @@ pub fn say_assemblies() {
         110,
         115,
     );
+}
+
+pub fn say_sizes() {
     two(b"setup, an assembly of 512 bytes", 112, 0, 113, 2);
     two(b"setup, an assembly of 513 bytes", 112, 1, 113, 2);
-    one(b"setup, an assembly of 0 bytes", 112, 0);
     one(b"setup, kind 0", 114, 0);
-    one(b"setup, kind 3", 114, 3);
     one(b"setup, kind 4", 114, 4);
 }
 
-pub fn say_names() {
+pub fn say_limits() {
     one(b"setup, transfer limit 0", 1, 0);
     one(b"setup, transfer limit 1", 1, 1);
+}
+
+pub fn say_names() {
     one(b"setup, product name of 32 bytes", 2, 32);
     one(b"setup, product name of 33 bytes", 2, 33);
     one(b"setup, EDS name of 32 bytes", 3, 32);
     one(b"setup, EDS name of 33 bytes", 3, 33);
 }
 
+pub fn say_marks() {
+    with_eds(b"setup, no EDS", 0, b"");
+    with_eds(b"setup, no EDS and a byte of it", 0, b"x");
+    with_eds(b"setup, empty EDS", 1, b"");
+    with_eds(b"setup, EDS mark 2", 2, b"x");
+}
+
 pub fn say_eds() {
-    let eds = [1u8; 65536];
-    with_eds(b"setup, no EDS", 0, &eds[..0]);
-    with_eds(b"setup, no EDS and a byte of it", 0, &eds[..1]);
-    with_eds(b"setup, empty EDS", 1, &eds[..0]);
-    with_eds(b"setup, EDS of 65,535 bytes", 1, &eds[..65535]);
-    with_eds(b"setup, EDS of 65,536 bytes", 1, &eds);
-    with_eds(b"setup, EDS mark 2", 2, &eds[..1]);
+    let most = [1u8; 65535];
+    with_eds(b"setup, EDS of 65,535 bytes", 1, &most);
+    let over = [1u8; 65536];
+    with_eds(b"setup, EDS of 65,536 bytes", 1, &over);
 }
 
 fn try_state(name: &[u8], state: &mut [u8]) {
