@@ -11,7 +11,7 @@ ghost use Rattle.rules.specs.Objects.{owned, running, extendedStatus, identityS
 ghost use Rattle.layout.specs.Rows.{decConn};
 ghost use Rattle.layout.specs.Places.{tableIn};
 ghost use Rattle.image.specs.Image.{view};
-ghost use Rattle.checking.specs.TableLaws.{rowAt};
+ghost use Rattle.streams.specs.TableLaws.{rowAt};
 ghost use Rattle.application.specs.Outcomes.{Passed};
 ghost use Rattle.status.specs.Status.{ownerIn, runsIn};
 

@@ -4,7 +4,7 @@ use lib.ListN.{drop}
 use Rattle.tables.specs.Tables.{rows}
 use Rattle.rules.specs.Lists.{any}
 use Rattle.layout.specs.Rows.{decConn}
-use Rattle.checking.specs.TableLaws.{any-hit, any-miss, any-ends}
+use Rattle.streams.specs.TableLaws.{any-hit, any-miss, any-ends}
 use Rattle.status.specs.Status.{ownerIn}
 use borrow.Author.Needs.{needs}
 use native.Mathlib.Omega.{arith}

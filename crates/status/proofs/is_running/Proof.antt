@@ -8,7 +8,7 @@ use Rattle.rules.specs.Objects.{running}
 use Rattle.layout.specs.Places.{tableIn}
 use Rattle.layout.specs.Rows.{decConn}
 use Rattle.image.specs.Image.{view}
-use Rattle.checking.specs.TableLaws.{any-hit, any-miss, any-ends}
+use Rattle.streams.specs.TableLaws.{any-hit, any-miss, any-ends}
 use Rattle.status.specs.Status.{runsIn, running-rows}
 use borrow.Author.Needs.{needs}
 use native.Mathlib.Omega.{arith}
