@@ -1,0 +1,260 @@
+// The calls of a file, one behind the other: each is 56 bytes of numbers, then the bytes passed in, the EDS, and the bytes written.
+ghost use Prim.Native.Nat.{_≤_};
+ghost use mathlib.Core.Path.{_≡_};
+ghost use lib.ListN.{length};
+use crate::calls;
+use crate::text;
+
+enum Step {
+    Same(usize),
+    End,
+    Stop,
+}
+
+// What the lent output is filled with before a call.
+const LENT: u8 = 0xA5;
+
+// The byte that the call is to leave at this place of the output.
+fn recorded_byte(written: &[u8], i: usize) -> u8 {
+    if i < written.len() { written[i] } else { LENT }
+}
+
+// The place of the first byte that differs, or the output's length.
+fn first_difference(out: &[u8], written: &[u8]) -> usize {
+    let mut i: usize = 0;
+    while i < out.len() {
+        if out[i] != recorded_byte(written, i) {
+            return i;
+        }
+        i += 1;
+    }
+    i
+}
+
+fn tell_answers(call: u8, found: u64, recorded: u64) {
+    text::words(b"DIFFERENT: ");
+    text::name(call);
+    text::hex(b" answered ", found);
+    text::hex(b", recorded ", recorded);
+}
+
+fn tell_output(out: &[u8], written: &[u8], at: usize) {
+    if at < out.len() {
+        text::number(b"; output byte ", at);
+        text::byte(b" is ", out[at]);
+        text::byte(b", recorded ", recorded_byte(written, at));
+    } else {
+        text::words(b"; output as recorded");
+    }
+}
+
+// One call, into the lent output; true where its answer and every byte of the output are as recorded.
+fn replay_call(
+    head: &[u8],
+    bytes: &[u8],
+    eds: &[u8],
+    written: &[u8],
+    state: &mut [u8],
+    uploads: &mut [u8],
+    out: &mut [u8],
+) -> bool
+    requires { ⌜ 56 ≤ length (now head) ⌝ }
+{
+    calls::fill(out, LENT);
+    let found = calls::call(head, bytes, eds, state, uploads, out);
+    let recorded = cells::u64_at(head, 48);
+    let at = first_difference(out, written);
+    if found == recorded {
+        if at == out.len() {
+            return true;
+        }
+    }
+    tell_answers(head[0], found, recorded);
+    tell_output(out, written, at);
+    false
+}
+
+fn broken(why: &[u8]) -> Step {
+    text::words(b"BROKEN OFF: ");
+    text::words(why);
+    Step::Stop
+}
+
+// How many bytes of numbers were left in the file.
+fn read_numbers(fd: i32, part: &mut [u8]) -> usize
+    requires { ⌜ 56 ≤ length (now part) ⌝ }
+{
+    let start: usize = 0;
+    io::read_full(fd, &mut part[start..56])
+}
+
+// Whether the file has the rest of the record.
+fn read_bytes(fd: i32, part: &mut [u8], end: usize) -> bool
+    requires { ⌜ (56 ≤ end) × (end ≤ length (now part)) ⌝ }
+{
+    io::read_full(fd, &mut part[56..end]) == end - 56
+}
+
+// The record that begins the bytes, as far as its numbers say.
+fn replay_record(part: &[u8], state: &mut [u8], uploads: &mut [u8], lent: &mut [u8]) -> bool
+    requires { ⌜ 56 ≤ length (now part) ⌝ }
+{
+    let bytes = 56 + cells::u32_at(part, 32) as usize;
+    let eds = bytes + cells::u32_at(part, 36) as usize;
+    let room = cells::u32_at(part, 40) as usize;
+    let end = eds + cells::u32_at(part, 44) as usize;
+    let start: usize = 0;
+    if part.len() < end {
+        return false;
+    }
+    if lent.len() < room {
+        return false;
+    }
+    replay_call(
+        part,
+        &part[56..bytes],
+        &part[bytes..eds],
+        &part[eds..end],
+        state,
+        uploads,
+        &mut lent[start..room],
+    )
+}
+
+// The length of the record that has these numbers, or 0 where no record has them.
+fn record_length(part: &[u8]) -> usize
+    requires { ⌜ 56 ≤ length (now part) ⌝ }
+    ensures { λ r. ⌜ r ≤ 12884901945 ⌝ }
+{
+    let room = cells::u32_at(part, 40);
+    let written = cells::u32_at(part, 44);
+    if part[0] == 0 {
+        return 0;
+    }
+    if 18 < part[0] {
+        return 0;
+    }
+    if 17440 < room {
+        return 0;
+    }
+    if room < written {
+        return 0;
+    }
+    56 + cells::u32_at(part, 32) as usize + cells::u32_at(part, 36) as usize + written as usize
+}
+
+fn replay_next(
+    fd: i32,
+    part: &mut [u8],
+    state: &mut [u8],
+    uploads: &mut [u8],
+    lent: &mut [u8],
+) -> Step
+    requires { ⌜ 56 ≤ length (now part) ⌝ }
+{
+    let n = read_numbers(fd, part);
+    if n == 0 {
+        return Step::End;
+    }
+    if n < 56 {
+        return broken(b"the numbers of a call are cut");
+    }
+    let end = record_length(part);
+    if end < 56 {
+        return broken(b"no call has such numbers");
+    }
+    if part.len() < end {
+        return broken(b"a call has more bytes than any may have");
+    }
+    if !read_bytes(fd, part, end) {
+        return broken(b"the bytes of a call are cut");
+    }
+    if replay_record(part, state, uploads, lent) {
+        Step::Same(end)
+    } else {
+        Step::Stop
+    }
+}
+
+// The same on arrays, whose lengths are known.
+fn turn(
+    fd: i32,
+    part: &mut [u8; 65536],
+    state: &mut [u8; 109056],
+    uploads: &mut [u8; 32],
+    lent: &mut [u8; 17440],
+) -> Step {
+    replay_next(fd, part, state, uploads, lent)
+}
+
+fn count(counts: &mut [u32; 19], call: u8) {
+    let k = (call % 19) as usize;
+    counts[k] = std::num::wrapping_add_u32(counts[k], 1);
+}
+
+fn tell_count(call: u8, n: u32) {
+    text::words(b"  ");
+    text::name(call);
+    text::number(b" ", n as usize);
+    text::words(b"\n");
+}
+
+fn tell_counts(counts: &[u32; 19]) {
+    let mut k: u8 = 1;
+    while k < 19 {
+        tell_count(k, counts[k as usize]);
+        k += 1;
+    }
+}
+
+fn tell_place(n: usize, at: usize) {
+    text::number(b"; call ", n);
+    text::number(b" of the file, at byte ", at);
+    text::words(b"\n");
+}
+
+fn tell_end(n: usize, counts: &[u32; 19]) {
+    tell_counts(counts);
+    text::number(b"", n);
+    text::words(b" calls replayed, all as recorded\n");
+}
+
+fn fresh_state() -> [u8; 109056]
+    ensures { λ r. ⌜ 109056 ≡ length r ⌝ }
+{
+    [0; 109056]
+}
+
+fn output() -> [u8; 17440]
+    ensures { λ r. ⌜ 17440 ≡ length r ⌝ }
+{
+    [0; 17440]
+}
+
+// All records of a file, as far as each goes as recorded; at most a million.
+pub fn replay_all(fd: i32) {
+    let mut part = io::large_buffer();
+    let mut state = fresh_state();
+    let mut uploads = [0u8; 32];
+    let mut lent = output();
+    let mut counts = [0u32; 19];
+    let mut at: usize = 0;
+    let mut n: usize = 0;
+    while n < 1000000 {
+        match turn(fd, &mut part, &mut state, &mut uploads, &mut lent) {
+            Step::Same(length) => {
+                count(&mut counts, part[0]);
+                at = std::num::wrapping_add_usize(at, length);
+            }
+            Step::End => {
+                tell_end(n, &counts);
+                return;
+            }
+            Step::Stop => {
+                tell_place(n + 1, at);
+                return;
+            }
+        }
+        n += 1;
+    }
+}
