@@ -68,17 +68,37 @@ fn say_sequences() {
     calls::say_packet(&mut state);
 }
 
+// One call at the first time that is none, and at the last time.
+fn at_both_ends(above: &[u8], last: &[u8], kind: u8, room: usize, state: &mut [u8]) {
+    calls::say(above, kind, 1, LAST + 1, room, state);
+    calls::say(last, kind, 1, LAST, room, state);
+}
+
 fn say_times() {
     let mut state = calls::memory();
     calls::begin(&mut state, 7);
-    calls::say(b"open at 2^63", OPEN, 1, LAST + 1, 26, &mut state);
-    calls::say(b"open at 2^63 - 1", OPEN, 1, LAST, 26, &mut state);
-    calls::say(b"receive at 2^63", RECEIVE, 1, LAST + 1, 0, &mut state);
-    calls::say(b"receive at 2^63 - 1", RECEIVE, 1, LAST, 0, &mut state);
-    calls::say(b"produce at 2^63", PRODUCE, 0, LAST + 1, 100, &mut state);
-    calls::say(b"produce at 2^63 - 1", PRODUCE, 0, LAST, 100, &mut state);
-    calls::say(b"expire at 2^63", EXPIRE, 0, LAST + 1, 0, &mut state);
-    calls::say(b"expire at 2^63 - 1", EXPIRE, 0, LAST, 0, &mut state);
+    at_both_ends(b"open at 2^63", b"open at 2^63 - 1", OPEN, 26, &mut state);
+    at_both_ends(
+        b"receive at 2^63",
+        b"receive at 2^63 - 1",
+        RECEIVE,
+        0,
+        &mut state,
+    );
+    at_both_ends(
+        b"produce at 2^63",
+        b"produce at 2^63 - 1",
+        PRODUCE,
+        100,
+        &mut state,
+    );
+    at_both_ends(
+        b"expire at 2^63",
+        b"expire at 2^63 - 1",
+        EXPIRE,
+        0,
+        &mut state,
+    );
 }
 
 fn main() {

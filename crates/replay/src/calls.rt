@@ -133,11 +133,21 @@ pub fn call(
 ) -> u64
     requires { ⌜ 56 ≤ length (now head) ⌝ }
 {
-    match head[0] {
-        1 => set_up(head, bytes, eds, state, uploads),
-        2..=4 | 12..=14 => application(head, bytes, state, out),
-        5..=7 => connection(head, bytes, state, out),
-        8..=11 => traffic_call(head, bytes, state, out),
-        _ => in_session(head, bytes, state, uploads, out),
+    let kind = head[0];
+    if kind == 1 {
+        return set_up(head, bytes, eds, state, uploads);
     }
+    if kind < 5 {
+        return application(head, bytes, state, out);
+    }
+    if kind < 8 {
+        return connection(head, bytes, state, out);
+    }
+    if kind < 12 {
+        return traffic_call(head, bytes, state, out);
+    }
+    if kind < 15 {
+        return application(head, bytes, state, out);
+    }
+    in_session(head, bytes, state, uploads, out)
 }

@@ -6,7 +6,7 @@ use crate::calls;
 use crate::text;
 
 enum Step {
-    Same(usize),
+    Call(usize),
     End,
     Stop,
 }
@@ -143,13 +143,8 @@ fn record_length(part: &[u8]) -> usize
     56 + cells::u32_at(part, 32) as usize + cells::u32_at(part, 36) as usize + written as usize
 }
 
-fn replay_next(
-    fd: i32,
-    part: &mut [u8],
-    state: &mut [u8],
-    uploads: &mut [u8],
-    lent: &mut [u8],
-) -> Step
+// The next record of the file, with its length; or why there is none.
+fn read_record(fd: i32, part: &mut [u8]) -> Step
     requires { ⌜ 56 ≤ length (now part) ⌝ }
 {
     let n = read_numbers(fd, part);
@@ -169,22 +164,43 @@ fn replay_next(
     if !read_bytes(fd, part, end) {
         return broken(b"the bytes of a call are cut");
     }
-    if replay_record(part, state, uploads, lent) {
-        Step::Same(end)
-    } else {
-        Step::Stop
-    }
+    Step::Call(end)
 }
 
-// The same on arrays, whose lengths are known.
+fn read_next(fd: i32, part: &mut [u8; 65536]) -> Step {
+    read_record(fd, part)
+}
+
+// The same as replay_record on arrays, whose lengths are known.
 fn turn(
+    part: &[u8; 65536],
+    state: &mut [u8; 109056],
+    uploads: &mut [u8; 32],
+    lent: &mut [u8; 17440],
+) -> bool {
+    replay_record(part, state, uploads, lent)
+}
+
+// Replays the record, if there is one.
+fn next(
     fd: i32,
     part: &mut [u8; 65536],
     state: &mut [u8; 109056],
     uploads: &mut [u8; 32],
     lent: &mut [u8; 17440],
 ) -> Step {
-    replay_next(fd, part, state, uploads, lent)
+    let step = read_next(fd, part);
+    match step {
+        Step::Call(length) => {
+            if turn(part, state, uploads, lent) {
+                Step::Call(length)
+            } else {
+                Step::Stop
+            }
+        }
+        Step::End => Step::End,
+        Step::Stop => Step::Stop,
+    }
 }
 
 fn count(counts: &mut [u32; 19], call: u8) {
@@ -241,8 +257,8 @@ pub fn replay_all(fd: i32) {
     let mut at: usize = 0;
     let mut n: usize = 0;
     while n < 1000000 {
-        match turn(fd, &mut part, &mut state, &mut uploads, &mut lent) {
-            Step::Same(length) => {
+        match next(fd, &mut part, &mut state, &mut uploads, &mut lent) {
+            Step::Call(length) => {
                 count(&mut counts, part[0]);
                 at = std::num::wrapping_add_usize(at, length);
             }

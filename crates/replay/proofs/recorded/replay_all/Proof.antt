@@ -21,8 +21,8 @@ output-requires c κs = search needs
 loop-holds : tie.Need-loop-holds Inv-loop μ-loop
 loop-holds c = search needs
 
-turn-requires : tie.Need-turn-requires Inv-loop μ-loop
-turn-requires c κs = search needs
+next-requires : tie.Need-next-requires Inv-loop μ-loop
+next-requires c κs = search needs
 
 enum-known-length : tie.Need-enum-known-length Inv-loop μ-loop
 enum-known-length c = search needs
@@ -79,7 +79,7 @@ replay-all-spec =
     fresh-state-requires
     output-requires
     loop-holds
-    turn-requires
+    next-requires
     enum-known-length
     array-read-count
     count-requires
