@@ -76,7 +76,7 @@ fn upload(wanted: u8) -> Vec<Call> {
 fn open(time: u64, serial: u16) -> Call {
     let path = bytes::path(&[Seg::Class(4, 0), Seg::Point(238, 0), Seg::Point(100, 0)]);
     let open = Open {
-        large: false,
+        large: true, // a size of 514 has more than nine bits
         o_t_id: 0,
         t_o_id: 0x7000 + u32::from(serial),
         serial,
