@@ -22,8 +22,18 @@ fn replay_named(k: usize) {
     replay_file(&path[..p]);
 }
 
+// What to give, where no file is named.
+fn advise(n: usize) {
+    if n < 2 {
+        text::words(
+            b"usage: replay FILE [FILE ..]\n  FILE  recorded calls, as crates/replay/SAMPLE.md says\n",
+        );
+    }
+}
+
 fn main() {
     let n = os::arg_count();
+    advise(n);
     let mut k: usize = 1;
     while k < n {
         replay_named(k);

@@ -230,6 +230,10 @@ fn tell_place(n: usize, at: usize) {
 }
 
 fn tell_end(n: usize, counts: &[u32; 19]) {
+    if n == 0 {
+        text::words(b"NO CALL: the file is empty, or cannot be read\n");
+        return;
+    }
     tell_counts(counts);
     text::number(b"", n);
     text::words(b" calls replayed, all as recorded\n");

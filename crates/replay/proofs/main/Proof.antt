@@ -12,6 +12,9 @@ abbrev μ-loop : tie.MeasureT-loop
 arg-count-requires : tie.Need-arg-count-requires Inv-loop μ-loop
 arg-count-requires c κs = search needs
 
+advise-requires : tie.Need-advise-requires Inv-loop μ-loop
+advise-requires c κs = search needs
+
 loop-holds : tie.Need-loop-holds Inv-loop μ-loop
 loop-holds c = search needs
 
@@ -37,6 +40,7 @@ main-spec =
     Inv-loop
     μ-loop
     arg-count-requires
+    advise-requires
     loop-holds
     replay-named-requires
     add-k
