@@ -1,4 +1,4 @@
-//! Setups within the sizes of rules 1, and some beyond.
+//! Setups within the sizes (docs/RULES.md, chapter 1), and some beyond.
 
 use super::Generator;
 use crate::bytes::{Setup, Shape};
