@@ -13,3 +13,6 @@ pub mod Small
 pub mod ReceiveExamples
 pub mod ProduceExamples
 pub mod TimeExamples
+pub mod HostExamples
+pub mod SetupExamples
+pub mod AnswerExamples
