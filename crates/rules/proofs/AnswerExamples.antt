@@ -69,6 +69,9 @@ firstOfTwo =
     (closeCall [] 0 start .0 is Refused NotParsed) ∷
     (refusalAnswer 0x54 [] 0 is Refused NotParsed) ∷
     (refusalAnswer 0x54 owner 9 is Refused NoRoom) ∷
+    -- 12.18: what a refused open is answered with: its triad and two zero bytes
+    (refusalAnswer 0x54 owner 10 is Wrote (1 ∷ 0 ∷ 1 ∷ 0 ∷ 1 ∷ 0 ∷ 0 ∷ 0 ∷ 0 ∷ 0 ∷ [])) ∷
+    (refusalAnswer 0x4E owner 10 is Refused NotParsed) ∷
     -- 5 before 8
     (openCall 1000 0x54 wrong (from 8) 0 start is (Failed (Transport 0x81), start)) ∷
     -- 6 before 7, 6 before 8
@@ -83,4 +86,4 @@ firstOfTwo =
 
 pub first-of-two : Hold firstOfTwo
 unfolding openCall openAnswer openEffect verdictOf verdict must transportCheck openOf openWith fieldsOf widthOf triadAt wayAt placeAt paramsAt refusalAnswer triadReply encFields closeCall closeAnswer closeEffect closeOf expireCall expireAnswer receiveCall receiveAnswer produceCall produceAnswer setInputAnswer outputAnswer assemblyAnswer nextEventAnswer placeOf bytesLe le leOf
-first-of-two = (refl, (refl, (refl, (refl, (refl, (refl, (refl, (refl, (refl, (refl, (refl, (refl, (refl, (refl, (refl, (refl, (refl, tt)))))))))))))))))
+first-of-two = (refl, (refl, (refl, (refl, (refl, (refl, (refl, (refl, (refl, (refl, (refl, (refl, (refl, (refl, (refl, (refl, (refl, (refl, (refl, tt)))))))))))))))))))

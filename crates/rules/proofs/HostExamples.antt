@@ -1,6 +1,6 @@
 -- The host's calls, events and records, computed: chapter 12 of the rules, each line with its rule.
 use mathlib.Core.Path.{refl}
-use mathlib.Core.List.{List, [], _∷_, _++_}
+use mathlib.Core.List.{List, [], _∷_, _++_, map}
 use mathlib.Core.Bool.{Bool, true, false}
 use Prim.Native.Nat.{ℕ}
 use lib.ListN.{length, getD, replicate}
@@ -63,11 +63,13 @@ eventList =
     (length (pushed (OutputChanged 150) (waitingFor 1023) .waiting) is 1024) ∷
     (getD (pushed (OutputChanged 150) (waitingFor 1023) .waiting) 0 [] is []) ∷
     (getD (getD (pushed (OutputChanged 150) (waitingFor 1023) .waiting) 1023 []) 0 0 is 5) ∷
+    -- 12.17: the events of one call stand in their order
+    (map (λ e. getD e 4 0) (pushedAll (OutputChanged 8 ∷ OutputChanged 9 ∷ []) (waitingFor 0) .waiting) is 0 ∷ 8 ∷ 9 ∷ []) ∷
     []
 
 pub event-list : Hold eventList
-unfolding nextEventCall nextEventAnswer nextEventEffect oldestGone appended pushed eventRecord bytesLe
-event-list = (refl, (refl, (refl, (refl, (refl, (refl, (refl, (refl, tt))))))))
+unfolding nextEventCall nextEventAnswer nextEventEffect oldestGone appended pushed pushedAll eventRecord bytesLe
+event-list = (refl, (refl, (refl, (refl, (refl, (refl, (refl, (refl, (refl, tt)))))))))
 
 -- what is told of a connection, every byte another
 abbrev pub info : Kind → Bool → Info
@@ -119,8 +121,8 @@ lists =
     -- 12.14: connections gives the record of each, with 0 for what it tells, in table order
     (connectionsAnswer 64 two is
     Wrote (
-      (0 ∷ 1 ∷ 1 ∷ 0 ∷ bytesLe 4 8 ++ bytesLe 4 10000 ++ bytesLe 4 2000 ++ bytesLe 4 5 ++ bytesLe 4 6 ++ bytesLe 2 101 ++ bytesLe 2 1 ++ bytesLe 2 150 ++ bytesLe 2 2) ++
-      (0 ∷ 3 ∷ 1 ∷ 0 ∷ bytesLe 4 8 ++ bytesLe 4 10000 ++ bytesLe 4 2000 ++ bytesLe 4 7 ++ bytesLe 4 6 ++ bytesLe 2 101 ++ bytesLe 2 1 ++ bytesLe 2 0 ++ bytesLe 2 0))) ∷
+    (0 ∷ 1 ∷ 1 ∷ 0 ∷ bytesLe 4 8 ++ bytesLe 4 10000 ++ bytesLe 4 2000 ++ bytesLe 4 5 ++ bytesLe 4 6 ++ bytesLe 2 101 ++ bytesLe 2 1 ++ bytesLe 2 150 ++ bytesLe 2 2) ++
+    (0 ∷ 3 ∷ 1 ∷ 0 ∷ bytesLe 4 8 ++ bytesLe 4 10000 ++ bytesLe 4 2000 ++ bytesLe 4 7 ++ bytesLe 4 6 ++ bytesLe 2 101 ++ bytesLe 2 1 ++ bytesLe 2 0 ++ bytesLe 2 0))) ∷
     (connectionsAnswer 63 two is Refused NoRoom) ∷
     (connectionsAnswer 0 (line []) is Wrote []) ∷
     -- 12.15: stats gives produced, late and the greatest lateness, 8 bytes each, little-endian

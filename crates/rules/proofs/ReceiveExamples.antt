@@ -1,16 +1,19 @@
 -- Frames in, computed: chapter 9 of the rules, each line with its rule.
-use mathlib.Core.Path.{refl}
+use mathlib.Core.Path.{_≡_, refl}
 use mathlib.Core.List.{List, [], _∷_, _++_}
 use mathlib.Core.Bool.{true, false}
-use Prim.Native.Nat.{ℕ, _-_, _^_}
+use Prim.Native.Nat.{ℕ, _<_}
+use lib.ListN.{length}
+use borrow.Author.Tests.{lt-leb}
 use Rattle.cells.specs.Numbers.{le, leOf, bytesLe}
-use Rattle.wire_items.specs.Items.{startOf, stepAt, itemsFrom, itemsOf}
-use Rattle.wire_items.specs.Frames.{ioOf, ioFrame}
+use Rattle.wire_items.specs.Items.{Items, wellFormed, broken, startOf, stepAt, itemsFrom, itemsOf}
+use Rattle.wire_items.specs.Frames.{ioOfItems, ioOf, ioFrame}
 use Rattle.wire_opens.specs.Examples.{Example, _is_, Hold}
+use Rattle.rules.specs.Lists.{maybe}
 use Rattle.rules.specs.State.{Owner, Never, At, State, withFault}
 use Rattle.rules.specs.Answers.{Done}
 use Rattle.rules.specs.Events.{eventRecord, oldestGone, appended, pushed, pushedAll}
-use Rattle.rules.specs.Receiving.{newer, recorded, hear, taken, changes, deliver, received, receiveAnswer, receiveEffect, receiveCall}
+use Rattle.rules.specs.Receiving.{frameOf, newer, recorded, hear, taken, changes, deliver, received, receiveAnswer, receiveEffect, receiveCall}
 use Rattle.rules.specs.Host.{outputAnswer, outputEffect, outputCall}
 use Rattle.rules.specs.Checks.{placeOf}
 use Rattle.rules.proofs.Small.{party, heard, unheard, sending, conn, holding, line, two, output, heards, untils, told}
@@ -145,3 +148,12 @@ ofNoUse =
 pub of-no-use : Hold ofNoUse
 unfolding receiveCall receiveAnswer receiveEffect ioOf ioFrame startOf stepAt itemsFrom itemsOf received hear newer recorded taken changes deliver pushedAll pushed appended oldestGone eventRecord bytesLe le leOf
 of-no-use = (refl, (refl, (refl, (refl, tt))))
+
+-- nor does a frame over size, whatever it holds
+pub over-size-ignored : (t from : ℕ) (bytes : List ℕ) (st : State) → 65536 < length bytes → receiveEffect t from bytes st ≡ st
+unfolding receiveEffect ioOf
+over-size-ignored t from bytes st h = by (itemsOf bytes)
+  where
+    by : (l : Items) → maybe st (λ f. received t from f st) (frameOf bytes (ioOfItems bytes l)) ≡ st
+    by (broken o) = refl
+    by (wellFormed l) = rw (lt-leb _ _ h)

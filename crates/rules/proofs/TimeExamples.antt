@@ -1,15 +1,16 @@
 -- Time, computed: chapter 11 of the rules, each line with its rule.
-use mathlib.Core.Path.{refl}
+use mathlib.Core.Path.{_≡_, refl}
 use mathlib.Core.List.{List, [], _∷_, _++_, map}
 use mathlib.Core.Bool.{true, false}
 use Prim.Native.Nat.{ℕ, _+_, _-_, _^_}
 use Rattle.cells.specs.Numbers.{le, leOf, bytesLe}
 use Rattle.wire_opens.specs.Examples.{Example, _is_, Hold}
-use Rattle.wire_opens.specs.Timeout.{timeoutOf}
-use Rattle.rules.specs.State.{Owner, InputOnly, ListenOnly, Never, At, Conn, State, withFault}
+use Rattle.wire_opens.specs.declared.ForwardOpen.{ForwardOpen}
+use Rattle.rules.specs.State.{InputOnly, ListenOnly, Never, At, Conn, Origin, Plan, State, withFault}
 use Rattle.rules.specs.Answers.{Wrote, Gone, Refused, BadTime, NoRoom, NothingThere}
 use Rattle.rules.specs.Events.{infoOf, infoRecord, eventRecord, oldestGone, appended, pushed, pushedAll}
-use Rattle.rules.specs.Removal.{removed, expired, closed, expiredFirst, expireEffect, expireAnswer, expireCall, deadlineAnswer}
+use Rattle.rules.specs.Opening.{opened}
+use Rattle.rules.specs.Removal.{removed, closed, expiredFirst, expireEffect, expireAnswer, expireCall, deadlineAnswer}
 use Rattle.rules.proofs.Small.{party, alone, heard, unheard, sending, conn, line, untils, told}
 
 -- a producing point-to-point connection: O→T id, until when it lives, when it is due
@@ -27,7 +28,7 @@ expiry =
     (expireCall 20001 silent .0 is Gone 1) ∷
     (untils (expireCall 20001 silent .1) is 30000 ∷ 40000 ∷ []) ∷
     -- 11.3: a clock that stands behind expires nothing
-    (expireCall 0 silent is (Gone 0, silent)) ∷
+    (expireCall 0 (line (living 5 180000 99000 ∷ [])) .0 is Gone 0) ∷
     -- 11.4: all that expired, the first in the table first, told as timed out
     (expireCall 30001 silent .0 is Gone 2) ∷
     (untils (expireCall 30001 silent .1) is 40000 ∷ []) ∷
@@ -42,6 +43,11 @@ expiry =
 pub expiry-in-turn : Hold expiry
 unfolding expireCall expireAnswer expireEffect expiredFirst removed closed pushed pushedAll appended oldestGone eventRecord infoOf infoRecord bytesLe le leOf
 expiry-in-turn = (refl, (refl, (refl, (refl, (refl, (refl, (refl, (refl, (refl, (refl, (refl, tt)))))))))))
+
+-- 11.6: an accepted open clears the fault mark
+pub open-clears : (t : ℕ) (o : ForwardOpen) (g : Origin) (bytes : List ℕ) (p : Plan) (st : State) → opened t o g bytes p st .fault ≡ false
+unfolding opened
+open-clears t o g bytes p st = refl
 
 -- one that does not produce
 abbrev pub joined : ℕ → Conn
