@@ -38,9 +38,9 @@ dataCalls =
     (assemblyAnswer 1 101 1 running is Wrote (0 ∷ [])) ∷
     (assemblyAnswer 3 5 2 running is Wrote (0 ∷ 0 ∷ [])) ∷
     (assemblyAnswer 3 150 2 running is Refused NoAssembly) ∷
-    (assemblyAnswer 0 150 2 running is Refused NoAssembly) ∷
+    (assemblyAnswer 0 101 1 running is Refused NoAssembly) ∷
     (assemblyAnswer 4 5 2 running is Refused NoAssembly) ∷
-    (next (Call.ReadAssembly 2 150 2) running is running) ∷
+    (next (Call.ReadAssembly 2 150 3) running is running) ∷
     []
 
 pub data-calls : Hold dataCalls
