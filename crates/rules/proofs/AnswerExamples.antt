@@ -69,7 +69,7 @@ firstOfTwo =
     (closeCall [] 0 start .0 is Refused NotParsed) ∷
     (refusalAnswer 0x54 [] 0 is Refused NotParsed) ∷
     (refusalAnswer 0x54 owner 9 is Refused NoRoom) ∷
-    -- 12.18: what a refused open is answered with: its triad and two zero bytes
+    -- 12.15: what a refused open is answered with: its triad and two zero bytes
     (refusalAnswer 0x54 owner 10 is Wrote (1 ∷ 0 ∷ 1 ∷ 0 ∷ 1 ∷ 0 ∷ 0 ∷ 0 ∷ 0 ∷ 0 ∷ [])) ∷
     (refusalAnswer 0x4E owner 10 is Refused NotParsed) ∷
     -- 5 before 8

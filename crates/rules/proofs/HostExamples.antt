@@ -63,7 +63,7 @@ eventList =
     (length (pushed (OutputChanged 150) (waitingFor 1023) .waiting) is 1024) ∷
     (getD (pushed (OutputChanged 150) (waitingFor 1023) .waiting) 0 [] is []) ∷
     (getD (getD (pushed (OutputChanged 150) (waitingFor 1023) .waiting) 1023 []) 0 0 is 5) ∷
-    -- 12.17: the events of one call stand in their order
+    -- 12.14: the events of one call stand in their order
     (map (λ e. getD e 4 0) (pushedAll (OutputChanged 8 ∷ OutputChanged 9 ∷ []) (waitingFor 0) .waiting) is 0 ∷ 8 ∷ 9 ∷ []) ∷
     []
 
@@ -96,14 +96,14 @@ infoBytes =
 
 abbrev pub records : List Example
 records =
-    -- 12.8: the record of a connection, byte by byte; 12.9: kinds 1, 2, 3; 12.10: what it tells, 1 opened, 2 closed, 3 timed out
+    -- 12.8: the record of a connection, byte by byte, kinds 1, 2, 3; 12.9: what it tells, 1 opened, 2 closed, 3 timed out
     (eventRecord (Opened (info Owner true)) is 1 ∷ 1 ∷ 1 ∷ 0 ∷ infoBytes) ∷
     (eventRecord (Closed (info InputOnly false)) is 2 ∷ 2 ∷ 0 ∷ 0 ∷ infoBytes) ∷
     (eventRecord (TimedOut (info ListenOnly true)) is 3 ∷ 3 ∷ 1 ∷ 0 ∷ infoBytes) ∷
-    -- 12.11: a configuration that was stored: 4, instance, length; 12.12: an output that changed: 5, instance
+    -- 12.10: a configuration that was stored: 4, instance, length; an output that changed: 5, instance
     (eventRecord (Configured 0x0201 0x0403) is 4 ∷ 0 ∷ 0 ∷ 0 ∷ 1 ∷ 2 ∷ 3 ∷ 4 ∷ replicate 24 0) ∷
     (eventRecord (OutputChanged 0x0201) is 5 ∷ 0 ∷ 0 ∷ 0 ∷ 1 ∷ 2 ∷ replicate 26 0) ∷
-    -- 12.13: assemblies by instance and size; a heartbeat's connection has no output
+    -- 12.11: assemblies by instance and size; a heartbeat's connection has no output
     (infoOf setup (party Owner 5 8) .output is 150) ∷
     (infoOf setup (party Owner 5 8) .outputsize is 2) ∷
     (infoOf setup (party Owner 5 8) .input is 101) ∷
@@ -118,18 +118,18 @@ the-records = (refl, (refl, (refl, (refl, (refl, (refl, (refl, (refl, (refl, (re
 
 abbrev pub lists : List Example
 lists =
-    -- 12.14: connections gives the record of each, with 0 for what it tells, in table order
+    -- 12.12: connections gives the record of each, with 0 for what it tells, in table order
     (connectionsAnswer 64 two is
     Wrote (
     (0 ∷ 1 ∷ 1 ∷ 0 ∷ bytesLe 4 8 ++ bytesLe 4 10000 ++ bytesLe 4 2000 ++ bytesLe 4 5 ++ bytesLe 4 6 ++ bytesLe 2 101 ++ bytesLe 2 1 ++ bytesLe 2 150 ++ bytesLe 2 2) ++
     (0 ∷ 3 ∷ 1 ∷ 0 ∷ bytesLe 4 8 ++ bytesLe 4 10000 ++ bytesLe 4 2000 ++ bytesLe 4 7 ++ bytesLe 4 6 ++ bytesLe 2 101 ++ bytesLe 2 1 ++ bytesLe 2 0 ++ bytesLe 2 0))) ∷
     (connectionsAnswer 63 two is Refused NoRoom) ∷
     (connectionsAnswer 0 (line []) is Wrote []) ∷
-    -- 12.15: stats gives produced, late and the greatest lateness, 8 bytes each, little-endian
+    -- 12.12: stats gives produced, late and the greatest lateness, 8 bytes each, little-endian
     (statsAnswer 24 (withCounters (counting 0x0201 0x0403 0x0605) two) is
     Wrote (1 ∷ 2 ∷ 0 ∷ 0 ∷ 0 ∷ 0 ∷ 0 ∷ 0 ∷ 3 ∷ 4 ∷ 0 ∷ 0 ∷ 0 ∷ 0 ∷ 0 ∷ 0 ∷ 5 ∷ 6 ∷ 0 ∷ 0 ∷ 0 ∷ 0 ∷ 0 ∷ 0 ∷ [])) ∷
     (statsAnswer 23 two is Refused NoRoom) ∷
-    -- 12.16: what only tells changes nothing
+    -- 12.13: what only tells changes nothing
     (next (Call.Connections 64) two is two) ∷
     (next (Call.Stats 24) two is two) ∷
     (next (Call.Deadline 8) two is two) ∷

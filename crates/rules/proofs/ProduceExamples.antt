@@ -1,5 +1,5 @@
 -- Packets out, computed: chapter 10 of the rules, each line with its rule.
-use mathlib.Core.Path.{_≡_, refl}
+use mathlib.Core.Path.{refl}
 use mathlib.Core.List.{List, [], _∷_, _++_, map}
 use mathlib.Core.Bool.{true, false}
 use Prim.Native.Nat.{ℕ, _-_, _^_}
@@ -41,16 +41,16 @@ sentAt t room st = produceCall t room (setInputCall 101 (0x2A ∷ []) st .1) .0
 
 abbrev pub packetsOut : List Example
 packetsOut =
-    -- 10.1, 10.4, 10.8, 10.9: all that is due, in table order, one packet behind the other; who joined does not send
+    -- 10.1, 10.3, 10.5, 10.6: all that is due, in table order, one packet behind the other; who joined does not send
     (sentAt 5000 68 (three 5000 5000) is Wrote (group ++ single)) ∷
     -- 10.2: due at its due time, not one before
     (sentAt 5000 68 (three 5000 5001) is Wrote group) ∷
     (sentAt 5000 68 (three 5001 5000) is Wrote single) ∷
-    -- 10.3: once, however late
+    -- 10.1: once, however late
     (sentAt 50000 68 (three 0 50001) is Wrote group) ∷
-    -- 10.10: nothing due is a yes of no bytes
+    -- 10.7: nothing due is a yes of no bytes
     (sentAt 4999 0 (three 5000 5000) is Wrote []) ∷
-    -- 10.11: too little room for all, and nothing steps
+    -- 10.8: too little room for all, and nothing steps
     (produceCall 5000 67 (three 5000 5000) is (Refused NoRoom, three 5000 5000)) ∷
     []
 
@@ -68,14 +68,14 @@ one sequence cip due = line (conn (party InputOnly 5 8) (unheard 80000) (sending
 
 abbrev pub steps : List Example
 steps =
-    -- 10.4: both sequences step by one, the sequence over 32 bits, 10.5: the CIP sequence over 16
-    (sents (stepped 5000 (one 0xFFFE 0xFFFE 5000)) is sending 0xFFFF 0xFFFF (At 7000) ∷ []) ∷
+    -- 10.3: both sequences step by one, the sequence over 32 bits, the CIP sequence over 16
     (sents (stepped 5000 (one 0xFFFF 0xFFFF 5000)) is sending 0x10000 0 (At 7000) ∷ []) ∷
+    (sents (stepped 5000 (one 0x7FFFFFFF 0x7FFF 5000)) is sending 0x80000000 0x8000 (At 7000) ∷ []) ∷
     (sents (stepped 5000 (one 0xFFFFFFFF 0 5000)) is sending 0 1 (At 7000) ∷ []) ∷
-    -- 10.6: the next due time is the old one and the T→O RPI
+    -- 10.4: the next due time is the old one and the T→O RPI
     (sents (stepped 5999 (one 0 0 5000)) is sending 1 1 (At 7000) ∷ []) ∷
     (sents (stepped 6999 (one 0 0 5000)) is sending 1 1 (At 7000) ∷ []) ∷
-    -- 10.7: where that is not after now, now and the RPI
+    -- 10.4: where that is not after now, now and the RPI
     (sents (stepped 7000 (one 0 0 5000)) is sending 1 1 (At 9000) ∷ []) ∷
     (sents (stepped 50000 (one 0 0 5000)) is sending 1 1 (At 52000) ∷ []) ∷
     -- what is not due does not step
@@ -105,14 +105,14 @@ limited late =
 
 abbrev pub lateness : List Example
 lateness =
-    -- 10.12: late is the late limit or more; 10.13: 0 means 1,000
+    -- 10.9: late is the late limit or more; 10.10: 0 means 1,000
     (counters (limited 0) (999 ∷ 1000 ∷ 1001 ∷ []) (counting 0 0 0) is counting 3 2 1001) ∷
     (counters (limited 1) (0 ∷ 1 ∷ 2 ∷ []) (counting 0 0 0) is counting 3 2 2) ∷
     (counters (limited 5000) (1000 ∷ 4999 ∷ 5000 ∷ []) (counting 10 10 0) is counting 13 11 5000) ∷
-    -- 10.14: the greatest lateness of all packets, late or not, since the setup
+    -- 10.11: the greatest lateness of all packets, late or not, since the setup
     (counters (limited 0) (7 ∷ 3 ∷ []) (counting 0 0 5) is counting 2 0 7) ∷
     (counters (limited 0) (7 ∷ 3 ∷ []) (counting 0 0 8) is counting 2 0 8) ∷
-    -- 10.15: `produced` and `late` stop at their largest value
+    -- 10.12: `produced` and `late` stop at their largest value
     (counters (limited 0) (1000 ∷ 1000 ∷ []) (counting (2 ^ 64 - 2) (2 ^ 64 - 1) 0) is counting (2 ^ 64 - 1) (2 ^ 64 - 1) 1000) ∷
     -- lateness is now minus the due time
     (stepped 6500 (three 5000 6500) .counters is counting 2 1 1500) ∷
@@ -121,10 +121,3 @@ lateness =
 pub lateness-counted : Hold lateness
 unfolding produceCall produceAnswer produceEffect packets packet frameSent sent counters ioFrame bytesLe bytesBe
 lateness-counted = (refl, (refl, (refl, (refl, (refl, (refl, (refl, tt)))))))
-
--- 10.16: nothing else changes
-pub produce-leaves : (t : ℕ) (st : State) →
-    (produceEffect t st .contents ≡ st .contents) × (produceEffect t st .events ≡ st .events) × (produceEffect t st .fault ≡ st .fault) ×
-    (produceEffect t st .nextId ≡ st .nextId)
-unfolding produceEffect
-produce-leaves t st = (refl, refl, refl, refl)

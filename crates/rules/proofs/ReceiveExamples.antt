@@ -1,6 +1,6 @@
 -- Frames in, computed: chapter 9 of the rules, each line with its rule.
 use mathlib.Core.Path.{_≡_, refl}
-use mathlib.Core.List.{List, [], _∷_, _++_}
+use mathlib.Core.List.{List, [], _∷_, _++_, map}
 use mathlib.Core.Bool.{true, false}
 use Prim.Native.Nat.{ℕ, _<_}
 use lib.ListN.{length}
@@ -16,7 +16,7 @@ use Rattle.rules.specs.Events.{eventRecord, oldestGone, appended, pushed
 use Rattle.rules.specs.Receiving.{frameOf, newer, recorded, hear, taken, changes, deliver, received, receiveAnswer, receiveEffect, receiveCall}
 use Rattle.rules.specs.Host.{outputAnswer, outputEffect, outputCall}
 use Rattle.rules.specs.Checks.{placeOf}
-use Rattle.rules.proofs.Small.{party, heard, unheard, sending, conn, holding, line, two, output, heards, untils, told}
+use Rattle.rules.proofs.Small.{partyAt, party, heard, unheard, sending, conn, holding, line, two, output, heards, untils, told}
 
 -- a frame from address 8: time, O→T id, sequence, payload
 abbrev pub says : ℕ → ℕ → ℕ → List ℕ → State → State
@@ -37,6 +37,10 @@ seen = outputCall 150 3 running .1
 -- two connections of one id and address
 abbrev pub twins : State
 twins = line (conn (party Owner 5 8) (unheard 80000) (sending 0 0 (At 0)) ∷ conn (party Owner 5 8) (unheard 80000) (sending 0 0 Never) ∷ [])
+
+-- an owner whose output is a place past the setup's list
+abbrev pub adrift : State
+adrift = line (conn (partyAt 3 Owner 5 8) (unheard 80000) (sending 0 0 Never) ∷ [])
 
 abbrev pub whoseFrame : List Example
 whoseFrame =
@@ -85,7 +89,7 @@ cipSequence =
     (output (says 3000 5 6 (io 1 0 (1 ∷ 2 ∷ [])) running) is holding (0xAA ∷ 0xBB ∷ []) true true) ∷
     -- 9.9: it counts before header and length are looked at: 7 with a byte too few, then 7 with all
     (output (says 3000 5 2 (io 7 1 (1 ∷ 2 ∷ [])) (says 2000 5 1 (io 7 1 (1 ∷ [])) two)) is holding (0 ∷ 0 ∷ []) false false) ∷
-    -- 9.10: two bytes are one, little-endian; one byte is none
+    -- 9.7: two bytes are one, little-endian; one byte is none
     (heards (says 2000 5 1 (7 ∷ 1 ∷ []) two) is heard 82000 true 1 true 0x0107 ∷ unheard 80000 ∷ []) ∷
     (heards (says 2000 5 1 (7 ∷ []) two) is heard 82000 true 1 false 0 ∷ unheard 80000 ∷ []) ∷
     []
@@ -100,44 +104,48 @@ first header bytes = says 2000 5 1 (io 1 header bytes) two
 
 abbrev pub dataAndRun : List Example
 dataAndRun =
-    -- 9.11: 6 bytes and as many as the output has, no more and no fewer; a listener's are nobody's data
+    -- 9.10: 6 bytes and as many as the output has, no more and no fewer; a listener's are nobody's data
     (output (first 1 (1 ∷ 2 ∷ [])) is holding (1 ∷ 2 ∷ []) true true) ∷
     (output (first 1 (1 ∷ 2 ∷ 3 ∷ [])) is holding (0 ∷ 0 ∷ []) false false) ∷
     (output (first 1 (1 ∷ [])) is holding (0 ∷ 0 ∷ []) false false) ∷
     (output (says 2000 7 1 (io 1 1 (1 ∷ 2 ∷ [])) two) is holding (0 ∷ 0 ∷ []) false false) ∷
-    -- 9.12: run is bit 0 of the header, and no other
+    -- and an output that the setup does not have takes none
+    (says 2000 5 1 (io 1 1 []) adrift .events is adrift .events) ∷
+    -- 9.11: run is bit 0 of the header, and no other
     (output (first 2 (1 ∷ 2 ∷ [])) is holding (1 ∷ 2 ∷ []) false true) ∷
     (output (first 3 (1 ∷ 2 ∷ [])) is holding (1 ∷ 2 ∷ []) true true) ∷
     (output (first 0x01010100 (1 ∷ 2 ∷ [])) is holding (1 ∷ 2 ∷ []) false true) ∷
-    -- 9.13: a frame without it clears run, and its data is taken
+    -- 9.12: a frame without it clears run, and its data is taken
     (output (says 3000 5 6 (io 2 0 (0xAA ∷ 0xBB ∷ [])) running) is holding (0xAA ∷ 0xBB ∷ []) false true) ∷
     (output (says 3000 5 6 (io 2 0 (1 ∷ 2 ∷ [])) running) is holding (1 ∷ 2 ∷ []) false true) ∷
     []
 
 pub data-and-run : Hold dataAndRun
 unfolding received hear newer recorded taken changes deliver pushedAll pushed appended oldestGone eventRecord bytesLe le leOf
-data-and-run = (refl, (refl, (refl, (refl, (refl, (refl, (refl, (refl, (refl, tt)))))))))
+data-and-run = (refl, (refl, (refl, (refl, (refl, (refl, (refl, (refl, (refl, (refl, tt))))))))))
 
 abbrev pub outputTold : List Example
 outputTold =
-    -- 9.14: a change of the data, and of run alone, is told; the same again is not
+    -- 9.13: a change of the data, and of run alone, is told; the same again is not
     (told (says 3000 5 6 (io 2 1 (0xAA ∷ 0xBC ∷ [])) seen) is 5 ∷ 5 ∷ []) ∷
     (told (says 3000 5 6 (io 2 0 (0xAA ∷ 0xBB ∷ [])) seen) is 5 ∷ 5 ∷ []) ∷
     (told (says 3000 5 6 (io 2 1 (0xAA ∷ 0xBB ∷ [])) seen) is 5 ∷ []) ∷
     (output (says 3000 5 6 (io 2 1 (0xAA ∷ 0xBB ∷ [])) seen) is holding (0xAA ∷ 0xBB ∷ []) true false) ∷
-    -- 9.15: once until it is read
+    -- 9.14: once until it is read
     (told (says 3000 5 6 (io 2 1 (0xAA ∷ 0xBC ∷ [])) running) is 5 ∷ []) ∷
-    -- 9.16: the rest stays, the fault mark too
+    -- it tells the instance of the output
+    (map (λ e. le 2 e 4) (running .events .waiting) is 150 ∷ []) ∷
+    -- 9.15: a frame touches nothing else, the fault mark neither
     (says 3000 5 6 (io 2 0 (0xAA ∷ 0xBC ∷ [])) (withFault true running) .fault is true) ∷
     []
 
 pub output-told : Hold outputTold
 unfolding received hear newer recorded taken changes deliver pushedAll pushed appended oldestGone eventRecord bytesLe le leOf outputCall outputAnswer outputEffect placeOf
-output-told = (refl, (refl, (refl, (refl, (refl, (refl, tt))))))
+output-told = (refl, (refl, (refl, (refl, (refl, (refl, (refl, tt)))))))
 
 abbrev pub ofNoUse : List Example
 ofNoUse =
-    -- 9.17: no bytes, a list that breaks, one item: nothing changes, and that is a yes
+    -- 9.15: no bytes, a list that breaks, one item: nothing changes, and that is a yes
     (receiveCall 2000 8 [] two is (Done, two)) ∷
     (receiveCall 2000 8 (2 ∷ 0 ∷ 2 ∷ 0x80 ∷ 8 ∷ 0 ∷ 5 ∷ []) two is (Done, two)) ∷
     (receiveCall 2000 8 (1 ∷ 0 ∷ 0xB1 ∷ 0 ∷ 0 ∷ 0 ∷ []) two is (Done, two)) ∷

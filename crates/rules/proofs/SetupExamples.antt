@@ -47,34 +47,34 @@ fifteen = 1 ∷ 2 ∷ 3 ∷ 4 ∷ 5 ∷ 6 ∷ 7 ∷ 8 ∷ 9 ∷ 10 ∷ 11 ∷ 12
 
 abbrev pub setups : List Example
 setups =
-    -- 1.1: 16 assemblies, not 17; 1.13: none at all is a setup, and no number but these is looked at
+    -- 1.1: 16 assemblies, not 17; 1.8: none at all is a setup, and no number but these is looked at
     (takes (inputs (fifteen ++ (16 ∷ []))) is true) ∷
     (takes (inputs (fifteen ++ (16 ∷ 17 ∷ []))) is false) ∷
     (takes [] is true) ∷
-    -- 1.2: instances 1 to 65,535
+    -- 1.1: instances 1 to 65,535
     (takes (inputs (1 ∷ 65535 ∷ [])) is true) ∷
     (takes (inputs (0 ∷ [])) is false) ∷
     (takes (inputs (65536 ∷ [])) is false) ∷
-    -- 1.3: distinct, whatever their kinds
+    -- 1.2: distinct, whatever their kinds
     (takes (shape Input 7 0 ∷ shape Output 8 0 ∷ shape Config 7 0 ∷ []) is false) ∷
-    -- 1.4: 0 to 512 bytes
+    -- 1.1: 0 to 512 bytes
     (takes (shape Input 1 0 ∷ shape Output 2 512 ∷ []) is true) ∷
     (takes (shape Input 1 0 ∷ shape Output 2 513 ∷ []) is false) ∷
-    -- 1.7: a product name and an EDS name of 32 bytes, not 33
+    -- 1.5: a product name and an EDS name of 32 bytes, not 33
     (setupOk (sized [] (replicate 32 255) (replicate 32 0) none 1) is true) ∷
     (setupOk (sized [] (replicate 33 65) [] none 1) is false) ∷
     (setupOk (sized [] [] (replicate 33 65) none 1) is false) ∷
-    -- 1.8: an EDS may be absent or empty
+    -- 1.6: an EDS may be absent or empty
     (setupOk (sized [] [] [] none 1) is true) ∷
     (setupOk (sized [] [] [] (some []) 1) is true) ∷
-    -- 1.9: a transfer limit of 1 to 255
+    -- 1.5: a transfer limit of 1 to 255
     (setupOk (sized [] [] [] none 0) is false) ∷
     (setupOk (sized [] [] [] none 255) is true) ∷
     (setupOk (sized [] [] [] none 256) is false) ∷
-    -- 1.11: a least RPI above the greatest is a setup, and then no RPI is in the range
+    -- 1.8: a least RPI above the greatest is a setup, and then no RPI is in the range
     (rpiOk (sized [] [] [] none 1) 5000 is false) ∷
     (rpiOk (sized [] [] [] none 1) 5001 is false) ∷
-    -- 1.16: what is beyond is refused with No. 2
+    -- 1.12: what is beyond is refused with No. 2
     (setupAnswer setup is Done) ∷
     (setupAnswer (sized [] [] [] none 0) is Refused BadSetup) ∷
     []
@@ -83,13 +83,13 @@ pub the-setups : Hold setups
 unfolding setupOk setupAnswer
 the-setups = (refl, (refl, (refl, (refl, (refl, (refl, (refl, (refl, (refl, (refl, (refl, (refl, (refl, (refl, (refl, (refl, (refl, (refl, (refl, (refl, (refl, tt)))))))))))))))))))))
 
--- 1.8: an EDS of n bytes is taken exactly where n is at most 65,535
+-- 1.6: an EDS of n bytes is taken exactly where n is at most 65,535
 pub eds-bound : (n : ℕ) → edsOk (some (replicate n 0)) ≡ leb n 65535
 eds-bound n = ap (λ k. leb k 65535) (length-replicate n 0)
 
 abbrev pub freshly : List Example
 freshly =
-    -- 1.14: a fresh adapter holds zeros, is idle, knows nobody, has nothing to tell, no fault and no count
+    -- 1.10: a fresh adapter holds zeros, is idle, knows nobody, has nothing to tell, no fault and no count
     (fresh setup 4 is
     record {
       setup = setup;
@@ -100,7 +100,7 @@ freshly =
       nextId = 5;
       counters = counting 0 0 0;
     }) ∷
-    -- 1.15: ids start at the seed with bit 0 set
+    -- 1.11: ids start at the seed with bit 0 set
     (map firstId (0 ∷ 4 ∷ 5 ∷ 0xFFFFFFFE ∷ 0xFFFFFFFF ∷ []) is 1 ∷ 5 ∷ 5 ∷ 0xFFFFFFFF ∷ 0xFFFFFFFF ∷ []) ∷
     []
 

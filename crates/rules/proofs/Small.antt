@@ -8,9 +8,9 @@ use Rattle.rules.specs.State.{Kind, Owner, InputOnly, ListenOnly, Fixed,
 use Rattle.rules.specs.Setup.{blank}
 use Rattle.rules.proofs.Examples.{setup}
 
--- kind, O→T id, originator's address; O→T RPI 10,000 and multiplier 1, so a timeout of 80,000; T→O id 6, RPI 2,000
-abbrev pub party : Kind → ℕ → ℕ → Fixed
-party kind otid address =
+-- the output's place, kind, O→T id, originator's address; O→T RPI 10,000 and multiplier 1, so a timeout of 80,000; T→O id 6, RPI 2,000
+abbrev pub partyAt : ℕ → Kind → ℕ → ℕ → Fixed
+partyAt output kind otid address =
     record {
       kind = kind;
       triad = record { serial = otid; vendor = 1; originator = 1 };
@@ -21,11 +21,14 @@ party kind otid address =
       multiplier = 1;
       torpi = 2000;
       input = 1;
-      output = 0;
+      output = output;
       dest = record { address = 0xEFC00120; port = 0x08AE };
       multicast = true;
       local = 0x0A010203;
     }
+
+abbrev pub party : Kind → ℕ → ℕ → Fixed
+party = partyAt 0
 
 -- the same, point-to-point
 abbrev pub alone : Kind → ℕ → ℕ → Fixed

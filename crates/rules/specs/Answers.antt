@@ -129,7 +129,7 @@ answerBytes (Failed s) = []
 abbrev pub fitting : ℕ → List ℕ → Answer → Answer
 fitting room bytes a = cond (leb (length bytes) room) a (Refused NoRoom)
 
--- 2.4, 1.17: No. 3, time above 2^63 - 1
+-- 2.4, 1.13: No. 3, time above 2^63 - 1
 abbrev pub timely : ℕ → Bool
 timely t = leb t (2 ^ 63 - 1)
 

@@ -1,4 +1,4 @@
--- Events: their records, and the list that keeps them. Rules 12.6 to 12.13, 12.17.
+-- Events: their records, and the list that keeps them. Rules 12.6 to 12.11, 12.14.
 use mathlib.Core.List.{List, [], _∷_, _++_}
 use mathlib.Core.Bool.{cond}
 use Prim.Native.Nat.{ℕ, _+_, _%_}
@@ -8,7 +8,7 @@ use Rattle.cells.specs.Numbers.{bytesLe}
 use Rattle.cells.specs.Records.{ofBool}
 use Rattle.rules.specs.State.{Kind, Owner, InputOnly, ListenOnly, Fixed, Info, Event, Opened, Closed, TimedOut, Configured, OutputChanged, Setup, shapeAt, Events, isOwner}
 
--- 12.13: what the host is told of a connection
+-- 12.11: what the host is told of a connection
 unfoldable pub infoOf : Setup → Fixed → Info
 infoOf u f =
     record {
@@ -25,7 +25,7 @@ infoOf u f =
       toid = f .toid;
     }
 
--- 12.9: 1 owner, 2 input-only, 3 listen-only
+-- 12.8: 1 owner, 2 input-only, 3 listen-only
 abbrev pub kindNumber : Kind → ℕ
 kindNumber Owner = 1
 kindNumber InputOnly = 2
@@ -38,7 +38,7 @@ infoRecord what i =
     bytesLe 4 (i .originator) ++ bytesLe 4 (i .otrpi) ++ bytesLe 4 (i .torpi) ++ bytesLe 4 (i .otid .0) ++ bytesLe 4 (i .toid .0) ++
     bytesLe 2 (i .input) ++ bytesLe 2 (i .inputsize) ++ bytesLe 2 (i .output) ++ bytesLe 2 (i .outputsize)
 
--- 12.10 to 12.12: the record of an event, 32 bytes: 1 opened, 2 closed, 3 timed out, 4 configuration stored, 5 output changed
+-- 12.9, 12.10: the record of an event, 32 bytes: 1 opened, 2 closed, 3 timed out, 4 configuration stored, 5 output changed
 unfoldable pub eventRecord : Event → List ℕ
 eventRecord (Opened i) = infoRecord 1 i
 eventRecord (Closed i) = infoRecord 2 i
@@ -59,7 +59,7 @@ appended e es = record { gone = es .gone; waiting = es .waiting ++ (e ∷ []) }
 unfoldable pub pushed : Event → Events → Events
 pushed e es = appended (eventRecord e) (cond (ltb (length (es .waiting)) maxEvents) es (oldestGone es))
 
--- 12.17: the events of one call in their order
+-- 12.14: the events of one call in their order
 unfoldable pub pushedAll : List Event → Events → Events
 pushedAll [] es = es
 pushedAll (e ∷ rest) es = pushedAll rest (pushed e es)

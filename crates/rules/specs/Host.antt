@@ -1,4 +1,4 @@
--- The host's side: inputs in, outputs and events out, and what it may read. Rules 12.1 to 12.6, 12.14, 12.15.
+-- The host's side: inputs in, outputs and events out, and what it may read. Rules 12.1 to 12.6, 12.12.
 use mathlib.Core.List.{List, [], _∷_, _++_}
 use mathlib.Core.Option.{Option, none, some}
 use mathlib.Core.Bool.{Bool, false, cond}
@@ -88,14 +88,14 @@ nextEventEffect st = withEvents (oldestGone (st .events)) st
 unfoldable pub nextEventCall : ℕ → State → Answer × State
 nextEventCall room st = settled (nextEventAnswer room st) (nextEventEffect st) st
 
--- CONNECTIONS (12.14): the record of each in table order. No. 8
+-- CONNECTIONS (12.12): the record of each in table order. No. 8
 unfoldable pub connectionBytes : State → List ℕ
 connectionBytes st = joined (λ c. infoRecord 0 (infoOf (st .setup) (c .fixed))) (st .table)
 
 unfoldable pub connectionsAnswer : ℕ → State → Answer
 connectionsAnswer room st = fitting room (connectionBytes st) (Wrote (connectionBytes st))
 
--- STATS (12.15): produced, late and the greatest lateness, 8 bytes each. No. 8
+-- STATS (12.12): produced, late and the greatest lateness, 8 bytes each. No. 8
 abbrev pub statsBytes : Counters → List ℕ
 statsBytes n = bytesLe 8 (n .produced) ++ bytesLe 8 (n .late) ++ bytesLe 8 (n .maxLate)
 

@@ -1,4 +1,4 @@
--- Frames in. Rules 9.1 to 9.17.
+-- Frames in. Rules 9.1 to 9.15.
 use mathlib.Core.List.{List, [], _∷_}
 use mathlib.Core.Option.{Option, none, some}
 use mathlib.Core.Bool.{Bool, true, cond, not, _&&_, _||_, Bool·beq}
@@ -32,7 +32,7 @@ ahead last n = (n + 2 ^ 32 - last) % 2 ^ 32
 unfoldable pub newer : Heard → ℕ → Bool
 newer h n = not (h .any) || leb 1 (ahead (h .sequence) n) && leb (ahead (h .sequence) n) 0x7FFFFFFF
 
--- 9.7, 9.10: the 16-bit CIP sequence, of an owner's frame that has one
+-- 9.7: the 16-bit CIP sequence, of an owner's frame that has one
 abbrev pub cipOf : Frame → ℕ
 cipOf f = le 2 (f .payload) 0
 
@@ -59,11 +59,11 @@ hear t f c = cond (newer (c .heard) (f .sequence)) (withHeard (recorded t f c) c
 abbrev pub repeats : Frame → Heard → Bool
 repeats f h = h .anycip && eqb (h .cip) (cipOf f)
 
--- 9.12: run is bit 0 of the header
+-- 9.11: run is bit 0 of the header
 abbrev pub runBit : Frame → Bool
 runBit f = eqb (getD (f .payload) 2 0 % 2) 1
 
--- 9.11: the data behind CIP sequence and header must be of the output's size
+-- 9.10: the data behind CIP sequence and header must be of the output's size
 abbrev pub rightSize : Setup → Frame → Fixed → Bool
 rightSize u f x = ltb (x .output) (length (u .assemblies)) && eqb (length (f .payload)) (shapeAt u (x .output) .size + 6)
 
@@ -74,18 +74,18 @@ taken u f c = newer (c .heard) (f .sequence) && hasCip f c && not (repeats f (c 
 abbrev pub dataOf : Frame → List ℕ
 dataOf f = drop 6 (f .payload)
 
--- 9.14: a change of data or run
+-- 9.13: a change of data or run
 unfoldable pub changes : Frame → Content → Bool
 changes f a = not (same (a .bytes) (dataOf f) && Bool·beq (a .run) (runBit f))
 
--- 9.13: data and run are those of the frame
+-- 9.12: data and run are those of the frame
 unfoldable pub deliver : Frame → Content → Content
 deliver f a = cond (changes f a) (record { bytes = dataOf f; run = runBit f; notified = true }) a
 
 abbrev pub delivered : Setup → Frame → Conn → List Content → List Content
 delivered u f c contents = cond (taken u f c) (changeAt (c .fixed .output) (deliver f) contents) contents
 
--- 9.14, 9.15: an Output event appears only on a change, once until the output is read
+-- 9.13, 9.14: an Output event appears only on a change, once until the output is read
 abbrev pub announces : Frame → Content → Bool
 announces f a = changes f a && not (a .notified)
 
@@ -93,7 +93,7 @@ abbrev pub outputEvents : Setup → Frame → Conn → List Content → List Eve
 outputEvents u f c contents =
     cond (taken u f c && announces f (getD contents (c .fixed .output) noContent)) (OutputChanged (shapeAt u (c .fixed .output) .instance) ∷ []) []
 
--- 9.16: what a frame from an address does, and leaves
+-- what a frame from an address does
 unfoldable pub received : ℕ → ℕ → Frame → State → State
 received t from f st =
     let to = find (meantFor from f) (st .table) in
@@ -107,7 +107,7 @@ received t from f st =
       counters = st .counters;
     }
 
--- 9.17: receive ignores a frame over size or of no use; that is no refusal
+-- 9.15: receive ignores a frame over size or of no use; that is no refusal
 abbrev pub frameOf : List ℕ → IoFrame → Option Frame
 frameOf bytes (Io id sequence start len) = some (record { id = id; sequence = sequence; payload = take len (drop start bytes) })
 frameOf bytes NotIo = none
