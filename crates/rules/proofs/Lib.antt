@@ -9,3 +9,10 @@ pub mod UploadMessages
 pub mod Examples
 pub mod ObjectExamples
 pub mod RoutingExamples
+pub mod Small
+pub mod ReceiveExamples
+pub mod ProduceExamples
+pub mod TimeExamples
+pub mod HostExamples
+pub mod SetupExamples
+pub mod AnswerExamples

@@ -1,4 +1,5 @@
--- What a call answers: "numbers for no", the words of a refused open with their meaning, and the number that the host gets.
+-- What a call answers: numbers for no, the words of a refused open with their meaning, and the number that the host gets.
+-- Rules 2.1 to 2.17.
 use mathlib.Core.List.{List, [], _∷_}
 use mathlib.Core.Bool.{Bool, true, false, cond}
 use Prim.Native.Nat.{ℕ, _+_, _*_, _-_, _^_}
@@ -7,11 +8,11 @@ use lib.ListN.{length}
 use Rattle.rules.specs.State.{Socket, Stop}
 pub use Rattle.rules.specs.declared.Stop.the-variants.{Transport, PathBroken, PathBarred, KeyVendor, KeyProduct, KeyDevice, KeyRevision, ClassNotFour, NumberCount, NoOutputPoint, NoInputPoint, NoConfig, ConfigLength, OtRpi, ToRpi, OtType, ToType, OwnerSize, HeartbeatSize, InputSize, TriadInUse, Owned, NoStream, ListenPointToPoint, Full}
 
--- the reasons for no; that the lent state is of the wrong size or fails its test, No. 1, is said where bytes are known
+-- the reasons for no; that the lent state is of the wrong size or fails its test, No. 1 (2.2), is said where bytes are known
 pub data No : Type 0 where
   BadSetup BadTime NotParsed NoAssembly TooLong NoRoom NothingThere : No
 
--- numbers for no
+-- 2.3 to 2.10: numbers for no
 abbrev pub noNumber : No → ℕ
 noNumber BadSetup = 2
 noNumber BadTime = 3
@@ -21,7 +22,7 @@ noNumber TooLong = 7
 noNumber NoRoom = 8
 noNumber NothingThere = 9
 
--- an open that fails a check is answered with general status 0x01, connection failure
+-- 2.6: an open that fails a check is answered with general status 0x01, connection failure
 abbrev pub generalStatus : ℕ
 generalStatus = 0x01
 
@@ -99,13 +100,13 @@ isYes (Gone n) = true
 isYes (Refused w) = false
 isYes (Failed s) = false
 
--- general status, the number of words and the words, from bit 8 on
+-- 2.6: general status, the number of words and the words, from bit 8 on
 abbrev pub wordsNumber : List ℕ → ℕ
 wordsNumber [] = 0
 wordsNumber (w ∷ []) = 2 ^ 8 * generalStatus + 2 ^ 16 * 1 + 2 ^ 32 * w
 wordsNumber (w ∷ v ∷ ws) = 2 ^ 8 * generalStatus + 2 ^ 16 * 2 + 2 ^ 32 * w + 2 ^ 48 * v
 
--- the answer as a number: its low byte is 0 for yes, or the number for no
+-- 2.16, 2.17: the answer as a number: its low byte is 0 for yes, or the number for no
 unfoldable pub answerNumber : Answer → ℕ
 answerNumber Done = 0
 answerNumber (Wrote bs) = 2 ^ 8 * length bs
@@ -115,7 +116,7 @@ answerNumber (Gone n) = 2 ^ 8 * n
 answerNumber (Refused w) = noNumber w
 answerNumber (Failed s) = 5 + wordsNumber (wordsOf s)
 
--- what is written at the start of the lent output; what is behind stays
+-- 2.15: what is written at the start of the lent output; what is behind stays
 abbrev pub answerBytes : Answer → List ℕ
 answerBytes Done = []
 answerBytes (Wrote bs) = bs
@@ -124,17 +125,17 @@ answerBytes (Gone n) = []
 answerBytes (Refused w) = []
 answerBytes (Failed s) = []
 
--- No. 8: lent output shorter than this answer
+-- 2.9: No. 8, lent output shorter than this answer
 abbrev pub fitting : ℕ → List ℕ → Answer → Answer
 fitting room bytes a = cond (leb (length bytes) room) a (Refused NoRoom)
 
--- No. 3: time above 2^63 - 1
+-- 2.4, 1.13: No. 3, time above 2^63 - 1
 abbrev pub timely : ℕ → Bool
 timely t = leb t (2 ^ 63 - 1)
 
 abbrev pub atTime : ℕ → Answer → Answer
 atTime t a = cond (timely t) a (Refused BadTime)
 
--- a no writes nothing: the state is left as it was
+-- 2.1: a no writes nothing: the state is left as it was
 abbrev pub settled : {S : Type 0} → Answer → S → S → Answer × S
 settled a after before = (a, cond (isYes a) after before)

@@ -44,7 +44,7 @@ answer (Connections room) st = connectionsAnswer room st
 answer (Stats room) st = statsAnswer room st
 answer (Message local mask message room position) st = messageAnswer local mask message room st position
 
--- the state that a call leaves; a message changes the session's upload position only
+-- 12.13: the state that a call leaves; a message changes the session's upload position only
 abbrev pub next : Call → State → State
 next (Open t service request g room) st = openCall t service request g room st .1
 next (OpenRefusal service request room) st = st

@@ -1,4 +1,4 @@
--- The host's side: inputs in, outputs and events out, and what it may read.
+-- The host's side: inputs in, outputs and events out, and what it may read. Rules 12.1 to 12.6, 12.12.
 use mathlib.Core.List.{List, [], _∷_, _++_}
 use mathlib.Core.Option.{Option, none, some}
 use mathlib.Core.Bool.{Bool, false, cond}
@@ -13,11 +13,11 @@ use Rattle.rules.specs.Answers.{Answer, Done, Wrote, Refused, NoAssembly
 use Rattle.rules.specs.Events.{infoOf, infoRecord, oldestGone}
 use Rattle.rules.specs.Checks.{placeOf}
 
--- shorter data leaves the rest zero
+-- 12.2: shorter data leaves the rest zero
 abbrev pub filled : ℕ → List ℕ → Content → Content
 filled size bytes a = record { bytes = bytes ++ replicate (size - length bytes) 0; run = a .run; notified = a .notified }
 
--- SET_INPUT: No. 6, 7
+-- SET_INPUT (12.1): No. 6, 7
 abbrev pub setInputAt : Setup → List ℕ → Option ℕ → Answer
 setInputAt u bytes none = Refused NoAssembly
 setInputAt u bytes (some i) = cond (leb (length bytes) (shapeAt u i .size)) Done (Refused TooLong)
@@ -35,7 +35,7 @@ setInputEffect n bytes st = inputSet bytes st (placeOf isInput (st .setup) n)
 unfoldable pub setInputCall : ℕ → List ℕ → State → Answer × State
 setInputCall n bytes st = settled (setInputAnswer n bytes (st .setup)) (setInputEffect n bytes st) st
 
--- OUTPUT: the run byte and the data. An accepted read re-arms the Output event. No. 6, 8
+-- OUTPUT (12.3, 12.4): the run byte and the data. An accepted read re-arms the Output event. No. 6, 8
 abbrev pub read : Content → Content
 read a = record { bytes = a .bytes; run = a .run; notified = false }
 
@@ -59,7 +59,7 @@ outputEffect n st = outputRead st (placeOf isOutput (st .setup) n)
 unfoldable pub outputCall : ℕ → ℕ → State → Answer × State
 outputCall n room st = settled (outputAnswer n room st) (outputEffect n st) st
 
--- ASSEMBLY: the data of an assembly of kind 1 input, 2 output, 3 configuration. No. 6, 8
+-- ASSEMBLY (12.5): the data of an assembly of kind 1 input, 2 output, 3 configuration. No. 6, 8
 abbrev pub kindTest : ℕ → AssemblyKind → Bool
 kindTest zero = λ k. false
 kindTest (suc zero) = isInput
@@ -74,7 +74,7 @@ assemblyAt room st (some i) = fitting room (contentAt st i .bytes) (Wrote (conte
 unfoldable pub assemblyAnswer : ℕ → ℕ → ℕ → State → Answer
 assemblyAnswer kind n room st = assemblyAt room st (placeOf (kindTest kind) (st .setup) n)
 
--- NEXT_EVENT: the oldest event's record, which leaves the list. No. 9, 8
+-- NEXT_EVENT (12.6): the oldest event's record, which leaves the list. No. 9, 8
 abbrev pub eventAt : ℕ → List (List ℕ) → Answer
 eventAt room [] = Refused NothingThere
 eventAt room (e ∷ es) = fitting room e (Wrote e)
@@ -88,14 +88,14 @@ nextEventEffect st = withEvents (oldestGone (st .events)) st
 unfoldable pub nextEventCall : ℕ → State → Answer × State
 nextEventCall room st = settled (nextEventAnswer room st) (nextEventEffect st) st
 
--- CONNECTIONS: the record of each in table order. No. 8
+-- CONNECTIONS (12.12): the record of each in table order. No. 8
 unfoldable pub connectionBytes : State → List ℕ
 connectionBytes st = joined (λ c. infoRecord 0 (infoOf (st .setup) (c .fixed))) (st .table)
 
 unfoldable pub connectionsAnswer : ℕ → State → Answer
 connectionsAnswer room st = fitting room (connectionBytes st) (Wrote (connectionBytes st))
 
--- STATS: produced, late and the greatest lateness, 8 bytes each. No. 8
+-- STATS (12.12): produced, late and the greatest lateness, 8 bytes each. No. 8
 abbrev pub statsBytes : Counters → List ℕ
 statsBytes n = bytesLe 8 (n .produced) ++ bytesLe 8 (n .late) ++ bytesLe 8 (n .maxLate)
 

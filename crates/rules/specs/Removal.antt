@@ -101,12 +101,12 @@ closeEffect request st = closeBy st (closeOf request)
 unfoldable pub closeCall : List ℕ → ℕ → State → Answer × State
 closeCall request room st = settled (closeAnswer request room st) (closeEffect request st) st
 
--- A connection expires when now minus its last receive time, or its open time before any frame, exceeds its timeout; a clock
--- behind that time counts as 0. Kept is that time plus the timeout (ExpiryLaws says that it is the same)
+-- 11.1, 11.2: a connection expires when now minus its last receive time, or its open time before any frame, exceeds its timeout;
+-- a clock behind that time counts as 0. Kept is that time plus the timeout (ExpiryLaws says that it is the same)
 abbrev pub expired : ℕ → Conn → Bool
 expired t c = ltb (c .heard .until) t
 
--- expiry removes the first such, repeatedly, and sets the fault mark
+-- 11.3, 11.4: expiry removes the first such, repeatedly, and sets the fault mark
 unfoldable pub expiredFirst : ℕ → State → State
 expiredFirst t st = removedFirst true TimedOut (expired t) st
 
@@ -120,7 +120,7 @@ expireAnswer t st = atTime t (Gone (length (st .table) - length (expireEffect t 
 unfoldable pub expireCall : ℕ → State → Answer × State
 expireCall t st = settled (expireAnswer t st) (expireEffect t st) st
 
--- the next deadline is the least of producing due times and receive time plus timeout
+-- 11.6: the next deadline is the least of producing due times and receive time plus timeout
 abbrev pub dueOr : ℕ → Due → ℕ
 dueOr m Never = m
 dueOr m (At t) = min m t
@@ -136,6 +136,6 @@ abbrev pub deadline : List Conn → Option ℕ
 deadline [] = none
 deadline (c ∷ cs) = some (leastOf (deadlineOf c) cs)
 
--- NEXT_DEADLINE: No. 9, 8; the time in 8 bytes, little-endian
+-- NEXT_DEADLINE (11.7, 11.8): No. 9, 8; the time in 8 bytes, little-endian
 unfoldable pub deadlineAnswer : ℕ → State → Answer
 deadlineAnswer room st = maybe (Refused NothingThere) (λ t. fitting room (bytesLe 8 t) (Wrote (bytesLe 8 t))) (deadline (st .table))

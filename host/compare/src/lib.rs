@@ -10,6 +10,7 @@ extern crate self as compare;
 pub mod bytes;
 mod call;
 mod generate;
+mod lane;
 mod record;
 mod rng;
 mod run;

@@ -1,8 +1,9 @@
 //! Calls written out by hand that a recorded sample begins with: every attribute of every object, an upload from its beginning to past
-//! its end with repeats, the 33rd connection, and the ends of time.
+//! its end with repeats, the 33rd connection, the ends of time, and a lane's frames, packets and silences.
 
 use crate::bytes::{self, Open, POINT_TO_POINT, Params, Seg, Setup, Shape};
 use crate::call::{Call, MAX_PACKETS, MAX_REPLY, MAX_TIME};
+use crate::lane;
 
 const PEER: u32 = 0x0A00_0001;
 const LOCAL: u32 = 0x0A00_0064;
@@ -137,10 +138,12 @@ pub fn runs() -> Vec<Vec<Call>> {
         calls.extend(more.into_iter().flatten());
         calls
     };
-    vec![
+    let mut runs = vec![
         with(Some(600), vec![attributes(), upload(255), upload(0), upload(200)]),
         with(Some(0), vec![upload(1)]),
         with(None, vec![vec![message(0x0E, &[Seg::Class(FILE, 0), Seg::Instance(EDS, 0), Seg::Attribute(1, 0)], &[])]]),
         with(None, vec![full_table(), ends_of_time()]),
-    ]
+    ];
+    runs.extend(lane::runs());
+    runs
 }
