@@ -85,13 +85,10 @@ const EVENT: Call = Call::NextEvent { room: 32 };
 const OUTPUT: Call = Call::Output { instance: OWNER, room: 3 };
 const STATS: Call = Call::Stats { room: 24 };
 
-/// The controller's frames, each with its event; then either the output, read, and until when the controller lives, or the output unread.
-fn frames(read: bool) -> Vec<Call> {
+/// The controller's frames: time, sequence, payload.
+fn sent() -> Vec<(u64, u32, Vec<u8>)> {
     let io = bytes::payload;
-    let owner = Open { multiplier: 1, t_o_rpi: 3_200_000, ..ask(1, OWNER, POINT_TO_POINT) };
-    let mut calls = vec![begin(INPUT_ONLY, LISTEN_ONLY), open(1_000, CONTROLLER, &owner)];
-    calls.extend([Call::Produce { time: 1_000, room: 40 }, EVENT]);
-    let sent = [
+    vec![
         (2_000, 0, io(0, 1, &[1, 2])), // the first sequence and the first CIP sequence are free
         (3_000, 0, io(1, 0, &[3, 4])), // not newer
         (4_000, 1, io(1, 1, &[1, 2])), // nothing changes
@@ -114,8 +111,16 @@ fn frames(read: bool) -> Vec<Call> {
         (9_000, 0, Vec::new()),        // beyond it, of a clock that went back
         (18_000, 1, io(4, 1, &[2, 2])), // a CIP sequence may be smaller
         (19_000, 2, io(5, 1, &[2, 3])), // and its data is another
-    ];
-    for (time, sequence, payload) in sent {
+    ]
+}
+
+/// The controller's frames, each with its event; then either the output, read, and until when the controller lives, or the output unread.
+fn frames(read: bool) -> Vec<Call> {
+    let io = bytes::payload;
+    let owner = Open { multiplier: 1, t_o_rpi: 3_200_000, ..ask(1, OWNER, POINT_TO_POINT) };
+    let mut calls = vec![begin(INPUT_ONLY, LISTEN_ONLY), open(1_000, CONTROLLER, &owner)];
+    calls.extend([Call::Produce { time: 1_000, room: 40 }, EVENT]);
+    for (time, sequence, payload) in sent() {
         calls.extend([frame(time, CONTROLLER, FIRST, sequence, payload), EVENT]);
         calls.extend(match read {
             true => [OUTPUT, DEADLINE],
@@ -207,7 +212,7 @@ fn packets() -> Vec<Call> {
 }
 
 /// Opens that fail one check, or two, and some that pass just so.
-fn checks() -> Vec<Call> {
+fn asked() -> Vec<Open> {
     let base = || ask(9, INPUT_ONLY, POINT_TO_POINT);
     let by = |before: &[Seg], behind: &[Seg]| {
         let segs = [before, &points(INPUT_ONLY), behind].concat();
@@ -216,7 +221,7 @@ fn checks() -> Vec<Call> {
     let key = |major, minor| by(&[Seg::Key { vendor: 0, device: 0, product: 0, major, minor }], &[]);
     let data = |bytes: &[u8]| Seg::Data(bytes.to_vec());
     let short = by(&[], &[data(&[1, 2])]);
-    let asked = [
+    vec![
         base(),
         by(&[], &[data(&[9; 4]), data(&[1, 2, 3, 4])]), // the last data counts
         short.clone(),
@@ -228,11 +233,16 @@ fn checks() -> Vec<Call> {
         Open { o_t_rpi: 999, o_t: Params::new(0, MULTICAST), ..base() },
         Open { o_t: Params::new(0, MULTICAST), ..base() },
         Open { t_o: Params::new(4, POINT_TO_POINT), ..base() },
-    ];
+    ]
+}
+
+/// Each of them, with the configuration that is stored after it; then closes, and a point that is all three.
+fn checks() -> Vec<Call> {
+    let base = || ask(9, INPUT_ONLY, POINT_TO_POINT);
     let mut calls =
         vec![begin(INPUT_ONLY, LISTEN_ONLY), open(1_000, DISPLAY, &ask(9, INPUT_ONLY, POINT_TO_POINT)), status()];
     calls.push(open(1_000, DISPLAY, &Open { t_o: Params::new(4, POINT_TO_POINT), ..base() }));
-    for (serial, one) in (20..).zip(asked) {
+    for (serial, one) in (20..).zip(asked()) {
         calls.push(open(1_000, DISPLAY, &Open { serial, ..one }));
         calls.push(Call::Assembly { kind: 3, instance: 199, room: 4 });
     }
