@@ -1,2 +1,2 @@
-pub mod BitLaws
 pub mod Examples
+pub mod BitLaws

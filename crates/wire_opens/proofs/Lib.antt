@@ -1,3 +1,3 @@
+pub mod Examples
 pub mod BitLaws
 pub mod Returns
-pub mod Examples

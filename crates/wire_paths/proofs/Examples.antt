@@ -68,9 +68,40 @@ examples =
 
 pub examples-hold : All examples
 unfolding segsOf segsFrom stepAt segAt between portAt portOf linkOffset linkSize portOffset logicalAt keyAt keyOf dataAt le leOf
-examples-hold =
-    (refl, (refl, (refl, (refl, (refl, (refl, (refl, (refl, (refl, (refl, (refl,
-    (refl, (refl, (refl, (refl, (refl, (refl, (refl, (refl, (refl, (refl, (refl, tt))))))))))))))))))))))
+examples-hold = (
+  refl,
+  (
+    refl,
+    (
+      refl,
+      (
+        refl,
+        (
+          refl,
+          (
+            refl,
+            (
+              refl,
+              (
+                refl,
+                (
+                  refl,
+                  (
+                    refl,
+                    (
+                      refl,
+                      (refl, (refl, (refl, (refl, (refl, (refl, (refl, (refl, (refl, (refl, (refl, tt))))))))))),
+                    ),
+                  ),
+                ),
+              ),
+            ),
+          ),
+        ),
+      ),
+    ),
+  ),
+)
 
 -- no segment begins with one of these: the fourth width, member ids, special and service ids, the other kinds
 abbrev pub unknown : List ℕ

@@ -1,2 +1,2 @@
-pub mod WriteLaws
 pub mod Examples
+pub mod WriteLaws

@@ -1,2 +1,2 @@
-pub mod RequestLaws
 pub mod Examples
+pub mod RequestLaws
