@@ -1,6 +1,7 @@
-// The ends of what is counted: the table's last row, the last id, the last sequence, the last time, the last byte of room. Each line of
-// stdout is one call and what it gave.
+// The ends of what is counted: the table's last row, the last id, the last sequence, the last time, the last byte of room; and the fixed
+// texts. Each line of stdout is one call and what it gave.
 mod calls;
+mod files;
 mod text;
 
 use calls::EXPIRE;
@@ -106,4 +107,5 @@ fn main() {
     say_ids();
     say_sequences();
     say_times();
+    files::say_texts();
 }

@@ -39,3 +39,11 @@ pub fn kept(same: bool) {
         words(b"; the state changed\n");
     }
 }
+
+pub fn wanted(same: bool) {
+    if same {
+        words(b"; as wanted, byte by byte\n");
+    } else {
+        words(b"; NOT AS WANTED\n");
+    }
+}

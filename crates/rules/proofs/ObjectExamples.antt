@@ -1,5 +1,6 @@
--- Fixed examples of the objects and the upload, proved from the definitions as one statement over one list.
-use mathlib.Core.List.{List, [], _∷_, _++_, map}
+-- Messages to the objects and the upload, worked out byte by byte. Each wrong reading of chapters 13 and 14 that must-fail holds breaks
+-- one.
+use mathlib.Core.List.{List, [], _∷_, map}
 use mathlib.Core.Option.{Option, none, some}
 use mathlib.Core.Bool.{Bool, true, false}
 use mathlib.Core.Path.{_≡_, refl}
@@ -7,14 +8,16 @@ use Prim.Native.Nat.{ℕ}
 use lib.ListN.{length, replicate}
 use Rattle.cells.specs.Numbers.{bytesLe, le, leOf}
 use Rattle.cells.specs.Records.{sum, encFields}
-use Rattle.wire_paths.specs.Segments.{portOffset, linkOffset, linkSize, portOf, portAt, logicalAt, keyOf, keyAt, dataAt, between, segAt, stepAt, segsFrom, segsOf}
+use Rattle.cells.specs.Back.{all}
+use Rattle.wire_paths.specs.Segments.{logicalAt, between, segAt, stepAt, segsFrom, segsOf}
 use Rattle.wire_paths.specs.ConnectionPath.{gather}
 use Rattle.wire_requests.specs.Requests.{attributeIn, requestWith, requestOf}
 use Rattle.rules.specs.State.{Input, Output, Config, Kind, Owner, InputOnly, Never, Conn, Identity, Shape, Setup, State}
+use Rattle.rules.specs.Answers.{Wrote, Refused, NoRoom}
 use Rattle.rules.specs.Attributes.{shortString, taggedText}
-use Rattle.rules.specs.Upload.{checksum, clamped, initiate, NoLast, Was, Upload, NoUpload, Under, turnOf, advanced, transferBytes, transferReply, transfer}
+use Rattle.rules.specs.Upload.{checksum, clamped, initiate, Last, NoLast, Was, Upload, NoUpload, Under, turnOf, advanced, transferBytes, transferReply, transfer, uploadOk}
 use Rattle.rules.specs.Objects.{owned, running, extendedStatus, identityStatus, identityAttributes, identity, assemblyClass, assemblyAttributes, assemblyPlace, assembly, interface, tcpIpAttributes, tcpIp, ethernetAttributes, ethernetLink, fileAttributes, edsFile, file}
-use Rattle.rules.specs.Message.{replyHead, replyTo, ofClass, messageOutcome, messageReply}
+use Rattle.rules.specs.Message.{replyHead, replyTo, ofClass, messageOutcome, messageReply, messageAnswer}
 
 -- ---- a device with an output of two bytes (100), an input of three (150) and no configuration data (5)
 
@@ -169,6 +172,7 @@ identityExamples =
     reads device 0x01 1 7 (2 ∷ 0x41 ∷ 0x42 ∷ []) ∷
     reads device 0x01 1 8 (3 ∷ []) ∷
     reads device 0x01 0 1 (1 ∷ 0 ∷ []) ∷
+    reads device 0x01 0 2 (1 ∷ 0 ∷ []) ∷
     reads device 0x01 0 3 (1 ∷ 0 ∷ []) ∷
     refuses (getAttribute 0x01 1 9) 0x14 ∷
     refuses (getAttribute 0x01 0 4) 0x14 ∷
@@ -181,14 +185,16 @@ identityExamples =
 
 abbrev otherExamples : List Example
 otherExamples =
-    -- Assembly
+    -- Assembly; its class by a path without an instance too
     reads device 0x04 0 1 (2 ∷ 0 ∷ []) ∷
+    answers device NoUpload (0x0E ∷ 2 ∷ 0x20 ∷ 0x04 ∷ 0x30 ∷ 0x01 ∷ []) (0x8E ∷ 0 ∷ 0 ∷ 0 ∷ 2 ∷ 0 ∷ []) NoUpload ∷
     reads device 0x04 0 2 (150 ∷ 0 ∷ []) ∷
     refuses (getAttribute 0x04 0 3) 0x14 ∷
     reads device 0x04 100 3 (0xAA ∷ 0xBB ∷ []) ∷
     reads device 0x04 150 3 (7 ∷ 8 ∷ 9 ∷ []) ∷
     reads device 0x04 150 4 (3 ∷ 0 ∷ []) ∷
     reads device 0x04 5 3 [] ∷
+    reads device 0x04 5 4 (0 ∷ 0 ∷ []) ∷
     refuses (getAttribute 0x04 7 3) 0x16 ∷
     attributeLength large 0x04 100 3 516 ∷
     -- TCP/IP
@@ -199,10 +205,15 @@ otherExamples =
     reads device 0xF5 1 5 (0x02 ∷ 0x00 ∷ 0x00 ∷ 0x0A ∷ 0x00 ∷ 0xFF ∷ 0xFF ∷ 0xFF ∷ replicate 14 0) ∷
     reads device 0xF5 1 6 (0 ∷ 0 ∷ []) ∷
     refuses (getAttribute 0xF5 1 7) 0x14 ∷
+    reads device 0xF5 0 2 (1 ∷ 0 ∷ []) ∷
+    refuses (getAttribute 0xF5 2 1) 0x16 ∷
     -- Ethernet Link
     reads device 0xF6 1 1 (100 ∷ 0 ∷ 0 ∷ 0 ∷ []) ∷
     reads device 0xF6 1 2 (0x0F ∷ 0 ∷ 0 ∷ 0 ∷ []) ∷
     reads device 0xF6 1 3 (0x02 ∷ 0x00 ∷ 0x5E ∷ 0x10 ∷ 0x20 ∷ 0x30 ∷ []) ∷
+    refuses (getAttribute 0xF6 1 4) 0x14 ∷
+    reads device 0xF6 0 1 (1 ∷ 0 ∷ []) ∷
+    refuses (getAttribute 0xF6 2 1) 0x16 ∷
     -- what is not here: Message Router, Connection Manager, Port, 0x64; File without an EDS
     answers device NoUpload (getAttribute 0x02 1 1) (0x8E ∷ 0 ∷ 0x08 ∷ 0 ∷ []) NoUpload ∷
     refuses (getAttribute 0x06 1 1) 0x05 ∷
@@ -262,13 +273,42 @@ uploadExamples =
     answers withEmptyEds (ofSize 2) (toFile 0x4F (0 ∷ [])) (0xCF ∷ 0 ∷ 0 ∷ 0 ∷ 0 ∷ 4 ∷ 0 ∷ 0 ∷ []) (at 1 0 0 0) ∷
     answers withEmptyEds (at 1 0 0 0) (toFile 0x4F (1 ∷ [])) (0xCF ∷ 0 ∷ 0 ∷ 0 ∷ 1 ∷ 4 ∷ 0 ∷ 0 ∷ []) (at 2 0 1 0) ∷
     transferLength large 255 263 ∷
-    -- on the class these services are none
+    -- an attribute leaves the position; on the class the two services are none
+    answers device (at 1 2 0 0) (getAttribute 0x37 0xC8 10) (0x8E ∷ 0 ∷ 0 ∷ 0 ∷ 1 ∷ []) (at 1 2 0 0) ∷
     answers device (ofSize 2) (0x4F ∷ 1 ∷ 0x20 ∷ 0x37 ∷ 0 ∷ []) (0xCF ∷ 0 ∷ 0x08 ∷ 0 ∷ []) (ofSize 2) ∷
     []
 
-abbrev pub examples : List Example
-examples = identityExamples ++ otherExamples ++ fileExamples ++ uploadExamples
+pub identity-object : map given identityExamples ≡ map wanted identityExamples
+unfolding bytesLe le leOf logicalAt between segAt stepAt segsFrom segsOf gather attributeIn requestWith requestOf replyHead replyTo ofClass messageOutcome messageReply shortString owned running extendedStatus identityStatus identityAttributes identity
+identity-object = refl
 
-pub examples-hold : map given examples ≡ map wanted examples
-unfolding bytesLe le leOf sum encFields portOffset linkOffset linkSize portOf portAt logicalAt keyOf keyAt dataAt between segAt stepAt segsFrom segsOf gather attributeIn requestWith requestOf shortString taggedText checksum clamped initiate turnOf advanced transferBytes transferReply transfer owned running extendedStatus identityStatus identityAttributes identity assemblyClass assemblyAttributes assemblyPlace assembly interface tcpIpAttributes tcpIp ethernetAttributes ethernetLink fileAttributes edsFile file replyHead replyTo ofClass messageOutcome messageReply
-examples-hold = refl
+pub other-objects : map given otherExamples ≡ map wanted otherExamples
+unfolding bytesLe le leOf logicalAt between segAt stepAt segsFrom segsOf gather attributeIn requestWith requestOf replyHead replyTo ofClass messageOutcome messageReply identity assemblyClass assemblyAttributes assemblyPlace assembly encFields interface tcpIpAttributes tcpIp ethernetAttributes ethernetLink
+other-objects = refl
+
+pub file-object : map given fileExamples ≡ map wanted fileExamples
+unfolding bytesLe le leOf logicalAt between segAt stepAt segsFrom segsOf gather attributeIn requestWith requestOf replyHead replyTo ofClass messageOutcome messageReply shortString taggedText sum checksum fileAttributes edsFile file
+file-object = refl
+
+pub uploads : map given uploadExamples ≡ map wanted uploadExamples
+unfolding bytesLe le leOf logicalAt between segAt stepAt segsFrom segsOf gather attributeIn requestWith requestOf replyHead replyTo ofClass messageOutcome messageReply sum checksum clamped initiate turnOf advanced transferBytes transferReply transfer fileAttributes edsFile file
+uploads = refl
+
+-- 515 bytes of room and 516; what the reply is does not matter
+pub rooms : (messageAnswer 0 0 [] 515 device NoUpload ≡ Refused NoRoom) × (messageAnswer 0 0 [] 516 device NoUpload ≡ Wrote (0x80 ∷ 0 ∷ 0x04 ∷ 0 ∷ []))
+unfolding messageAnswer messageReply messageOutcome requestOf requestWith segsOf segsFrom stepAt replyTo replyHead
+rooms = (refl, refl)
+
+-- ---- the position's test: transfers of 1 and 2 bytes within 5, at their end too; of 0 and of 3, behind the end, a last one behind it, no EDS
+
+abbrev placed : ℕ → ℕ → Last → Upload
+placed size offset last = Under (record { size = size; next = 3; offset = offset; last = last })
+
+pub positions : map (uploadOk setup) (NoUpload ∷ placed 1 0 NoLast ∷ placed 2 5 (Was 2 5) ∷ placed 0 0 NoLast ∷ placed 3 0 NoLast ∷ placed 2 6 NoLast ∷ placed 2 5 (Was 2 6) ∷ [])
+    ≡ true ∷ true ∷ true ∷ false ∷ false ∷ false ∷ false ∷ []
+unfolding uploadOk all
+positions = refl
+
+pub position-without-eds : map (uploadOk (setupWith none 2)) (NoUpload ∷ placed 1 0 NoLast ∷ []) ≡ true ∷ false ∷ []
+unfolding uploadOk all
+position-without-eds = refl

@@ -16,7 +16,7 @@ use Rattle.rules.specs.Attributes.{FirstAttribute, Outcome, Gives, Fails
 use Rattle.rules.specs.Upload.{Upload}
 use Rattle.rules.specs.Objects.{identity, assembly, tcpIp, ethernetLink, file}
 
--- a reply: the service with bit 7 set, a zero byte, the general status, no further words, then the data
+-- 13.1: a reply: the service with bit 7 set, a zero byte, the general status, no further words, then the data
 unfoldable pub replyHead : ℕ → ℕ → List ℕ
 replyHead service status = (0x80 + service % 0x80) ∷ 0 ∷ status ∷ 0 ∷ []
 
@@ -24,12 +24,12 @@ unfoldable pub replyTo : ℕ → Outcome → List ℕ
 replyTo service (Gives bytes) = replyHead service 0 ++ bytes
 replyTo service (Fails f) = replyHead service (statusNumber f)
 
--- without an EDS there is no File object
+-- 13.4: without an EDS there is no File object
 abbrev pub fileIn : Setup → ℕ → ℕ → FirstAttribute → List ℕ → Upload → Option (List ℕ) → Outcome × Upload
 fileIn u service instance a bytes up none = (Fails PathUnknown, up)
 fileIn u service instance a bytes up (some eds) = file u eds service instance a bytes up
 
--- the five objects; class 0x02 has no service; any other class, 0x64 and 0xF4 too, is unknown. Only File has a use for the position
+-- 13.4: the five objects; class 0x02 has no service; any other class, 0x64 and 0xF4 too, is unknown. Only File has a use for the position
 unfoldable pub ofClass : State → ℕ → ℕ → ℕ → FirstAttribute → List ℕ → Upload → ℕ → ℕ → Outcome × Upload
 ofClass st local mask service a bytes up class instance =
     cond (eqb class 0x01) (identity st service instance a, up)
@@ -40,12 +40,12 @@ ofClass st local mask service a bytes up class instance =
     (cond (eqb class 0x02) (Fails ServiceUnknown, up)
     (Fails PathUnknown, up))))))
 
--- a path that names no object is unknown
+-- 13.3: a path that names no object is unknown
 abbrev pub ofObject : State → ℕ → ℕ → ℕ → FirstAttribute → List ℕ → Upload → Object → Outcome × Upload
 ofObject st local mask service a bytes up NoObject = (Fails PathUnknown, up)
 ofObject st local mask service a bytes up (Named class instance) = ofClass st local mask service a bytes up class instance
 
--- in `message` parse faults are replies (0x04), and so is a message beyond the sizes
+-- 13.3: parse faults are replies (0x04), and so is a message beyond the sizes
 abbrev pub ofRequest : State → ℕ → ℕ → List ℕ → Upload → RequestAnswer → Outcome × Upload
 ofRequest st local mask message up (Unparsed service) = (Fails PathSegment, up)
 ofRequest st local mask message up (Parsed r) =
@@ -61,7 +61,7 @@ messageOutcome st local mask message up = ofRequest st local mask message up (re
 unfoldable pub messageReply : State → ℕ → ℕ → List ℕ → Upload → List ℕ
 messageReply st local mask message up = replyTo (serviceOf (requestOf message)) (messageOutcome st local mask message up .0)
 
--- an object reply buffer under 516 bytes gives No. 8
+-- 13.20: an object reply buffer under 516 bytes gives No. 8
 abbrev pub replyRoom : ℕ
 replyRoom = 516
 

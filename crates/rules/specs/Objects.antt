@@ -15,15 +15,15 @@ use Rattle.rules.specs.Upload.{Upload, checksum, initiate, transfer}
 
 -- ---- Identity
 
--- owned: an exclusive owner is in the table
+-- 13.10: owned: an exclusive owner is in the table
 unfoldable pub owned : State → Bool
 owned st = any (λ c. isOwner (c .fixed .kind)) (st .table)
 
--- in run: a connection's output is in run
+-- 13.11: in run: an owner's output is in run
 unfoldable pub running : State → Bool
 running st = any (λ c. isOwner (c .fixed .kind) && contentAt st (c .fixed .output) .run) (st .table)
 
--- extended device status: 2 at least one faulted connection, 3 no connections, 6 at least one in run, 7 all idle
+-- 13.11: extended device status: 2 at least one faulted connection, 3 no connections, 6 at least one in run, 7 all idle
 unfoldable pub extendedStatus : State → ℕ
 extendedStatus st = cond (st .fault) 2 (cond (eqb (length (st .table)) 0) 3 (cond (running st) 6 7))
 
@@ -31,7 +31,7 @@ extendedStatus st = cond (st .fault) 2 (cond (eqb (length (st .table)) 0) 3 (con
 unfoldable pub identityStatus : State → ℕ
 identityStatus st = ofBool (owned st) + 2 ^ 4 * extendedStatus st
 
--- vendor, device type, product code, revision, status, serial number, product name, state (3, operational)
+-- 13.9: vendor, device type, product code, revision, status, serial number, product name, state (3, operational)
 unfoldable pub identityAttributes : State → Attributes
 identityAttributes st =
     let us = st .setup .identity in
@@ -45,7 +45,7 @@ identityAttributes st =
     (8, 3 ∷ []) ∷
     []
 
--- service 0x01, all attributes at once, is no service here: 0x08
+-- 13.6: service 0x01, all attributes at once, is no service here: 0x08
 unfoldable pub identity : State → ℕ → ℕ → FirstAttribute → Outcome
 identity st service instance a = among 1 instance (single service a classAttributes) (single service a (identityAttributes st))
 
@@ -55,11 +55,11 @@ abbrev pub largestInstance : List Shape → ℕ
 largestInstance [] = 0
 largestInstance (a ∷ rest) = max (a .instance) (largestInstance rest)
 
--- the class: revision 2, largest instance
+-- 13.12: the class: revision 2, largest instance
 unfoldable pub assemblyClass : Setup → Attributes
 assemblyClass u = (1, bytesLe 2 2) ∷ (2, bytesLe 2 (largestInstance (u .assemblies))) ∷ []
 
--- an assembly of any kind: its data, and the size of it
+-- 13.13: an assembly of any kind: its data, and the size of it
 unfoldable pub assemblyAttributes : Content → Attributes
 assemblyAttributes held = (3, held .bytes) ∷ (4, bytesLe 2 (length (held .bytes))) ∷ []
 
@@ -80,11 +80,11 @@ assembly st service instance a =
 abbrev pub linkPath : List ℕ
 linkPath = 0x02 ∷ 0x00 ∷ 0x20 ∷ 0xF6 ∷ 0x24 ∷ 0x01 ∷ []
 
--- local address and mask as little-endian numbers, no gateway, no name servers, no domain name
+-- 13.14: local address and mask as little-endian numbers, no gateway, no name servers, no domain name
 unfoldable pub interface : ℕ → ℕ → List ℕ
 interface local mask = encFields (4 ∷ 4 ∷ 4 ∷ 4 ∷ 4 ∷ 2 ∷ []) (local ∷ mask ∷ 0 ∷ 0 ∷ 0 ∷ 0 ∷ [])
 
--- status (1, a valid configuration), capability and control (0, set by the operating system), link, interface, no host name
+-- 13.14: status (1, a valid configuration), capability and control (0, set by the operating system), link, interface, no host name
 unfoldable pub tcpIpAttributes : ℕ → ℕ → Attributes
 tcpIpAttributes local mask =
     (1, bytesLe 4 1) ∷
@@ -100,7 +100,7 @@ tcpIp local mask service instance a = among 1 instance (single service a classAt
 
 -- ---- Ethernet Link
 
--- speed in Mbit/s, flags (link up, full duplex, negotiated), MAC
+-- 13.15: speed in Mbit/s, flags (link up, full duplex, negotiated), MAC
 unfoldable pub ethernetAttributes : Setup → Attributes
 ethernetAttributes u = (1, bytesLe 4 100) ∷ (2, bytesLe 4 0x0F) ∷ (3, u .mac) ∷ []
 
@@ -109,11 +109,11 @@ ethernetLink u service instance a = among 1 instance (single service a classAttr
 
 -- ---- File
 
--- the instance of the EDS
+-- 13.16: the instance of the EDS
 abbrev pub edsInstance : ℕ
 edsInstance = 0xC8
 
--- state (2, loaded), instance name, instance format version, file name, file revision, file size, checksum, invocation and save
+-- 13.17: state (2, loaded), instance name, instance format version, file name, file revision, file size, checksum, invocation and save
 -- method (0), access rule (1, read only), encoding (0, binary)
 unfoldable pub fileAttributes : Setup → List ℕ → Attributes
 fileAttributes u eds =
@@ -136,7 +136,7 @@ initiateUpload = 0x4B
 abbrev pub uploadTransfer : ℕ
 uploadTransfer = 0x4F
 
--- the services of the EDS: initiate, transfer, and a single attribute, which leaves the position as it is
+-- 14.1: the services of the EDS: initiate, transfer, and a single attribute, which leaves the position as it is
 unfoldable pub edsFile : Setup → List ℕ → ℕ → FirstAttribute → List ℕ → Upload → Outcome × Upload
 edsFile u eds service a bytes up =
     cond (eqb service initiateUpload) (initiate (u .transferLimit) eds up bytes)

@@ -17,7 +17,7 @@ use Rattle.wire_requests.specs.declared.RequestAnswer.{RequestAnswer}
 use Rattle.wire_requests.specs.Requests.{requestOf}
 use Rattle.rules.specs.Answers.{Answer, Wrote, Refused, NotParsed, fitting}
 
--- the record of a path, 32 bytes: port or attribute segment, key, class (1 if there is one), the number of instances and points (4 for
+-- 15.2: the record of a path, 32 bytes: port or attribute segment, key, class (1 if there is one), the number of instances and points (4 for
 -- more); the last key; the last class; the first three instances and points; where the last data segment stands, and its length
 unfoldable pub pathRecord : ConnectionPath → List ℕ
 pathRecord p =
@@ -30,7 +30,7 @@ abbrev pub pathFor : ℕ → PathAnswer → Answer
 pathFor room (paths.the-variants.Unparsed offset) = Refused NotParsed
 pathFor room (paths.the-variants.Parsed p) = fitting room (pathRecord p) (Wrote (pathRecord p))
 
--- PATH: No. 4, 8
+-- 15.1: PATH: No. 4, 8
 unfoldable pub pathAnswer : List ℕ → ℕ → Answer
 pathAnswer path room = pathFor room (pathOf path)
 
@@ -55,7 +55,7 @@ abbrev pub attributeOf : FirstAttribute → ℕ
 attributeOf (Number a) = a
 attributeOf NoAttribute = 0
 
--- the record of a request, 20 bytes: service, whether it names an object and an attribute, a spare byte; class, instance, attribute; where
+-- 15.4: the record of a request, 20 bytes: service, whether it names an object and an attribute, a spare byte; class, instance, attribute; where
 -- its data begins
 unfoldable pub requestRecord : Request → List ℕ
 requestRecord r =
@@ -67,6 +67,6 @@ abbrev pub requestFor : ℕ → RequestAnswer → Answer
 requestFor room (requests.the-variants.Unparsed service) = Refused NotParsed
 requestFor room (requests.the-variants.Parsed r) = fitting room (requestRecord r) (Wrote (requestRecord r))
 
--- REQUEST: No. 4, 8
+-- 15.3: REQUEST: No. 4, 8
 unfoldable pub requestAnswer : List ℕ → ℕ → Answer
 requestAnswer message room = requestFor room (requestOf message)

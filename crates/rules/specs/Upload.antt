@@ -18,20 +18,20 @@ pub use Rattle.rules.specs.declared.objects.Upload.the-variants.{NoUploa
 pub use Rattle.rules.specs.declared.objects.Turn.{Turn}
 pub use Rattle.rules.specs.declared.objects.Turn.the-variants.{Repeat, InTurn, OutOfTurn}
 
--- the checksum, the negated 16-bit sum of bytes
+-- 14.9: the checksum, the negated 16-bit sum of bytes
 unfoldable pub checksum : List ℕ → ℕ
 checksum bytes = (2 ^ 16 - sum bytes % 2 ^ 16) % 2 ^ 16
 
 -- ---- initiate
 
--- initiate clamps the wanted size to 1 up to the transfer limit
+-- 14.2: initiate clamps the wanted size to 1 up to the transfer limit
 unfoldable pub clamped : ℕ → ℕ → ℕ
 clamped limit wanted = max 1 (min wanted limit)
 
 abbrev pub started : ℕ → Position
 started size = record { size = size; next = 0; offset = 0; last = NoLast }
 
--- its reply: the EDS length in 4 bytes, and the size
+-- 14.3: its reply: the EDS length in 4 bytes, and the size
 abbrev pub initiateReply : List ℕ → ℕ → List ℕ
 initiateReply eds size = bytesLe 4 (length eds) ++ (size ∷ [])
 
@@ -41,7 +41,7 @@ initiate limit eds up (wanted ∷ rest) = (Gives (initiateReply eds (clamped lim
 
 -- ---- transfer
 
--- the position advances only on a transfer in turn; a repeat of the last number is looked for first
+-- 14.5: the position advances only on a transfer in turn; a repeat of the last number is looked for first
 abbrev pub nextTurn : ℕ → ℕ → Turn
 nextTurn next number = cond (eqb number next) InTurn OutOfTurn
 
@@ -52,7 +52,7 @@ turnAfter (Was last offset) next number = cond (eqb last number) (Repeat offset)
 unfoldable pub turnOf : Position → ℕ → Turn
 turnOf p number = turnAfter (p .last) (p .next) number
 
--- numbers wrap at 256
+-- 14.6: numbers wrap at 256
 unfoldable pub advanced : List ℕ → Position → Position
 advanced eds p =
     record {
@@ -62,11 +62,11 @@ advanced eds p =
       last = Was (p .next) (p .offset);
     }
 
--- the transfer at an offset is the last if it reaches the end
+-- 14.9: the transfer at an offset is the last if it reaches the end
 abbrev pub reachesEnd : List ℕ → ℕ → ℕ → Bool
 reachesEnd eds size offset = leb (length eds) (offset + size)
 
--- 0 first, 1 middle, 2 last, 4 first and last
+-- 14.8: 0 first, 1 middle, 2 last, 4 first and last
 abbrev pub transferType : Bool → Bool → ℕ
 transferType true false = 0
 transferType false false = 1
@@ -81,7 +81,7 @@ unfoldable pub transferReply : List ℕ → ℕ → ℕ → ℕ → List ℕ
 transferReply eds size number offset =
     number ∷ transferType (eqb offset 0) (reachesEnd eds size offset) ∷ transferBytes eds size offset
 
--- a repeat gives the same bytes again
+-- 14.7: a repeat gives the same bytes again
 abbrev pub transferFor : List ℕ → Position → ℕ → Turn → Outcome × Upload
 transferFor eds p number (Repeat offset) = (Gives (transferReply eds (p .size) number offset), Under p)
 transferFor eds p number InTurn = (Gives (transferReply eds (p .size) number (p .offset)), Under (advanced eds p))
@@ -95,7 +95,7 @@ unfoldable pub transfer : List ℕ → Upload → List ℕ → Outcome × Upload
 transfer eds up [] = (Fails NotEnoughData, up)
 transfer eds up (number ∷ rest) = transferAt eds number up
 
--- ---- the position's own test: none, or a size of 1 up to the limit and offsets within the EDS; none if there is no EDS
+-- ---- 14.11, the position's own test: none, or a size of 1 up to the limit and offsets within the EDS; none if there is no EDS
 
 abbrev pub lastOk : ℕ → Last → Bool
 lastOk size NoLast = true

@@ -9,14 +9,14 @@ use Rattle.cells.specs.declared.Written.{Written}
 use Rattle.cells.specs.declared.Written.the-variants.{NoRoom}
 use Rattle.wire_items.specs.Frames.{ioFrame}
 
--- an item's size has 16 bits: there is no room in it for more than 65,535 bytes
+-- 3.13: an item's size has 16 bits: there is no room in it for more than 65,535 bytes
 unfoldable pub frameWritten : List ℕ → ℕ → ℕ → ℕ → List ℕ → Written × List ℕ
 frameWritten out id sequence cip bs = pick (leb (2 + length bs) 65535) (written out (ioFrame id sequence cip bs)) (NoRoom, out)
 
 abbrev pub behind : List ℕ → Written × List ℕ → Written × List ℕ
 behind front w = (w .0, front ++ w .1)
 
--- the same, for the rest of the output from `at` on; what stands before `at` stays
+-- 3.14: the same, for the rest of the output from `at` on; what stands before `at` stays
 unfoldable pub frameAppended : List ℕ → ℕ → ℕ → ℕ → ℕ → List ℕ → Written × List ℕ
 frameAppended out at id sequence cip bs =
     pick (leb at (length out))

@@ -1,4 +1,4 @@
--- The item list of a frame, from document 01: "a 16-bit count, then kind, size, bytes; the last must end with the data".
+-- The item list of a frame: a 16-bit count, then kind, size, bytes; the last must end with the data.
 use Prim.Native.Nat.{ℕ, zero, suc, _+_}
 use mathlib.Core.List.{List, [], _∷_}
 use lib.ListN.{length}
@@ -16,15 +16,15 @@ use Rattle.wire_items.specs.declared.Whole.the-variants.{Good, BrokenAt}
 abbrev pub cursor : ℕ → ℕ → Cursor
 cursor at left = record { at = at; left = left }
 
--- the count; or its offset, 0, where it does not fit
+-- 3.2: the count; or its offset, 0, where it does not fit
 unfoldable pub startOf : List ℕ → Start
 startOf s = pick (leb 2 (length s)) (At (cursor 2 (le 2 s 0))) (NoCount 0)
 
--- where the item at `at` ends: kind and size are 2 bytes each
+-- 3.3: where the item at `at` ends: kind and size are 2 bytes each
 abbrev pub itemEnd : List ℕ → ℕ → ℕ
 itemEnd s at = at + 4 + le 2 s (at + 2)
 
--- what stands at `at`. With no item to come: the end of the data, or a spare byte. With an item to come and n after it: that item, or `at`, where it does not fit
+-- 3.4: what stands at `at`. With no item to come: the end of the data, or a spare byte. With an item to come and n after it: that item, or `at`, where it does not fit
 unfoldable pub stepAt : List ℕ → ℕ → ℕ → Step
 stepAt s at zero = pick (eqb at (length s)) End (Broken at)
 stepAt s at (suc n) =
@@ -85,6 +85,6 @@ abbrev pub started : Start → (Cursor → Step) → Step
 started (At c) rest = rest c
 started (NoCount o) rest = Broken o
 
--- item n of a frame, counted from 0
+-- 3.5: item n of a frame, counted from 0
 unfoldable pub itemOf : ℕ → List ℕ → Step
 itemOf n s = started (startOf s) (λ c. stepAfter n s (c .at) (c .left))

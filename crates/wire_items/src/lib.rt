@@ -1,4 +1,4 @@
-// The items of a frame. Document 01: a 16-bit count, then kind, size, bytes; the last must end with the data. A list that
+// The items of a frame (rules 3.2 to 3.11): a 16-bit count, then kind, size, bytes; the last must end with the data. A list that
 // is not well formed has an offset: that of the first item or count that does not fit, or of the first spare byte after the last item.
 use ids::OtId;
 ghost use mathlib.Core.Path.{_≡_};

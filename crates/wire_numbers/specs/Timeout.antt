@@ -1,7 +1,7 @@
 -- The timeout of a connection, in microseconds.
 use Prim.Native.Nat.{ℕ, _*_, _^_, min}
 
--- 4 times 2 to the multiplier, multipliers above 7 counting as 7
+-- 5.17: 4 times 2 to the multiplier, multipliers above 7 counting as 7
 abbrev pub factorOf : ℕ → ℕ
 factorOf m = 4 * 2 ^ min m 7
 

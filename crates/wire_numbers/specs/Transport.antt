@@ -4,7 +4,7 @@ use mathlib.Core.Bool.{Bool, false}
 use lib.Dec.{eqb}
 use Rattle.cells.specs.Pick.{pick}
 
--- the transport class: the low four bits
+-- 5.15: the transport class: the low four bits
 abbrev pub transportClass : ℕ → ℕ
 transportClass t = t % 16
 
@@ -12,11 +12,11 @@ transportClass t = t % 16
 abbrev pub directionBit : ℕ → ℕ
 directionBit t = t / 128 % 2
 
--- check 1: class 1, bit 7 clear
+-- 6.1: class 1, bit 7 clear
 abbrev pub transportOk : ℕ → Bool
 transportOk t = pick (eqb (transportClass t) 1) (eqb (directionBit t) 0) false
 
--- the compatibility bit of a key's major revision: bit 7
+-- 5.16: the compatibility bit of a key's major revision: bit 7
 abbrev pub compatibleBit : ℕ → Bool
 compatibleBit m = eqb (m / 128 % 2) 1
 

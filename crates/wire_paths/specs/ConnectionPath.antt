@@ -65,7 +65,7 @@ place (Attribute v) = []
 place (Keyed k) = []
 place (Data start len) = (start, len) ∷ []
 
--- a port or attribute segment, which an open may not hold (check 2)
+-- 4.9: a port or attribute segment, which an open may not hold
 abbrev pub bar : Seg → List Seg
 bar (Port p start len) = Port p start len ∷ []
 bar (Class v) = []
@@ -96,7 +96,7 @@ barsIn l = gather bar l
 abbrev pub noKey : Key
 noKey = record { vendor = 0; device = 0; product = 0; major = 0; minor = 0 }
 
--- the last key (check 3); the last class, and the instances and points in order (check 4); the last data (check 5)
+-- 4.10 to 4.12: the last key; the last class, and the instances and points in order; the last data
 unfoldable pub connectionPath : List Seg → ConnectionPath
 connectionPath l =
     record {

@@ -4,4 +4,3 @@ pub mod Logical
 pub mod Adding
 pub mod PathLaws
 pub mod WalkLaws
-pub mod Examples

@@ -12,18 +12,18 @@ use Rattle.wire_paths.specs.declared.Seg.the-variants.{Port, Class, Inst
 use Rattle.wire_paths.specs.declared.SegStep.{SegStep}
 use Rattle.wire_paths.specs.declared.SegStep.the-variants.{Segment, End, Broken}
 
--- a path has up to 510 bytes
+-- 4.1: a path has up to 510 bytes
 abbrev pub pathMax : ℕ
 pathMax = 510
 
--- the segment x at `at`, which takes the bytes up to `next`, unless it runs past the end
+-- 4.2: the segment x at `at`, which takes the bytes up to `next`, unless it runs past the end
 abbrev pub upTo : List ℕ → ℕ → Seg → ℕ → SegStep
 upTo s at x next = pick (leb next (length s)) (Segment x next) (Broken at)
 
 abbrev pub evenUp : ℕ → ℕ
 evenUp n = (n + 1) / 2 * 2
 
--- ---- a port segment: bit 4 of its first byte says that the link's size follows (else the link is one byte), the low four
+-- ---- 4.3, a port segment: bit 4 of its first byte says that the link's size follows (else the link is one byte), the low four
 -- ---- bits are the port, or 15 where a port of 16 bits follows; then comes the link; an odd segment is padded to even
 
 abbrev pub sized : ℕ → Bool
@@ -51,7 +51,7 @@ portAt s at =
     upTo s at (Port (portOf s at) (at + linkOffset (getD s at 0)) (linkSize (getD s at 0) (getD s (at + 1) 0)))
     (at + evenUp (linkOffset (getD s at 0) + linkSize (getD s at 0) (getD s (at + 1) 0)))
 
--- ---- a logical segment: the low two bits of its first byte say the width of its value
+-- ---- 4.5, a logical segment: the low two bits of its first byte say the width of its value
 
 -- a value of 8 bits, or of 16 or 32 bits after a pad byte that is not read
 unfoldable pub logicalAt : List ℕ → ℕ → (ℕ → Seg) → SegStep
@@ -60,7 +60,7 @@ logicalAt s at kind =
     (pick (eqb (getD s at 0 % 4) 1) (upTo s at (kind (le 2 s (at + 2))) (at + 4))
     (upTo s at (kind (le 4 s (at + 2))) (at + 6)))
 
--- ---- an electronic key of format 4: ten bytes
+-- ---- 4.6, an electronic key of format 4: ten bytes
 
 unfoldable pub keyOf : List ℕ → ℕ → Key
 keyOf s at =
@@ -75,7 +75,7 @@ keyOf s at =
 unfoldable pub keyAt : List ℕ → ℕ → SegStep
 keyAt s at = pick (eqb (getD s (at + 1) 0) 4) (upTo s at (Keyed (keyOf s at)) (at + 10)) (Broken at)
 
--- ---- a data segment: a count of words, then these
+-- ---- 4.7, a data segment: a count of words, then these
 
 unfoldable pub dataAt : List ℕ → ℕ → SegStep
 dataAt s at = upTo s at (Data (at + 2) (getD s (at + 1) 0 * 2)) (at + 2 + getD s (at + 1) 0 * 2)
@@ -85,7 +85,7 @@ dataAt s at = upTo s at (Data (at + 2) (getD s (at + 1) 0 * 2)) (at + 2 + getD s
 unfoldable pub between : ℕ → ℕ → ℕ → Bool
 between low high b = pick (leb low b) (leb b high) false
 
--- the segment at `at`, by its first byte; any other first byte does not parse
+-- 4.4, 4.8: the segment at `at`, by its first byte; any other first byte does not parse
 unfoldable pub segAt : List ℕ → ℕ → SegStep
 segAt s at =
     pick (between 0x00 0x1F (getD s at 0)) (portAt s at)

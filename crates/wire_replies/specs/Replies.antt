@@ -14,7 +14,7 @@ triadWidths = 2 ∷ 2 ∷ 4 ∷ []
 abbrev pub triadFields : Triad → List ℕ
 triadFields t = t .serial ∷ t .vendor ∷ t .originator ∷ []
 
--- the Forward Open reply: O→T id, T→O id, the triad, O→T RPI, T→O RPI, then two zero bytes
+-- 5.20: the Forward Open reply: O→T id, T→O id, the triad, O→T RPI, T→O RPI, then two zero bytes
 abbrev pub openReplyWidths : List ℕ
 openReplyWidths = 4 ∷ 4 ∷ triadWidths ++ (4 ∷ 4 ∷ 1 ∷ 1 ∷ [])
 
@@ -24,7 +24,7 @@ openReplyFields otid toid triad otrpi torpi = otid .0 ∷ toid .0 ∷ triadField
 unfoldable pub openReply : OtId → ToId → Triad → ℕ → ℕ → List ℕ
 openReply otid toid triad otrpi torpi = encFields openReplyWidths (openReplyFields otid toid triad otrpi torpi)
 
--- the triad, and two zero bytes
+-- 5.21: the triad, and two zero bytes
 abbrev pub triadReplyWidths : List ℕ
 triadReplyWidths = triadWidths ++ (1 ∷ 1 ∷ [])
 
@@ -57,7 +57,7 @@ headFields service general words = withBit7 service ∷ 0 ∷ general ∷ words 
 abbrev pub extended : ℕ → ℕ → ℕ → List ℕ
 extended words first second = take words (first ∷ second ∷ [])
 
--- the head of a reply: that, and the words of two bytes
+-- 5.22: the head of a reply: that, and the words of two bytes
 abbrev pub replyHeadWidths : ℕ → ℕ → ℕ → List ℕ
 replyHeadWidths words first second = headWidths ++ map (λ w. 2) (extended words first second)
 

@@ -21,12 +21,12 @@ use Rattle.wire_requests.specs.declared.RequestAnswer.the-variants.{Pars
 
 -- ---- the object
 
--- behind a class and an attribute: nothing more, and they name the class itself, instance 0
+-- 4.17: behind a class and an attribute: nothing more, and they name the class itself, instance 0
 abbrev pub classAlone : ℕ → List Seg → Object
 classAlone c [] = Named c 0
 classAlone c (x ∷ l) = NoObject
 
--- behind a class: its instance, and then anything; or nothing, or one attribute
+-- 4.16: behind a class: its instance, and then anything; or nothing, or one attribute
 abbrev pub inClass : ℕ → List Seg → Object
 inClass c [] = Named c 0
 inClass c (Instance i ∷ l) = Named c i
@@ -37,7 +37,7 @@ inClass c (Port p start len ∷ l) = NoObject
 inClass c (Keyed k ∷ l) = NoObject
 inClass c (Data start len ∷ l) = NoObject
 
--- a path that names an object begins with its class
+-- 4.18: a path that names an object begins with its class
 abbrev pub objectIn : List Seg → Object
 objectIn [] = NoObject
 objectIn (Class c ∷ l) = inClass c l
@@ -70,7 +70,7 @@ abbrev pub firstOf : List ℕ → FirstAttribute
 firstOf [] = NoAttribute
 firstOf (a ∷ l) = Number a
 
--- the first attribute, wherever it stands
+-- 4.19: the first attribute, wherever it stands
 unfoldable pub attributeIn : List Seg → FirstAttribute
 attributeIn l = firstOf (gather attributeOf l)
 
@@ -81,7 +81,7 @@ attributeAnswer (broken o) = attributes.the-variants.Unparsed o
 unfoldable pub firstAttribute : List ℕ → AttributeAnswer
 firstAttribute s = attributeAnswer (segsOf s)
 
--- ---- the request: a service, the number of the path's words, the path, the data
+-- ---- 4.13, the request: a service, the number of the path's words, the path, the data
 
 abbrev pub messageMax : ℕ
 messageMax = 65536
@@ -90,7 +90,7 @@ unfoldable pub requestWith : ℕ → ℕ → Segs → RequestAnswer
 requestWith service start (segs l) = Parsed (record { service = service; object = objectIn l; attribute = attributeIn l; datastart = start })
 requestWith service start (broken o) = Unparsed service
 
--- a message over size, too short for its path, or with a path that does not parse is no request
+-- 4.14, 4.15: a message over size, too short for its path, or with a path that does not parse is no request
 unfoldable pub requestOf : List ℕ → RequestAnswer
 requestOf m =
     pick (ltb messageMax (length m)) (Unparsed (getD m 0 0))
