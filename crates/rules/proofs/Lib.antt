@@ -7,5 +7,8 @@ pub mod ReplyLaws
 pub mod UploadLaws
 pub mod UploadMessages
 pub mod Examples
+pub mod Computing
+pub mod Plant
+pub mod OpenExamples
 pub mod ObjectExamples
 pub mod RoutingExamples
