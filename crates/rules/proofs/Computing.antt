@@ -52,6 +52,6 @@ unfolding wire events removed closed closeAnswer closeEffect closeCall expiredFi
 removals = true
 
 -- a frame in, packets out
-unfoldable pub frames-in-and-out : Bool
+unfoldable pub traffic : Bool
 unfolding frames events newer recorded hear taken changes deliver received receiveAnswer receiveEffect receiveCall sent frameSent packet packets counters produceAnswer produceEffect produceCall
-frames-in-and-out = true
+traffic = true

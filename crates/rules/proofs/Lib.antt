@@ -10,5 +10,7 @@ pub mod Examples
 pub mod Computing
 pub mod Plant
 pub mod OpenExamples
+pub mod AcceptedExamples
+pub mod RemovalExamples
 pub mod ObjectExamples
 pub mod RoutingExamples
