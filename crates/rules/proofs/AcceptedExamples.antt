@@ -71,7 +71,7 @@ pub where-packets-go :
     (destinations (opening (owner 1 101 10000) ∷ awayOpen true 0x01020304 (reader 2 101 10000) ∷ []) ≡ at group 2222 ∷ at group 2222 ∷ []) ×
     -- 7.13: a new stream goes to its own host's group at the class 1 port
     (destinations (awayOpen true 0x01020304 (reader 1 101 10000) ∷ []) ≡ at (address 239 192 2 0) 3333 ∷ []) ×
-    -- 7.19, 7.20, 7.21: point-to-point goes to the given address, to the peer at the given port, to the peer
+    -- 7.18, 7.19: point-to-point goes to the given address, to the peer at the given port, to the peer
     (destinations (awayOpen true 0x01020304 (single 1 101 10000) ∷ []) ≡ at 0x01020304 4444 ∷ []) ×
     (destinations (awayOpen true 0 (single 1 101 10000) ∷ []) ≡ at 8 4444 ∷ []) ×
     (destinations (awayOpen false 0x01020304 (single 1 101 10000) ∷ []) ≡ at 8 3333 ∷ [])
@@ -83,7 +83,7 @@ abbrev pub ids : State → List (ℕ × ℕ) × ℕ
 ids st = (map (λ c. (c .fixed .otid .0, c .fixed .toid .0)) (st .table), st .nextId)
 
 pub ids-in-turn :
-    -- 7.14, 7.15, 7.18: two for a new stream, one for a joiner, one for point-to-point
+    -- 7.8, 7.14, 7.15: two for a new stream, one for a joiner, one for point-to-point
     (ids (run (map opening (owner 1 101 10000 ∷ reader 2 101 10000 ∷ single 3 101 10000 ∷ reader 4 102 10000 ∷ [])) plant) ≡
     ((5, 6) ∷ (7, 6) ∷ (8, 77) ∷ (9, 10) ∷ [], 11)) ×
     -- 7.16: the seed with bit 0 set
@@ -93,7 +93,7 @@ pub ids-in-turn :
 unfolding opens
 ids-in-turn = (refl, refl, refl)
 
--- 7.23, 7.24: all that is kept of an owner of 151 and input 102, which is to time out after 20 ms times 16
+-- 7.22, 7.23: all that is kept of an owner of 151 and input 102, which is to time out after 20 ms times 16
 pub kept : run (awayOpen false 0 (ask 3 77 2 20000 0x4008 10000 0x4003 (path 151 102)) ∷ []) plant .table ≡
     record {
       fixed =
@@ -125,10 +125,11 @@ told-to request =
     (answerNumber a, answerBytes a)
 
 pub replies :
-    -- 7.25, 7.26: ids, triad, the O→T RPI as asked and the T→O RPI of the stream; that it is multicast, its port and group
-    (told-to (ask 2 0 0 50000 0x4000 20000 0x2003 (path 199 101)) ≡
-    (2 ^ 8 + 2 ^ 16 * 2222 + 2 ^ 32 * group,
-    7 ∷ 0 ∷ 0 ∷ 0 ∷ 6 ∷ 0 ∷ 0 ∷ 0 ∷ 2 ∷ 0 ∷ 1 ∷ 0 ∷ 1 ∷ 0 ∷ 0 ∷ 0 ∷ 0x50 ∷ 0xC3 ∷ 0 ∷ 0 ∷ 0x10 ∷ 0x27 ∷ 0 ∷ 0 ∷ 0 ∷ 0 ∷ [])) ×
+    -- 7.24, 7.25: ids, triad, the O→T RPI as asked and the T→O RPI of the stream; that it is multicast, its port and group
+    (told-to (ask 2 0 0 50000 0x4000 20000 0x2003 (path 199 101)) ≡ (
+      2 ^ 8 + 2 ^ 16 * 2222 + 2 ^ 32 * group,
+      7 ∷ 0 ∷ 0 ∷ 0 ∷ 6 ∷ 0 ∷ 0 ∷ 0 ∷ 2 ∷ 0 ∷ 1 ∷ 0 ∷ 1 ∷ 0 ∷ 0 ∷ 0 ∷ 0x50 ∷ 0xC3 ∷ 0 ∷ 0 ∷ 0x10 ∷ 0x27 ∷ 0 ∷ 0 ∷ 0 ∷ 0 ∷ [],
+    )) ×
     -- point-to-point: the originator's id, and no socket
     (told-to (single 2 101 20000) ≡
     (0, 7 ∷ 0 ∷ 0 ∷ 0 ∷ 77 ∷ 0 ∷ 0 ∷ 0 ∷ 2 ∷ 0 ∷ 1 ∷ 0 ∷ 1 ∷ 0 ∷ 0 ∷ 0 ∷ 0x10 ∷ 0x27 ∷ 0 ∷ 0 ∷ 0x20 ∷ 0x4E ∷ 0 ∷ 0 ∷ 0 ∷ 0 ∷ []))
@@ -140,17 +141,17 @@ abbrev pub configured : List ℕ → State
 configured segments = run (opening (with-data 5 segments) ∷ []) plant
 
 pub configuration-stored :
-    -- 7.27, 7.28: Opened, then Config of instance 5 and two bytes, which are in the assembly
+    -- 7.26: Opened, then Config of instance 5 and two bytes, which are in the assembly
     (told (configured (0x80 ∷ 1 ∷ 7 ∷ 8 ∷ [])) ≡ 1 ∷ 4 ∷ []) ×
     (getD (configured (0x80 ∷ 1 ∷ 7 ∷ 8 ∷ []) .events .waiting) 1 [] ≡ eventRecord (Configured 5 2)) ×
     (contentAt (configured (0x80 ∷ 1 ∷ 7 ∷ 8 ∷ [])) 2 .bytes ≡ 7 ∷ 8 ∷ []) ×
-    -- 7.29: without data, neither
+    -- 7.27: without data, neither
     (told (configured []) ≡ 1 ∷ []) ×
     (contentAt (configured []) 2 .bytes ≡ 0 ∷ 0 ∷ [])
 unfolding opens
 configuration-stored = (refl, refl, refl, refl, refl)
 
--- 7.30: an accepted open clears the fault mark, a refused one does not
+-- 7.28: an accepted open clears the fault mark, a refused one does not
 pub fault-cleared : (run (opening (reader 1 101 10000) ∷ []) (withFault true plant) .fault ≡ false) ×
     (run (opening (having 999 0x4008 10000 0x2003) ∷ []) (withFault true plant) .fault ≡ true)
 unfolding opens

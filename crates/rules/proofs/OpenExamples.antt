@@ -1,7 +1,7 @@
 -- An open, check by check: what passes just so, and what just does not. Examples.antt has a refusal of each check and the order of any two.
 use mathlib.Core.Path.{_≡_, refl}
 use mathlib.Core.List.{List, [], _∷_, _++_, map}
-use mathlib.Core.Bool.{Bool, true, false}
+use mathlib.Core.Bool.{true, false}
 use lib.ListN.{set, replicate}
 use Prim.Native.Nat.{ℕ}
 use Rattle.cells.specs.Numbers.{bytesLe}
@@ -9,11 +9,10 @@ use Rattle.wire_opens.specs.declared.NetType.the-variants.{Null, Reserved}
 use Rattle.rules.specs.State
 use Rattle.rules.specs.State.{State, Conn, withTable}
 use Rattle.rules.specs.Answers
-use Rattle.rules.specs.Answers.{Answer, Failed}
+use Rattle.rules.specs.Answers.{Failed}
 use Rattle.rules.specs.Setup.{fresh}
-use Rattle.rules.specs.Opening.{openCall}
 use Rattle.rules.specs.Calls.{run}
-use Rattle.rules.proofs.Examples.{ask, from, anyone}
+use Rattle.rules.proofs.Examples.{ask, anyone}
 use Rattle.rules.proofs.Plant.{plantOf, plant, path, along, having, owner, reader, listener, answer, accepted, opening}
 use Rattle.rules.proofs.Computing.{opens}
 
@@ -27,7 +26,7 @@ no-port = (refl, refl)
 abbrev pub revised : ℕ → ℕ → List ℕ
 revised major minor = 0x34 ∷ 4 ∷ bytesLe 2 1 ++ bytesLe 2 12 ++ bytesLe 2 3 ++ (major ∷ minor ∷ [])
 
--- 6.3: ours is 1.5; a minor revision of 0, and ours, need no bit 7; of two keys the last counts
+-- 6.3b: ours is 1.5; a minor revision of 0, and ours, need no bit 7; of two keys the last counts
 pub revisions : (accepted (along (revised 1 0 ++ path 150 101)) plant ≡ true) ×
     (accepted (along (revised 1 5 ++ path 150 101)) plant ≡ true) ×
     (accepted (along (revised 0 99 ++ path 150 101)) plant ≡ true) ×
@@ -50,7 +49,7 @@ class-and-points = (refl, refl, refl, refl, refl)
 abbrev pub shared : State
 shared = fresh (plantOf 150 150 1000 100000) 4
 
--- 6.4: such a number is the input-only heartbeat: the open's size is that of a heartbeat, and no stream is wanted
+-- 6.4b: such a number is the input-only heartbeat: the open's size is that of a heartbeat, and no stream is wanted
 pub heartbeats-first : (answer (along (path 150 101)) shared ≡ Failed (Answers.HeartbeatSize 8)) ×
     (accepted (ask 1 0 0 10000 0x4000 10000 0x2003 (path 150 101)) shared ≡ true)
 unfolding opens
@@ -60,8 +59,8 @@ heartbeats-first = (refl, refl)
 abbrev pub with-data : ℕ → List ℕ → List ℕ
 with-data instance segments = along (0x20 ∷ 4 ∷ 0x24 ∷ instance ∷ 0x2C ∷ 150 ∷ 0x2C ∷ 101 ∷ segments)
 
--- 6.5: data with two points, for an assembly of another kind, shorter than the assembly; a number without data names nothing; of two
--- data segments the last counts, an empty one too
+-- 6.5, 6.5a, 6.5b: data with two points, for an assembly of another kind, shorter than the assembly; a number without data may name
+-- nothing; of two data segments the last counts, an empty one too
 pub configuration : (answer (along (path 150 101 ++ (0x80 ∷ 1 ∷ 1 ∷ 2 ∷ []))) plant ≡ Failed (Answers.NoConfig 2)) ×
     (answer (with-data 151 (0x80 ∷ 1 ∷ 1 ∷ 2 ∷ [])) plant ≡ Failed (Answers.NoConfig 2)) ×
     (answer (with-data 6 (0x80 ∷ 1 ∷ 1 ∷ 2 ∷ [])) plant ≡ Failed (Answers.ConfigLength 2 4)) ×
@@ -92,7 +91,7 @@ types = (refl, refl, refl, refl)
 abbrev pub beating : ℕ → List ℕ
 beating params = ask 1 0 0 10000 params 10000 0x2003 (path 198 101)
 
--- 6.8, 6.9: less passes only if variable, more never; a heartbeat has 0, 2 or 6 bytes, variable or not
+-- 6.8, 6.8a, 6.9: less passes only if variable, more never; a heartbeat has 0, 2 or 6 bytes, variable or not
 pub sizes : (answer (having 10000 0x4007 10000 0x2003) plant ≡ Failed (Answers.OwnerSize 7 8)) ×
     (answer (having 10000 0x4209 10000 0x2003) plant ≡ Failed (Answers.OwnerSize 9 8)) ×
     (accepted (having 10000 0x4208 10000 0x2201) plant ≡ true) ×
@@ -132,7 +131,7 @@ someone =
 abbrev pub crowd : ℕ → State → State
 crowd n st = withTable (st .table ++ replicate n someone) st
 
--- 6.13: of several checks that do not hold in a full table, that it is full is said last
+-- 6.13, 6.14: of several checks that do not hold in a full table, that it is full is said last
 pub full-is-last : (answer (reader 2 101 10000) (crowd 32 plant) ≡ Failed Answers.Full) ×
     (accepted (reader 2 101 10000) (crowd 31 plant) ≡ true) ×
     (answer (reader 1 101 10000) (crowd 32 plant) ≡ Failed Answers.TriadInUse) ×
@@ -140,8 +139,3 @@ pub full-is-last : (answer (reader 2 101 10000) (crowd 32 plant) ≡ Failed Answ
     (answer (listener 2 102 10000) (crowd 32 plant) ≡ Failed Answers.NoStream)
 unfolding opens
 full-is-last = (refl, refl, refl, refl, refl)
-
--- 6.14: a check that does not hold is said even where the lent output has no room at all
-pub check-before-room : openCall 1000 0x54 (having 999 0x4008 10000 0x2003) (from 9) 0 plant ≡ (Failed (Answers.OtRpi 999 1000 100000), plant)
-unfolding opens
-check-before-room = refl

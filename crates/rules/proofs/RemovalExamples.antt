@@ -80,9 +80,9 @@ abbrev pub left : State → List ℕ × List (ℕ × ℕ)
 left st = (map (λ c. c .fixed .otid .0) (st .table), map (λ e. (getD e 0 0, getD e 16 0)) (st .events .waiting))
 
 pub listeners :
-    -- 8.6, 8.10, 8.11, 8.12: they close in table order, then the one that was closed is told
+    -- 8.6, 8.10, 8.11: they close in table order, then the one that was closed is told
     (left (closed (triad 5) (holding (listens 7 6 ∷ owner ∷ listens 8 6 ∷ []))) ≡ ([], (2, 7) ∷ (2, 8) ∷ (2, 5) ∷ [])) ×
-    -- 8.13: of one that fell silent it is told that it timed out; its listeners close as ever
+    -- 8.12: of one that fell silent it is told that it timed out; its listeners close as ever
     (left (expiredFirst 41001 (holding (owner ∷ listens 7 6 ∷ []))) ≡ ([], (2, 7) ∷ (3, 5) ∷ [])) ×
     -- 8.7: while another than a listener is left they stay
     (left (closed (triad 5) (holding (owner ∷ listens 7 6 ∷ joined 8 6 ∷ []))) ≡ (7 ∷ 8 ∷ [], (2, 5) ∷ [])) ×
@@ -101,14 +101,14 @@ abbrev pub running : State
 running = withContents (content true ∷ content true ∷ content true ∷ []) (holding (owner ∷ conn Owner 6 6 true 2 0 Never ∷ joined 7 6 ∷ []))
 
 pub outputs :
-    -- 8.14, 8.15, 8.16, 8.17: the output of the one that goes loses run, and that alone; bytes and mark stay
+    -- 8.13, 8.14, 8.15: the output of the one that goes loses run, and that alone; bytes and mark stay
     (closed (triad 6) running .contents ≡ content true ∷ content true ∷ content false ∷ []) ×
     -- with one that owns no output, none does
     (closed (triad 7) running .contents ≡ content true ∷ content true ∷ content true ∷ [])
 unfolding opens removals
 outputs = (refl, refl)
 
--- 8.18: a close leaves the fault mark as it is, silence sets it
+-- 8.16: a close leaves the fault mark as it is, silence sets it
 pub fault-mark : (map (λ b. closed (triad 5) (withFault b (holding (owner ∷ []))) .fault) (true ∷ false ∷ []) ≡ true ∷ false ∷ []) ×
     (expiredFirst 41001 (holding (owner ∷ [])) .fault ≡ true)
 unfolding opens removals
@@ -118,11 +118,11 @@ abbrev pub three : State
 three = holding (single 5 1 ∷ single 6 2 ∷ single 7 3 ∷ [])
 
 pub closes :
-    -- 8.19: the others stay as they are, in their order
+    -- 8.17: the others stay as they are, in their order
     (closed (triad 6) three .table ≡ single 5 1 ∷ single 7 3 ∷ []) ×
-    -- 8.20: the reply is the triad and two zero bytes
+    -- 8.18: the reply is the triad and two zero bytes
     (closeCall (ending 6) 10 three .0 ≡ Wrote (6 ∷ 0 ∷ 1 ∷ 0 ∷ 1 ∷ 0 ∷ 0 ∷ 0 ∷ 0 ∷ 0 ∷ [])) ×
-    -- 8.21: with too little room for it nothing is done
+    -- with too little room for it nothing is done
     (closeCall (ending 6) 9 three ≡ (Refused Answers.NoRoom, three))
 unfolding opens removals
 closes = (refl, refl, refl)
