@@ -15,7 +15,7 @@ use Rattle.rules.specs.Calls.{Call, run}
 use Rattle.rules.proofs.Examples.{ask, told}
 use Rattle.rules.proofs.Plant.{plant, path, having, owner, reader, single, listener, opening, side}
 use Rattle.rules.proofs.OpenExamples.{with-data}
-use Rattle.rules.proofs.Computing.{opens}
+use Rattle.rules.proofs.Computing.{openings}
 
 abbrev pub at : ℕ → ℕ → Socket
 at host port = record { address = host; port = port }
@@ -53,7 +53,7 @@ pub streams :
     (last stream (listener 2 101 20000) ≡ (7, 6, at group 2222, 10000, Never) ∷ []) ×
     -- 7.7: of two streams the first
     (last (stream ++ (reader 2 101 20000 ∷ [])) (listener 3 101 20000) ≡ (9, 6, at group 2222, 10000, Never) ∷ [])
-unfolding opens
+unfolding openings
 streams = (refl, refl, refl, refl, refl, refl, refl, refl)
 
 -- an open that arrives at host 9, whose class 1 port is 3333, perhaps with a T→O socket address
@@ -75,7 +75,7 @@ pub where-packets-go :
     (destinations (awayOpen true 0x01020304 (single 1 101 10000) ∷ []) ≡ at 0x01020304 4444 ∷ []) ×
     (destinations (awayOpen true 0 (single 1 101 10000) ∷ []) ≡ at 8 4444 ∷ []) ×
     (destinations (awayOpen false 0x01020304 (single 1 101 10000) ∷ []) ≡ at 8 3333 ∷ [])
-unfolding opens
+unfolding openings
 where-packets-go = (refl, refl, refl, refl, refl)
 
 -- the O→T and T→O ids in the table, and the id that is next
@@ -90,7 +90,7 @@ pub ids-in-turn :
     (map firstId (0 ∷ 4 ∷ 5 ∷ 0xFFFFFFFF ∷ []) ≡ 1 ∷ 5 ∷ 5 ∷ 0xFFFFFFFF ∷ []) ×
     -- 7.17: 1 comes after the greatest
     (ids (run (opening (reader 1 101 10000) ∷ []) (withNextId 0xFFFFFFFF plant)) ≡ ((0xFFFFFFFF, 1) ∷ [], 2))
-unfolding opens
+unfolding openings
 ids-in-turn = (refl, refl, refl)
 
 -- 7.22, 7.23: all that is kept of an owner of 151 and input 102, which is to time out after 20 ms times 16
@@ -115,7 +115,7 @@ pub kept : run (awayOpen false 0 (ask 3 77 2 20000 0x4008 10000 0x4003 (path 151
       heard = record { until = 321000; any = false; sequence = 0; anycip = false; cip = 0 };
       sent = record { sequence = 0; cip = 0; due = At 1000 };
     } ∷ []
-unfolding opens
+unfolding openings
 kept = refl
 
 -- a listener of the owner's stream, which asks for 50 and 20 ms, at host 9
@@ -133,7 +133,7 @@ pub replies :
     -- point-to-point: the originator's id, and no socket
     (told-to (single 2 101 20000) ≡
     (0, 7 ∷ 0 ∷ 0 ∷ 0 ∷ 77 ∷ 0 ∷ 0 ∷ 0 ∷ 2 ∷ 0 ∷ 1 ∷ 0 ∷ 1 ∷ 0 ∷ 0 ∷ 0 ∷ 0x10 ∷ 0x27 ∷ 0 ∷ 0 ∷ 0x20 ∷ 0x4E ∷ 0 ∷ 0 ∷ 0 ∷ 0 ∷ []))
-unfolding opens
+unfolding openings
 replies = (refl, refl)
 
 -- after an open with configuration data for instance 5, or none
@@ -148,11 +148,11 @@ pub configuration-stored :
     -- 7.27: without data, neither
     (told (configured []) ≡ 1 ∷ []) ×
     (contentAt (configured []) 2 .bytes ≡ 0 ∷ 0 ∷ [])
-unfolding opens
+unfolding openings
 configuration-stored = (refl, refl, refl, refl, refl)
 
 -- 7.28: an accepted open clears the fault mark, a refused one does not
 pub fault-cleared : (run (opening (reader 1 101 10000) ∷ []) (withFault true plant) .fault ≡ false) ×
     (run (opening (having 999 0x4008 10000 0x2003) ∷ []) (withFault true plant) .fault ≡ true)
-unfolding opens
+unfolding openings
 fault-cleared = (refl, refl)

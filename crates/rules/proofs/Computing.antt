@@ -1,4 +1,4 @@
--- What an example says to let the definitions compute: `unfolding opens` stands for every definition that an open goes through.
+-- What an example says to let the definitions compute: `unfolding openings` stands for every definition that an open goes through.
 use mathlib.Core.Bool.{Bool, true}
 use Rattle.cells.specs.Numbers.{le, leOf, bytesLe}
 use Rattle.cells.specs.BigEndian.{bytesBe}
@@ -17,9 +17,10 @@ use Rattle.rules.specs.Setup.{fresh}
 use Rattle.rules.specs.Events.{infoOf, infoRecord, eventRecord, oldestGone, appended, pushed, pushedAll}
 use Rattle.rules.specs.Checks.{must, andThen, transportCheck, pathCheck, revisionOk, keyStop, keyCheck, kindOf, placeOf, pointsCheck, rolesOf, configCheck, rpiCheck, typeCheck, otSizeCheck, toSizeCheck, triadCheck, ownerCheck, streamOf, streamCheck, roomCheck, planOf, verdict}
 use Rattle.rules.specs.Opening.{afterId, pointDest, groupDest, sideOf, newFixed, newHeard, newConn, opened, verdictOf, replyOf, openAnswer, openEffect, openCall}
-use Rattle.rules.specs.Removal.{removed, closed, closeAnswer, closeEffect, closeCall, expiredFirst, expireEffect, expireAnswer, expireCall}
+use Rattle.rules.specs.Removal.{removed, closed, closeAnswer, closeEffect, closeCall, expiredFirst, expireEffect, expireAnswer, expireCall, deadlineAnswer}
 use Rattle.rules.specs.Receiving.{newer, recorded, hear, taken, changes, deliver, received, receiveAnswer, receiveEffect, receiveCall}
 use Rattle.rules.specs.Producing.{sent, frameSent, packet, packets, counters, produceAnswer, produceEffect, produceCall}
+use Rattle.rules.specs.Host.{setInputAnswer, setInputEffect, setInputCall, outputAnswer, outputEffect, outputCall, nextEventAnswer, nextEventEffect, nextEventCall}
 
 -- bytes: numbers, paths, requests, replies
 unfoldable pub wire : Bool
@@ -42,16 +43,21 @@ unfolding infoOf infoRecord eventRecord oldestGone appended pushed pushedAll byt
 events = true
 
 -- an open
-unfoldable pub opens : Bool
+unfoldable pub openings : Bool
 unfolding wire checks events fresh answerNumber afterId pointDest groupDest sideOf newFixed newHeard newConn opened verdictOf replyOf openAnswer openEffect openCall
-opens = true
+openings = true
 
--- a close, an expiry
+-- a close, an expiry, the next deadline
 unfoldable pub removals : Bool
-unfolding wire events removed closed closeAnswer closeEffect closeCall expiredFirst expireEffect expireAnswer expireCall
+unfolding wire events removed closed closeAnswer closeEffect closeCall expiredFirst expireEffect expireAnswer expireCall deadlineAnswer
 removals = true
 
 -- a frame in, packets out
 unfoldable pub traffic : Bool
 unfolding frames events newer recorded hear taken changes deliver received receiveAnswer receiveEffect receiveCall sent frameSent packet packets counters produceAnswer produceEffect produceCall
 traffic = true
+
+-- an input set, an output and an event read
+unfoldable pub hosting : Bool
+unfolding setInputAnswer setInputEffect setInputCall outputAnswer outputEffect outputCall nextEventAnswer nextEventEffect nextEventCall
+hosting = true

@@ -14,12 +14,12 @@ use Rattle.rules.specs.Setup.{fresh}
 use Rattle.rules.specs.Calls.{run}
 use Rattle.rules.proofs.Examples.{ask, anyone}
 use Rattle.rules.proofs.Plant.{plantOf, plant, path, along, having, owner, reader, listener, answer, accepted, opening}
-use Rattle.rules.proofs.Computing.{opens}
+use Rattle.rules.proofs.Computing.{openings}
 
 -- 6.2: a port segment is barred as an attribute segment is, wherever it stands
 pub no-port : (answer (along (0x01 ∷ 5 ∷ path 150 101)) plant ≡ Failed Answers.PathBarred) ×
     (answer (along (path 150 101 ++ (0x30 ∷ 1 ∷ []))) plant ≡ Failed Answers.PathBarred)
-unfolding opens
+unfolding openings
 no-port = (refl, refl)
 
 -- a key of ours, but for its revision
@@ -33,7 +33,7 @@ pub revisions : (accepted (along (revised 1 0 ++ path 150 101)) plant ≡ true) 
     (answer (along (revised 0x82 1 ++ path 150 101)) plant ≡ Failed (Answers.KeyRevision 0x82 1 1 5)) ×
     (accepted (along (revised 2 0 ++ revised 1 0 ++ path 150 101)) plant ≡ true) ×
     (answer (along (revised 1 0 ++ revised 2 0 ++ path 150 101)) plant ≡ Failed (Answers.KeyRevision 2 0 1 5))
-unfolding opens
+unfolding openings
 revisions = (refl, refl, refl, refl, refl, refl)
 
 -- 6.4: a path without a class, of two classes the last, four points, instances for points
@@ -42,7 +42,7 @@ pub class-and-points : (answer (along (0x2C ∷ 150 ∷ 0x2C ∷ 101 ∷ [])) pl
     (answer (along (path 150 101 ++ (0x20 ∷ 6 ∷ []))) plant ≡ Failed (Answers.ClassNotFour true 6)) ×
     (answer (along (0x20 ∷ 4 ∷ 0x24 ∷ 5 ∷ 0x2C ∷ 150 ∷ 0x2C ∷ 101 ∷ 0x2C ∷ 101 ∷ [])) plant ≡ Failed (Answers.NumberCount 4)) ×
     (accepted (along (0x20 ∷ 4 ∷ 0x24 ∷ 150 ∷ 0x24 ∷ 101 ∷ [])) plant ≡ true)
-unfolding opens
+unfolding openings
 class-and-points = (refl, refl, refl, refl, refl)
 
 -- a number that is both heartbeats and an output
@@ -52,7 +52,7 @@ shared = fresh (plantOf 150 150 1000 100000) 4
 -- 6.4b: such a number is the input-only heartbeat: the open's size is that of a heartbeat, and no stream is wanted
 pub heartbeats-first : (answer (along (path 150 101)) shared ≡ Failed (Answers.HeartbeatSize 8)) ×
     (accepted (ask 1 0 0 10000 0x4000 10000 0x2003 (path 150 101)) shared ≡ true)
-unfolding opens
+unfolding openings
 heartbeats-first = (refl, refl)
 
 -- an instance, the points 150 and 101, data segments
@@ -67,7 +67,7 @@ pub configuration : (answer (along (path 150 101 ++ (0x80 ∷ 1 ∷ 1 ∷ 2 ∷ 
     (accepted (with-data 9 []) plant ≡ true) ×
     (accepted (with-data 5 (0x80 ∷ 2 ∷ 1 ∷ 2 ∷ 3 ∷ 4 ∷ 0x80 ∷ 1 ∷ 1 ∷ 2 ∷ [])) plant ≡ true) ×
     (accepted (with-data 9 (0x80 ∷ 1 ∷ 1 ∷ 2 ∷ 0x80 ∷ 0 ∷ [])) plant ≡ true)
-unfolding opens
+unfolding openings
 configuration = (refl, refl, refl, refl, refl, refl)
 
 -- 6.6: both ends of the range pass, for either direction; a range whose least is above its greatest holds nothing
@@ -76,7 +76,7 @@ pub range : (accepted (having 1000 0x4008 1000 0x2003) plant ≡ true) ×
     (answer (having 100001 0x4008 10000 0x2003) plant ≡ Failed (Answers.OtRpi 100001 1000 100000)) ×
     (answer (having 10000 0x4008 999 0x2003) plant ≡ Failed (Answers.ToRpi 999 1000 100000)) ×
     (answer (having 10000 0x4008 10000 0x2003) (fresh (plantOf 198 199 20000 1000) 4) ≡ Failed (Answers.OtRpi 10000 20000 1000))
-unfolding opens
+unfolding openings
 range = (refl, refl, refl, refl, refl)
 
 -- 6.7: null and reserved pass in neither direction
@@ -84,7 +84,7 @@ pub types : (answer (having 10000 0x0008 10000 0x2003) plant ≡ Failed (Answers
     (answer (having 10000 0x6008 10000 0x2003) plant ≡ Failed (Answers.OtType Reserved)) ×
     (answer (having 10000 0x4008 10000 0x6003) plant ≡ Failed (Answers.ToType Reserved)) ×
     (accepted (having 10000 0x4008 10000 0x4003) plant ≡ true)
-unfolding opens
+unfolding openings
 types = (refl, refl, refl, refl)
 
 -- a heartbeat of an input-only open
@@ -102,13 +102,13 @@ pub sizes : (answer (having 10000 0x4007 10000 0x2003) plant ≡ Failed (Answers
     (answer (beating 0x4004) plant ≡ Failed (Answers.HeartbeatSize 4)) ×
     (answer (beating 0x4204) plant ≡ Failed (Answers.HeartbeatSize 4)) ×
     (answer (beating 0x4008) plant ≡ Failed (Answers.HeartbeatSize 8))
-unfolding opens
+unfolding openings
 sizes = (refl, refl, refl, refl, refl, refl, refl, refl, refl, refl)
 
 -- 6.10: another serial number, vendor or originator is another triad
 pub triads : (answer (reader 1 101 10000) (run (opening (reader 1 101 10000) ∷ []) plant) ≡ Failed Answers.TriadInUse) ×
     (map (λ place. accepted (set (reader 1 101 10000) place 9) (run (opening (reader 1 101 10000) ∷ []) plant)) (10 ∷ 12 ∷ 14 ∷ []) ≡ true ∷ true ∷ true ∷ [])
-unfolding opens
+unfolding openings
 triads = (refl, refl)
 
 -- 6.11: an output is owned by an owner of it, not by one of another output, nor by a reader
@@ -116,7 +116,7 @@ pub ownership : (accepted (owner 2 101 10000) (run (opening (ask 1 0 0 10000 0x4
     (accepted (owner 2 101 10000) (run (opening (reader 1 101 10000) ∷ []) plant) ≡ true) ×
     (answer (owner 2 102 10000) (run (opening (owner 1 101 10000) ∷ []) plant) ≡ Failed (Answers.Owned 150)) ×
     (accepted (reader 2 101 10000) (run (opening (owner 1 101 10000) ∷ []) plant) ≡ true)
-unfolding opens
+unfolding openings
 ownership = (refl, refl, refl, refl)
 
 -- a table of so many connections of one reader, behind those of a run
@@ -137,5 +137,5 @@ pub full-is-last : (answer (reader 2 101 10000) (crowd 32 plant) ≡ Failed Answ
     (answer (reader 1 101 10000) (crowd 32 plant) ≡ Failed Answers.TriadInUse) ×
     (answer (owner 2 101 10000) (crowd 31 (run (opening (owner 3 101 10000) ∷ []) plant)) ≡ Failed (Answers.Owned 150)) ×
     (answer (listener 2 102 10000) (crowd 32 plant) ≡ Failed Answers.NoStream)
-unfolding opens
+unfolding openings
 full-is-last = (refl, refl, refl, refl, refl)

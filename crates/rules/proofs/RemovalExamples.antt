@@ -10,7 +10,7 @@ use Rattle.rules.specs.Answers.{Wrote, Refused}
 use Rattle.rules.specs.Removal.{closed, closeCall, expiredFirst}
 use Rattle.rules.proofs.Examples.{ending}
 use Rattle.rules.proofs.Plant.{plant}
-use Rattle.rules.proofs.Computing.{opens, removals}
+use Rattle.rules.proofs.Computing.{openings, removals}
 
 abbrev pub triad : ℕ → Triad
 triad serial = record { serial = serial; vendor = 1; originator = 1 }
@@ -72,7 +72,7 @@ pub hand-over :
     -- 8.4: not one of another stream, nor a point-to-point one of its number
     (pace (closed (triad 5) (holding (sends 6 7 ∷ owner ∷ single 8 6 ∷ joined 9 6 ∷ []))) ≡
     (6, 8, 8, At 19000) ∷ (8, 9, 9, At 20000) ∷ (9, 3, 3, At 11000) ∷ [])
-unfolding opens removals
+unfolding openings removals
 hand-over = (refl, refl, refl, refl)
 
 -- the O→T ids that are left; of each event what it tells, and the O→T id
@@ -90,7 +90,7 @@ pub listeners :
     (left (closed (triad 7) (holding (listens 7 6 ∷ listens 8 6 ∷ []))) ≡ (8 ∷ [], (2, 7) ∷ [])) ×
     -- 8.9: those of another stream stay
     (left (closed (triad 5) (holding (owner ∷ sends 6 7 ∷ listens 8 7 ∷ listens 9 6 ∷ []))) ≡ (6 ∷ 8 ∷ [], (2, 9) ∷ (2, 5) ∷ []))
-unfolding opens removals
+unfolding openings removals
 listeners = (refl, refl, refl, refl, refl)
 
 -- an assembly with bytes, in run or not, whose Output event waits; three of them
@@ -105,13 +105,13 @@ pub outputs :
     (closed (triad 6) running .contents ≡ content true ∷ content true ∷ content false ∷ []) ×
     -- with one that owns no output, none does
     (closed (triad 7) running .contents ≡ content true ∷ content true ∷ content true ∷ [])
-unfolding opens removals
+unfolding openings removals
 outputs = (refl, refl)
 
 -- 8.16: a close leaves the fault mark as it is, silence sets it
 pub fault-mark : (map (λ b. closed (triad 5) (withFault b (holding (owner ∷ []))) .fault) (true ∷ false ∷ []) ≡ true ∷ false ∷ []) ×
     (expiredFirst 41001 (holding (owner ∷ [])) .fault ≡ true)
-unfolding opens removals
+unfolding openings removals
 fault-mark = (refl, refl)
 
 abbrev pub three : State
@@ -124,5 +124,5 @@ pub closes :
     (closeCall (ending 6) 10 three .0 ≡ Wrote (6 ∷ 0 ∷ 1 ∷ 0 ∷ 1 ∷ 0 ∷ 0 ∷ 0 ∷ 0 ∷ 0 ∷ [])) ×
     -- with too little room for it nothing is done
     (closeCall (ending 6) 9 three ≡ (Refused Answers.NoRoom, three))
-unfolding opens removals
+unfolding openings removals
 closes = (refl, refl, refl)
