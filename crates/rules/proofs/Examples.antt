@@ -7,37 +7,31 @@ use mathlib.Core.Option.{none, some}
 use mathlib.Core.Bool.{Bool, true, false}
 use Prim.Native.Nat.{ℕ, _+_, _*_, _/_, _^_}
 use lib.ListN.{length, getD, set, replicate}
-use Rattle.cells.specs.Numbers.{le, leOf, bytesLe}
-use Rattle.cells.specs.BigEndian.{bytesBe}
-use Rattle.cells.specs.Records.{sum, encFields}
-use Rattle.wire_items.specs.Items.{startOf, stepAt, itemsFrom, itemsOf}
-use Rattle.wire_items.specs.Frames.{ioOf, ioFrame}
-use Rattle.wire_paths.specs.Segments.{portAt, logicalAt, keyOf, keyAt, dataAt, segAt, segsFrom, segsOf}
+use Rattle.cells.specs.Numbers.{bytesLe}
+use Rattle.cells.specs.Records.{sum}
+use Rattle.wire_items.specs.Frames.{ioFrame}
+use Rattle.wire_paths.specs.Segments.{segsOf}
 use Rattle.wire_paths.specs.Segments
-use Rattle.wire_paths.specs.ConnectionPath.{gather, last, connectionPath, pathOf}
-use Rattle.wire_paths.specs.ConnectionPath
 use Rattle.wire_opens.specs.Examples.{Example, _is_, Hold, address}
-use Rattle.wire_opens.specs.Params.{smallParams, paramsAt}
+use Rattle.wire_opens.specs.Params.{smallParams}
 use Rattle.wire_opens.specs.Timeout.{timeoutOf}
 use Rattle.wire_opens.specs.Group.{groupOfHost}
 use Rattle.wire_opens.specs.declared.NetType.the-variants.{Null, Multicast}
 use Rattle.wire_paths.specs.declared.Seg.the-variants.{Class, Instance, Point}
-use Rattle.wire_opens.specs.Requests.{triadAt, wayAt, placeAt, fieldsOf, openWith, widthOf, openOf, closeOf}
 use Rattle.rules.specs.State
 use Rattle.rules.specs.State.{Input, Output, Config, Due, Never, At, Conn, Setup, Content, State, Origin, Fixed, Events, OutputChanged}
 use Rattle.rules.specs.Answers
 use Rattle.rules.specs.Answers.{Answer, Wrote, Gone, Refused, Failed, NoRoom, NothingThere, answerNumber}
-use Rattle.rules.specs.Setup.{setupOk, fresh}
-use Rattle.rules.specs.Events.{infoOf, infoRecord, eventRecord, oldestGone, appended, pushed, pushedAll}
-use Rattle.wire_replies.specs.Replies.{openReply, triadReply}
-use Rattle.rules.specs.Checks.{must, andThen, transportCheck, pathCheck, revisionOk, keyStop, keyCheck, kindOf, placeOf, pointsCheck, rolesOf, configCheck, rpiCheck, typeCheck, otSizeCheck, toSizeCheck, triadCheck, ownerCheck, streamOf, streamCheck, roomCheck, planOf, verdict}
-use Rattle.rules.specs.Opening.{afterId, pointDest, groupDest, sideOf, newFixed, newHeard, newConn, opened, verdictOf, replyOf, openAnswer, openEffect, openCall}
-use Rattle.rules.specs.Removal.{removed, closed, closeAnswer, closeEffect, closeCall, expiredFirst, expireEffect, expireAnswer, expireCall, deadlineAnswer}
-use Rattle.rules.specs.Receiving.{newer, recorded, hear, taken, changes, deliver, received, receiveAnswer, receiveEffect, receiveCall}
-use Rattle.rules.specs.Producing.{sent, frameSent, packet, packets, counters, produceAnswer, produceEffect, produceCall}
-use Rattle.rules.specs.Host.{setInputAnswer, setInputEffect, setInputCall, outputAnswer, outputEffect, outputCall, nextEventAnswer, nextEventEffect, nextEventCall}
+use Rattle.rules.specs.Setup.{fresh}
+use Rattle.rules.specs.Events.{pushed}
+use Rattle.rules.specs.Checks.{roomCheck}
+use Rattle.rules.specs.Opening.{openCall}
+use Rattle.rules.specs.Removal.{expireCall, deadlineAnswer}
+use Rattle.rules.specs.Receiving.{newer}
+use Rattle.rules.specs.Producing.{produceCall}
 use Rattle.rules.specs.Upload.{checksum}
 use Rattle.rules.specs.Calls.{Call, run}
+use Rattle.rules.proofs.Computing.{wire, openings, removals, traffic, hosting}
 
 -- ---- document 01's fixed examples
 
@@ -63,7 +57,7 @@ fixedExamples =
     []
 
 pub fixed-examples : Hold fixedExamples
-unfolding fresh setupOk answerNumber le leOf bytesLe bytesBe startOf stepAt itemsFrom itemsOf ioOf ioFrame portAt logicalAt keyOf keyAt dataAt segAt Segments.between Segments.stepAt segsFrom segsOf gather ConnectionPath.some last connectionPath pathOf paramsAt triadAt wayAt placeAt fieldsOf openWith widthOf openOf closeOf infoOf infoRecord eventRecord oldestGone appended pushed pushedAll openReply triadReply encFields must andThen transportCheck pathCheck revisionOk keyStop keyCheck kindOf placeOf pointsCheck rolesOf configCheck rpiCheck typeCheck otSizeCheck toSizeCheck triadCheck ownerCheck streamOf streamCheck roomCheck planOf verdict afterId pointDest groupDest sideOf newFixed newHeard newConn opened verdictOf replyOf openAnswer openEffect openCall removed closed closeAnswer closeEffect closeCall expiredFirst expireEffect expireAnswer expireCall deadlineAnswer newer recorded hear taken changes deliver received receiveAnswer receiveEffect receiveCall sent frameSent packet packets counters produceAnswer produceEffect produceCall setInputAnswer setInputEffect setInputCall outputAnswer outputEffect outputCall nextEventAnswer nextEventEffect nextEventCall checksum sum
+unfolding wire traffic checksum sum
 fixed-examples = (refl, (refl, (refl, (refl, (refl, (refl, (refl, (refl, (refl, (refl, (refl, (refl, (refl, tt)))))))))))))
 
 -- ---- a day
@@ -174,7 +168,7 @@ theDay =
     []
 
 pub the-day : Hold theDay
-unfolding fresh setupOk answerNumber le leOf bytesLe bytesBe startOf stepAt itemsFrom itemsOf ioOf ioFrame portAt logicalAt keyOf keyAt dataAt segAt Segments.between Segments.stepAt segsFrom segsOf gather ConnectionPath.some last connectionPath pathOf paramsAt triadAt wayAt placeAt fieldsOf openWith widthOf openOf closeOf infoOf infoRecord eventRecord oldestGone appended pushed pushedAll openReply triadReply encFields must andThen transportCheck pathCheck revisionOk keyStop keyCheck kindOf placeOf pointsCheck rolesOf configCheck rpiCheck typeCheck otSizeCheck toSizeCheck triadCheck ownerCheck streamOf streamCheck roomCheck planOf verdict afterId pointDest groupDest sideOf newFixed newHeard newConn opened verdictOf replyOf openAnswer openEffect openCall removed closed closeAnswer closeEffect closeCall expiredFirst expireEffect expireAnswer expireCall deadlineAnswer newer recorded hear taken changes deliver received receiveAnswer receiveEffect receiveCall sent frameSent packet packets counters produceAnswer produceEffect produceCall setInputAnswer setInputEffect setInputCall outputAnswer outputEffect outputCall nextEventAnswer nextEventEffect nextEventCall
+unfolding openings removals traffic
 the-day = (refl, (refl, (refl, (refl, (refl, (refl, (refl, (refl, (refl, (refl, (refl, (refl, (refl, (refl, (refl, (refl, tt))))))))))))))))
 
 -- ---- easy slips
@@ -252,7 +246,7 @@ slips =
     []
 
 pub no-slips : Hold slips
-unfolding fresh setupOk answerNumber le leOf bytesLe bytesBe startOf stepAt itemsFrom itemsOf ioOf ioFrame portAt logicalAt keyOf keyAt dataAt segAt Segments.between Segments.stepAt segsFrom segsOf gather ConnectionPath.some last connectionPath pathOf paramsAt triadAt wayAt placeAt fieldsOf openWith widthOf openOf closeOf infoOf infoRecord eventRecord oldestGone appended pushed pushedAll openReply triadReply encFields must andThen transportCheck pathCheck revisionOk keyStop keyCheck kindOf placeOf pointsCheck rolesOf configCheck rpiCheck typeCheck otSizeCheck toSizeCheck triadCheck ownerCheck streamOf streamCheck roomCheck planOf verdict afterId pointDest groupDest sideOf newFixed newHeard newConn opened verdictOf replyOf openAnswer openEffect openCall removed closed closeAnswer closeEffect closeCall expiredFirst expireEffect expireAnswer expireCall deadlineAnswer newer recorded hear taken changes deliver received receiveAnswer receiveEffect receiveCall sent frameSent packet packets counters produceAnswer produceEffect produceCall setInputAnswer setInputEffect setInputCall outputAnswer outputEffect outputCall nextEventAnswer nextEventEffect nextEventCall
+unfolding openings removals traffic hosting
 no-slips = (refl, (refl, (refl, (refl, (refl, (refl, (refl, (refl, (refl, (refl, (refl, (refl, (refl, (refl, (refl, tt)))))))))))))))
 
 -- ---- the checks
@@ -316,7 +310,7 @@ theChecks =
     []
 
 pub the-checks : Hold theChecks
-unfolding fresh setupOk answerNumber le leOf bytesLe bytesBe startOf stepAt itemsFrom itemsOf ioOf ioFrame portAt logicalAt keyOf keyAt dataAt segAt Segments.between Segments.stepAt segsFrom segsOf gather ConnectionPath.some last connectionPath pathOf paramsAt triadAt wayAt placeAt fieldsOf openWith widthOf openOf closeOf infoOf infoRecord eventRecord oldestGone appended pushed pushedAll openReply triadReply encFields must andThen transportCheck pathCheck revisionOk keyStop keyCheck kindOf placeOf pointsCheck rolesOf configCheck rpiCheck typeCheck otSizeCheck toSizeCheck triadCheck ownerCheck streamOf streamCheck roomCheck planOf verdict afterId pointDest groupDest sideOf newFixed newHeard newConn opened verdictOf replyOf openAnswer openEffect openCall removed closed closeAnswer closeEffect closeCall expiredFirst expireEffect expireAnswer expireCall deadlineAnswer newer recorded hear taken changes deliver received receiveAnswer receiveEffect receiveCall sent frameSent packet packets counters produceAnswer produceEffect produceCall setInputAnswer setInputEffect setInputCall outputAnswer outputEffect outputCall nextEventAnswer nextEventEffect nextEventCall
+unfolding openings
 the-checks = (refl, (refl, (refl, (refl, (refl, (refl, (refl, (refl, (refl, (refl, (refl, (refl, (refl, (refl, (refl, (refl, (refl, (refl, (refl, (refl, (refl, (refl, (refl, (refl, (refl, (refl, (refl, (refl, (refl, (refl, (refl, (refl, (refl, tt)))))))))))))))))))))))))))))))))
 
 -- the words, by check
@@ -336,10 +330,10 @@ words =
     []
 
 pub the-words : Hold words
-unfolding fresh setupOk answerNumber le leOf bytesLe bytesBe startOf stepAt itemsFrom itemsOf ioOf ioFrame portAt logicalAt keyOf keyAt dataAt segAt Segments.between Segments.stepAt segsFrom segsOf gather ConnectionPath.some last connectionPath pathOf paramsAt triadAt wayAt placeAt fieldsOf openWith widthOf openOf closeOf infoOf infoRecord eventRecord oldestGone appended pushed pushedAll openReply triadReply encFields must andThen transportCheck pathCheck revisionOk keyStop keyCheck kindOf placeOf pointsCheck rolesOf configCheck rpiCheck typeCheck otSizeCheck toSizeCheck triadCheck ownerCheck streamOf streamCheck roomCheck planOf verdict afterId pointDest groupDest sideOf newFixed newHeard newConn opened verdictOf replyOf openAnswer openEffect openCall removed closed closeAnswer closeEffect closeCall expiredFirst expireEffect expireAnswer expireCall deadlineAnswer newer recorded hear taken changes deliver received receiveAnswer receiveEffect receiveCall sent frameSent packet packets counters produceAnswer produceEffect produceCall setInputAnswer setInputEffect setInputCall outputAnswer outputEffect outputCall nextEventAnswer nextEventEffect nextEventCall
+unfolding openings
 the-words = (refl, (refl, (refl, (refl, (refl, (refl, tt))))))
 
--- of two checks that do not hold, the one that is named first in document 01 is answered
+-- 6.14: of two checks that do not hold the first is answered
 abbrev pub theOrder : List Example
 theOrder =
     (refused (set (ask 1 0 0 10000 0x4008 10000 0x2003 (0x30 ∷ 1 ∷ points 150)) 34 0x81) start is Failed (Answers.Transport 0x81)) ∷
@@ -357,5 +351,5 @@ theOrder =
     []
 
 pub the-order : Hold theOrder
-unfolding fresh setupOk answerNumber le leOf bytesLe bytesBe startOf stepAt itemsFrom itemsOf ioOf ioFrame portAt logicalAt keyOf keyAt dataAt segAt Segments.between Segments.stepAt segsFrom segsOf gather ConnectionPath.some last connectionPath pathOf paramsAt triadAt wayAt placeAt fieldsOf openWith widthOf openOf closeOf infoOf infoRecord eventRecord oldestGone appended pushed pushedAll openReply triadReply encFields must andThen transportCheck pathCheck revisionOk keyStop keyCheck kindOf placeOf pointsCheck rolesOf configCheck rpiCheck typeCheck otSizeCheck toSizeCheck triadCheck ownerCheck streamOf streamCheck roomCheck planOf verdict afterId pointDest groupDest sideOf newFixed newHeard newConn opened verdictOf replyOf openAnswer openEffect openCall removed closed closeAnswer closeEffect closeCall expiredFirst expireEffect expireAnswer expireCall deadlineAnswer newer recorded hear taken changes deliver received receiveAnswer receiveEffect receiveCall sent frameSent packet packets counters produceAnswer produceEffect produceCall setInputAnswer setInputEffect setInputCall outputAnswer outputEffect outputCall nextEventAnswer nextEventEffect nextEventCall
+unfolding openings
 the-order = (refl, (refl, (refl, (refl, (refl, (refl, (refl, (refl, (refl, (refl, (refl, (refl, tt))))))))))))

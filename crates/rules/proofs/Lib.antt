@@ -7,6 +7,11 @@ pub mod ReplyLaws
 pub mod UploadLaws
 pub mod UploadMessages
 pub mod Examples
+pub mod Computing
+pub mod Plant
+pub mod OpenExamples
+pub mod AcceptedExamples
+pub mod RemovalExamples
 pub mod ObjectExamples
 pub mod RoutingExamples
 pub mod Small

@@ -1,4 +1,5 @@
--- An open, check by check: the DECISION. It reads the setup and the fixed parts of the table, and nothing else of the state.
+-- An open, check by check: the DECISION (rules 6.1 to 6.15, and 7.1 to 7.7 for the stream). It reads the setup and the fixed parts of
+-- the table, and nothing else of the state.
 use mathlib.Core.List.{List, [], _∷_}
 use mathlib.Core.Option.{Option, none, some}
 use mathlib.Core.Bool.{Bool, true, false, cond, not, _&&_, _||_}
@@ -34,11 +35,11 @@ firstStop [] = none
 firstStop (none ∷ cs) = firstStop cs
 firstStop (some s ∷ cs) = some s
 
--- check 1
+-- 6.1: the class and the direction of the transport byte
 unfoldable pub transportCheck : ForwardOpen → Option Stop
 transportCheck o = must (transportOk (o .transport)) (Answers.Transport (o .transport))
 
--- check 2
+-- 6.2: the path parses, and holds no port and no attribute segment
 unfoldable pub pathCheck : PathAnswer → Option Stop
 pathCheck (Unparsed offset) = some (Answers.PathBroken offset)
 pathCheck (Parsed p) = must (not (p .barred)) Answers.PathBarred
@@ -64,16 +65,17 @@ abbrev pub pathIn : PathAnswer → ConnectionPath
 pathIn (Unparsed offset) = noPath
 pathIn (Parsed p) = p
 
--- check 3: a number of the key that is 0 matches any
+-- 6.3a: a number of the key that is 0 is any
 abbrev pub anyOr : ℕ → ℕ → Bool
 anyOr ours asked = eqb asked 0 || eqb asked ours
 
--- the major revision without bit 7 is 0 (minor then unread), or is ours with minor 0, ours, or below ours where bit 7 is set
+-- 6.3b: the major revision is 0 (the minor is then not read), or ours with minor 0, ours, or below ours where the compatibility bit is set
 unfoldable pub revisionOk : Identity → Key → Bool
 revisionOk us k =
     eqb (majorOf (k .major)) 0 ||
     eqb (majorOf (k .major)) (us .major) && (anyOr (us .minor) (k .minor) || compatibleBit (k .major) && ltb (k .minor) (us .minor))
 
+-- 6.3: vendor, product code, device type, revision, in this order
 unfoldable pub keyStop : Identity → Key → Option Stop
 keyStop us k =
     andThen (must (anyOr (us .vendor) (k .vendor)) (Answers.KeyVendor (k .vendor) (us .vendor)))
@@ -84,7 +86,7 @@ keyStop us k =
 unfoldable pub keyCheck : Identity → ConnectionPath → Option Stop
 keyCheck us p = cond (p .haskey) (keyStop us (p .key)) none
 
--- check 4: two or three instances and points: configuration if three, O→T, T→O
+-- 6.4a: configuration if there are three, O→T, T→O
 abbrev pub hasConfig : ConnectionPath → Bool
 hasConfig p = eqb (p .count) 3
 
@@ -97,7 +99,7 @@ otPoint p = cond (hasConfig p) (p .second) (p .first)
 abbrev pub toPoint : ConnectionPath → ℕ
 toPoint p = cond (hasConfig p) (p .third) (p .second)
 
--- O→T is tried as input-only heartbeat, listen-only heartbeat, output assembly
+-- 6.4b: O→T is tried as input-only heartbeat, listen-only heartbeat, output assembly
 unfoldable pub kindOf : Setup → ℕ → Kind
 kindOf u point = cond (eqb point (u .inputOnly)) InputOnly (cond (eqb point (u .listenOnly)) ListenOnly Owner)
 
@@ -111,6 +113,7 @@ placeOf is u n = place (isAt is n) (u .assemblies)
 abbrev pub placeOr0 : Option ℕ → ℕ
 placeOr0 i = maybe 0 (λ n. n) i
 
+-- 6.4, 6.4b, 6.4c: class 4, two or three numbers, an output unless O→T is a heartbeat, an input
 unfoldable pub pointsCheck : Setup → ConnectionPath → Option Stop
 pointsCheck u p =
     andThen (must (p .hasclass && eqb (p .class) 4) (Answers.ClassNotFour (p .hasclass) (p .class)))
@@ -134,15 +137,16 @@ rolesOf u p =
       config = cond (hasConfig p) (placeOf isConfig u (configPoint p)) none;
     }
 
--- check 5: non-empty configuration data without a configuration assembly, or of another length
+-- 6.5, 6.5a: data without a configuration assembly, or of another length
 abbrev pub configStop : Setup → ℕ → Option ℕ → Option Stop
 configStop u length none = some (Answers.NoConfig length)
 configStop u length (some i) = must (eqb (shapeAt u i .size) length) (Answers.ConfigLength length (shapeAt u i .size))
 
+-- 6.5b: without data nothing is asked
 unfoldable pub configCheck : Setup → ConnectionPath → Roles → Option Stop
 configCheck u p r = cond (eqb (p .datalen) 0) none (configStop u (p .datalen) (r .config))
 
--- check 6: either RPI outside the range, whose ends pass
+-- 6.6: both RPIs are within the range, whose ends pass
 abbrev pub rpiOk : Setup → ℕ → Bool
 rpiOk u rpi = leb (u .rpiMin) rpi && leb rpi (u .rpiMax)
 
@@ -151,7 +155,7 @@ rpiCheck u o =
     andThen (must (rpiOk u (o .ot .rpi)) (Answers.OtRpi (o .ot .rpi) (u .rpiMin) (u .rpiMax)))
     (must (rpiOk u (o .to .rpi)) (Answers.ToRpi (o .to .rpi) (u .rpiMin) (u .rpiMax)))
 
--- check 7: O→T point-to-point, T→O that or multicast
+-- 6.7: O→T point-to-point, T→O that or multicast
 abbrev pub isPoint : NetType → Bool
 isPoint Null = false
 isPoint Multicast = false
@@ -172,33 +176,34 @@ typeCheck o =
     andThen (must (isPoint (o .ot .params .net)) (Answers.OtType (o .ot .params .net)))
     (must (isPoint (o .to .params .net) || asksMulticast o) (Answers.ToType (o .to .params .net)))
 
--- checks 8 and 9: equal, or less if variable
+-- 6.8, 6.9: equal, or less if variable
 abbrev pub sizeOk : NetParams → ℕ → Bool
 sizeOk n wanted = eqb (n .size) wanted || n .variable && leb (n .size) wanted
 
--- check 8: owner, output plus 6; others 0, 2 or 6
+-- 6.8a: a heartbeat has nothing, a CIP sequence, or that and a run/idle header
 abbrev pub beatSize : ℕ → Bool
 beatSize n = eqb n 0 || eqb n 2 || eqb n 6
 
+-- 6.8, 6.8a: an owner's data have a CIP sequence and a header before them
 unfoldable pub otSizeCheck : Setup → ForwardOpen → Roles → Option Stop
 otSizeCheck u o r =
     cond (isOwner (r .kind))
     (must (sizeOk (o .ot .params) (shapeAt u (r .output) .size + 6)) (Answers.OwnerSize (o .ot .params .size) (shapeAt u (r .output) .size + 6)))
     (must (beatSize (o .ot .params .size)) (Answers.HeartbeatSize (o .ot .params .size)))
 
--- check 9: input plus 2
+-- 6.9: ours have a CIP sequence
 unfoldable pub toSizeCheck : Setup → ForwardOpen → Roles → Option Stop
 toSizeCheck u o r =
     must (sizeOk (o .to .params) (shapeAt u (r .input) .size + 2)) (Answers.InputSize (o .to .params .size) (shapeAt u (r .input) .size + 2))
 
--- check 10: triad in use
+-- 6.10: the triad is not in use
 abbrev pub hasTriad : Triad → Fixed → Bool
 hasTriad t f = triadIs t (f .triad)
 
 unfoldable pub triadCheck : ForwardOpen → List Fixed → Option Stop
 triadCheck o table = must (not (any (hasTriad (o .triad)) table)) Answers.TriadInUse
 
--- check 11: owner of an owned output
+-- 6.11: the output has no owner
 abbrev pub owns : ℕ → Fixed → Bool
 owns i f = isOwner (f .kind) && eqb (f .output) i
 
@@ -206,8 +211,7 @@ unfoldable pub ownerCheck : Setup → Roles → List Fixed → Option Stop
 ownerCheck u r table =
     must (not (isOwner (r .kind) && any (owns (r .output)) table)) (Answers.Owned (shapeAt u (r .output) .instance))
 
--- a stream for a multicast open: the first multicast connection in the table, not listen-only, on the same input, with equal
--- T→O RPI unless the open is listen-only
+-- 7.2 to 7.6: a multicast connection, not listen-only, on the same input, with equal T→O RPI unless the open is listen-only
 abbrev pub carries : ForwardOpen → Roles → Fixed → Bool
 carries o r f =
     f .multicast && not (isListener (f .kind)) && eqb (f .input) (r .input) && (isListener (r .kind) || eqb (f .torpi) (o .to .rpi))
@@ -216,6 +220,7 @@ abbrev pub streamFound : Option Fixed → Stream
 streamFound none = Own
 streamFound (some f) = Joins (f .toid) (f .dest) (f .torpi)
 
+-- 7.1, 7.7: the stream of a multicast open, the first such in the table
 unfoldable pub streamOf : ForwardOpen → Roles → List Fixed → Stream
 streamOf o r table = cond (asksMulticast o) (streamFound (find (carries o r) table)) Own
 
@@ -223,19 +228,19 @@ abbrev pub joins : Stream → Bool
 joins (Joins toid dest torpi) = true
 joins Own = false
 
--- check 12: listen-only without a stream
+-- 6.12: a listen-only open has a stream
 unfoldable pub streamCheck : ForwardOpen → Roles → List Fixed → Option Stop
 streamCheck o r table =
     must (not (isListener (r .kind)) || joins (streamOf o r table)) (cond (asksMulticast o) Answers.NoStream Answers.ListenPointToPoint)
 
--- check 13: table full
+-- 6.13: the table has room
 abbrev pub maxConnections : ℕ
 maxConnections = 32
 
 unfoldable pub roomCheck : List Fixed → Option Stop
 roomCheck table = must (ltb (length table) maxConnections) Answers.Full
 
--- THE THIRTEEN CHECKS
+-- 6.14: THE THIRTEEN CHECKS, in their order
 abbrev pub checks : Setup → List Fixed → ForwardOpen → PathAnswer → List (Option Stop)
 checks u table o answer =
     let p = pathIn answer in
@@ -255,7 +260,7 @@ checks u table o answer =
     roomCheck table ∷
     []
 
--- where configuration data goes
+-- where configuration data goes; 7.27: nowhere without data
 abbrev pub storesInto : Option ℕ → Stores
 storesInto none = Nothing
 storesInto (some i) = Into i

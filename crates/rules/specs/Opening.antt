@@ -1,4 +1,4 @@
--- An open that passes every check: the EFFECT. Ids, stream, the new connection, events, configuration data, fault mark.
+-- An open that passes every check: the EFFECT (rules 7.8 to 7.28). Ids, stream, the new connection, events, configuration data, fault mark.
 use mathlib.Core.List.{List, [], _∷_, _++_}
 use mathlib.Core.Bool.{true, false, cond}
 use Prim.Native.Nat.{ℕ, _+_, _-_, _^_}
@@ -19,18 +19,19 @@ use Rattle.rules.specs.Answers.{Answer, Accepted, Wrote, Refused, Failed
 use Rattle.rules.specs.Events.{infoOf, pushedAll}
 use Rattle.rules.specs.Checks.{asksMulticast, pathIn, verdict}
 
--- the next id: plus one wrapping, 0 skipped
+-- 7.17: the next id is one more, wrapping, and 0 is skipped
 unfoldable pub afterId : ℕ → ℕ
 afterId n = cond (eqb n (2 ^ 32 - 1)) 1 (n + 1)
 
--- point-to-point goes to the given address, the peer with the given port if that address is 0.0.0.0, or the peer with the I/O port
+-- 7.18, 7.19: point-to-point goes to the given address, to the peer with the given port if that address is 0.0.0.0, or to the peer with
+-- the I/O port
 unfoldable pub pointDest : Origin → Socket
 pointDest g =
     cond (g .given)
     (cond (eqb (g .socket .address) 0) (record { address = g .peer; port = g .socket .port }) (g .socket))
     (record { address = g .peer; port = g .ioport })
 
--- multicast goes to the group address at the I/O port
+-- 7.13: a new stream goes to the group address at the I/O port
 unfoldable pub groupDest : Origin → Socket
 groupDest g = record { address = groupOf (g .local) (g .mask); port = g .ioport }
 
@@ -41,7 +42,8 @@ pub record Side : Type 0 where
   pub torpi : ℕ
   pub next : ℕ
 
--- a joiner takes the stream's T→O id, destination and RPI; otherwise, if multicast, an id is drawn; point-to-point uses the originator's
+-- 7.8 to 7.10: one that joins takes the stream's T→O id, destination and RPI; 7.14: a new stream draws an id; 7.15: point-to-point uses
+-- the originator's
 unfoldable pub sideOf : ForwardOpen → Origin → ℕ → Stream → Side
 sideOf o g n (Joins toid dest torpi) = record { toid = toid; dest = dest; torpi = torpi; next = n }
 sideOf o g n Own =
@@ -49,15 +51,16 @@ sideOf o g n Own =
     (record { toid = record { 0 = n }; dest = groupDest g; torpi = o .to .rpi; next = afterId n })
     (record { toid = o .toid; dest = pointDest g; torpi = o .to .rpi; next = n })
 
--- a joiner does not produce; otherwise the first packet is due at once
+-- 7.11, 7.12: one that joined does not produce; otherwise the first packet is due at once
 abbrev pub firstDue : ℕ → Stream → Sent
 firstDue t (Joins toid dest torpi) = record { sequence = 0; cip = 0; due = Never }
 firstDue t Own = record { sequence = 0; cip = 0; due = At t }
 
--- the O→T id is drawn first
+-- 7.14: the O→T id is drawn first
 abbrev pub sideAt : ForwardOpen → Origin → Plan → ℕ → Side
 sideAt o g p n = sideOf o g (afterId n) (p .stream)
 
+-- 7.22
 unfoldable pub newFixed : ForwardOpen → Origin → Plan → ℕ → Fixed
 newFixed o g p n =
     record {
@@ -76,14 +79,14 @@ newFixed o g p n =
       local = g .local;
     }
 
--- its open time counts as its receive time before any frame
+-- 7.23: its open time counts as its receive time before any frame
 unfoldable pub newHeard : ℕ → ForwardOpen → Heard
 newHeard t o = record { until = t + timeoutOf (o .ot .rpi) (o .multiplier); any = false; sequence = 0; anycip = false; cip = 0 }
 
 unfoldable pub newConn : ℕ → ForwardOpen → Origin → Plan → ℕ → Conn
 newConn t o g p n = record { fixed = newFixed o g p n; heard = newHeard t o; sent = firstDue t (p .stream) }
 
--- configuration data is stored in its assembly
+-- 7.26: configuration data is stored in its assembly
 abbrev pub holding : List ℕ → Content → Content
 holding bytes a = record { bytes = bytes; run = a .run; notified = a .notified }
 
@@ -91,12 +94,12 @@ abbrev pub stored : Stores → List ℕ → List Content → List Content
 stored Nothing bytes contents = contents
 stored (Into i) bytes contents = changeAt i (holding bytes) contents
 
--- events: Opened, then Config if data was stored
+-- 7.26: events are Opened, then Config if data was stored
 abbrev pub configEvent : Setup → Stores → List ℕ → List Event
 configEvent u Nothing bytes = []
 configEvent u (Into i) bytes = Configured (shapeAt u i .instance) (length bytes) ∷ []
 
--- an accepted open clears the fault mark
+-- 7.21, 7.26, 7.28: it stands last in the table, and the fault mark is cleared
 unfoldable pub opened : ℕ → ForwardOpen → Origin → List ℕ → Plan → State → State
 opened t o g bytes p st =
     record {
@@ -124,11 +127,11 @@ configBytes request o =
 unfoldable pub verdictOf : List ℕ → ForwardOpen → State → Verdict
 verdictOf request o st = verdict (st .setup) (fixeds (st .table)) o (askedPath request o)
 
--- the reply has the ids, the triad, the O→T RPI as asked and the T→O RPI taken
+-- 7.24: the reply has the ids, the triad, the O→T RPI as asked and the T→O RPI as taken
 unfoldable pub replyOf : ForwardOpen → Origin → Plan → ℕ → List ℕ
 replyOf o g p n = openReply (record { 0 = n }) (sideAt o g p n .toid) (o .triad) (o .ot .rpi) (sideAt o g p n .torpi)
 
--- No. 5 before No. 8: an open with too little room for its reply is refused only where it passes
+-- 2.11: No. 5 before No. 8; 7.25: a yes tells where a stream goes
 abbrev pub planAnswer : ForwardOpen → Origin → ℕ → ℕ → Verdict → Answer
 planAnswer o g n room (Stopped s) = Failed s
 planAnswer o g n room (Planned p) =

@@ -1,4 +1,4 @@
--- Removal of a connection, close and expiry.
+-- Removal of a connection (rules 8.1 to 8.18), close and expiry (chapter 11).
 use mathlib.Core.List.{List, [], _∷_, map}
 use mathlib.Core.Option.{Option, none, some}
 use mathlib.Core.Bool.{Bool, true, false, cond, not, _&&_, _||_}
@@ -16,7 +16,7 @@ use Rattle.rules.specs.Answers.{Answer, Wrote, Gone, Refused, NotParsed,
 use Rattle.rules.specs.Events.{infoOf, pushed, pushedAll}
 use Rattle.rules.specs.Checks.{hasTriad}
 
--- the multicast connections of a T→O id
+-- 8.4, 7.20: the multicast connections of a T→O id
 abbrev pub inStream : ToId → Conn → Bool
 inStream id c = c .fixed .multicast && eqb (c .fixed .toid .0) (id .0)
 
@@ -24,15 +24,15 @@ inStream id c = c .fixed .multicast && eqb (c .fixed .toid .0) (id .0)
 abbrev pub feeds : ToId → Conn → Bool
 feeds id c = inStream id c && not (isListener (c .fixed .kind))
 
--- a multicast producer hands sequence, CIP sequence and due time to the first remaining multicast connection of its id, which
--- then produces (D1: a point-to-point one hands nothing on)
+-- 8.1, 8.2: a multicast producer hands on (D1: a point-to-point one hands nothing on)
 abbrev pub handsOn : Conn → Bool
 handsOn c = c .fixed .multicast && produces (c .sent .due)
 
+-- 8.3, 8.5: sequence, CIP sequence and due time go to the first multicast connection of its id that is left, which then produces
 abbrev pub handedOver : Conn → List Conn → List Conn
 handedOver c rest = cond (handsOn c) (changeFirst (inStream (c .fixed .toid)) (withSent (c .sent)) rest) rest
 
--- if a multicast non-listener went and none is left, its listeners close in table order
+-- 8.6 to 8.10: if a multicast non-listener went and none is left, its listeners close in table order
 abbrev pub endsStream : Conn → List Conn → Bool
 endsStream c rest = feeds (c .fixed .toid) c && not (any (feeds (c .fixed .toid)) rest)
 
@@ -50,14 +50,14 @@ afterRemoval c rest = withoutListeners c (handedOver c rest)
 abbrev pub removeFirst : (Conn → Bool) → List Conn → List Conn
 removeFirst p table = maybe table (λ c. afterRemoval c (withoutFirst p table)) (find p table)
 
--- then the removed connection's output loses run; output bytes stay
+-- 8.13 to 8.15: its output loses run; output bytes stay
 abbrev pub idle : Content → Content
 idle a = record { bytes = a .bytes; run = false; notified = a .notified }
 
 abbrev pub runLost : Fixed → List Content → List Content
 runLost f contents = cond (isOwner (f .kind)) (changeAt (f .output) idle contents) contents
 
--- its own event comes after its listeners'
+-- 8.10, 8.11: its listeners are told as Closed, before its own event
 abbrev pub closedEvents : Setup → List Conn → List Event
 closedEvents u cs = map (λ c. Closed (infoOf u (c .fixed))) cs
 
@@ -73,14 +73,14 @@ removed fault why c rest st =
       counters = st .counters;
     }
 
--- the first that passes a test goes, if there is one
+-- the first that passes a test goes, if there is one; 8.12: `why` says how
 abbrev pub removedFirst : Bool → (Info → Event) → (Conn → Bool) → State → State
 removedFirst fault why p st = maybe st (λ c. removed fault why c (withoutFirst p (st .table)) st) (find p (st .table))
 
 abbrev pub connTriad : Triad → Conn → Bool
 connTriad t c = hasTriad t (c .fixed)
 
--- CLOSE: No. 4, 9, 8
+-- CLOSE (8.16, 8.18): No. 4, 9, 8
 unfoldable pub closed : Triad → State → State
 closed t st = removedFirst false Closed (connTriad t) st
 
