@@ -16,17 +16,17 @@ use Rattle.wire_opens.specs.declared.CloseAnswer.the-variants.{Close, NoClose}
 use Rattle.rules.specs.declared.Verdict.the-variants.{Stopped, Planned}
 use Rattle.rules.specs.declared.Event.the-variants.{Closed, TimedOut}
 use Rattle.rules.specs.Lists.{find, withoutFirst, maybe, repeat}
-use Rattle.rules.proofs.ListLaws
-use Rattle.rules.proofs.ListLaws.{by-cases, either-way}
+use Rattle.rules_laws.specs.ListLaws
+use Rattle.rules_laws.specs.ListLaws.{by-cases, either-way}
 use Rattle.rules.specs.State.{Setup, Events, State, fixeds, isInput, isOutput}
 use Rattle.rules.specs.Answers.{Answer, isYes, settled}
 use Rattle.rules.specs.Setup.{fresh}
 use Rattle.rules.specs.Events.{oldestGone, appended, pushed, pushedAll}
 use Rattle.rules.specs.Checks.{placeOf, roomCheck}
-use Rattle.rules.proofs.CheckLaws
+use Rattle.rules_laws.specs.CheckLaws
 use Rattle.rules.specs.Opening.{opened, askedPath, verdictOf, planEffect, askedEffect, openAsked, configBytes, openAnswer, openEffect, openCall}
 use Rattle.rules.specs.Removal.{afterRemoval, connTriad, removed, closed, closeBy, closeAnswer, closeEffect, closeCall, expired, expiredFirst, expireAnswer, expireEffect, expireCall}
-use Rattle.rules.proofs.RemovalLaws.{removedIf}
+use Rattle.rules_laws.specs.RemovalLaws.{removedIf}
 use Rattle.rules.specs.Receiving.{Frame, meantFor, hear, received, frameOf, receiveAnswer, receiveEffect, receiveCall}
 use Rattle.rules.specs.Producing.{sends, produceAnswer, produceEffect, produceCall}
 use Rattle.rules.specs.Host.{inputSet, setInputAnswer, setInputEffect, setInputCall, outputRead, outputAnswer, outputEffect, outputCall, nextEventAnswer, nextEventEffect, nextEventCall}

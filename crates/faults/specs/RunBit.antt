@@ -17,15 +17,15 @@ use Rattle.rules.specs.declared.Verdict.the-variants.{Stopped, Planned}
 use Rattle.rules.specs.declared.Stores.the-variants.{Nothing, Into}
 use Rattle.rules.specs.declared.Event.the-variants.{Closed, TimedOut}
 use Rattle.rules.specs.Lists.{find, any, changeFirst, withoutFirst, changeAt, maybe, repeat}
-use Rattle.rules.proofs.ListLaws
-use Rattle.rules.proofs.ListLaws.{by-cases, clash, either-way, All, and-left, and-right, eqb-true}
+use Rattle.rules_laws.specs.ListLaws
+use Rattle.rules_laws.specs.ListLaws.{by-cases, clash, either-way, All, and-left, and-right, eqb-true}
 use Rattle.rules.specs.State.{Setup, Shape, shapeAt, Content, noContent, State, isInput, isOutput, isOwner, isListener}
 use Rattle.rules.specs.Answers.{isYes, timely}
 use Rattle.rules.specs.Setup.{blank, fresh}
 use Rattle.rules.specs.Checks.{owns, placeOf}
 use Rattle.rules.specs.Opening.{holding, stored, newConn, opened, verdictOf, planEffect, askedEffect, openAsked, configBytes, openAnswer, openEffect, openCall}
 use Rattle.rules.specs.Removal.{afterRemoval, connTriad, idle, runLost, removed, closed, closeBy, closeAnswer, closeEffect, closeCall, expired, expiredFirst, expireAnswer, expireEffect, expireCall}
-use Rattle.rules.proofs.RemovalLaws.{removedIf}
+use Rattle.rules_laws.specs.RemovalLaws.{removedIf}
 use Rattle.rules.specs.Receiving.{Frame, meantFor, hear, taken, changes, deliver, delivered, received, frameOf, receiveAnswer, receiveEffect, receiveCall}
 use Rattle.rules.specs.Producing.{sends, produceAnswer, produceEffect, produceCall}
 use Rattle.rules.specs.Host.{filled, read, inputSet, setInputAnswer, setInputEffect, setInputCall, outputRead, outputAnswer, outputEffect, outputCall, nextEventAnswer, nextEventEffect, nextEventCall}

@@ -16,16 +16,16 @@ use Rattle.rules.specs.declared.Stream.the-variants.{Joins, Own}
 use Rattle.rules.specs.declared.Verdict.the-variants.{Stopped, Planned}
 use Rattle.rules.specs.declared.Event.the-variants.{Closed, TimedOut}
 use Rattle.rules.specs.Lists.{find, any, changeFirst, withoutFirst, maybe, repeat}
-use Rattle.rules.proofs.ListLaws
-use Rattle.rules.proofs.ListLaws.{T-true, by-cases, clash, either-way, All, and-left, and-right}
+use Rattle.rules_laws.specs.ListLaws
+use Rattle.rules_laws.specs.ListLaws.{T-true, by-cases, clash, either-way, All, and-left, and-right}
 use Rattle.rules.specs.State.{Setup, State, withSent, produces, fixeds, isListener, isInput, isOutput}
 use Rattle.rules.specs.Answers.{isYes}
 use Rattle.rules.specs.Setup.{fresh}
 use Rattle.rules.specs.Checks.{Roles, asksMulticast, carries, streamFound, streamOf, joins, streamCheck, rolesOf, pathIn, planOf, placeOf}
-use Rattle.rules.proofs.CheckLaws
+use Rattle.rules_laws.specs.CheckLaws
 use Rattle.rules.specs.Opening.{afterId, sideOf, firstDue, newFixed, newConn, opened, askedPath, verdictOf, planEffect, askedEffect, openAsked, configBytes, openAnswer, openEffect, openCall}
 use Rattle.rules.specs.Removal.{inStream, feeds, handsOn, handedOver, endsStream, withoutListeners, afterRemoval, connTriad, removed, closed, closeBy, closeAnswer, closeEffect, closeCall, expired, expiredFirst, expireAnswer, expireEffect, expireCall}
-use Rattle.rules.proofs.RemovalLaws.{removedIf}
+use Rattle.rules_laws.specs.RemovalLaws.{removedIf}
 use Rattle.rules.specs.Receiving.{Frame, meantFor, newer, hear, received, frameOf, receiveAnswer, receiveEffect, receiveCall}
 use Rattle.rules.specs.Producing.{nextDue, due, sent, sends, produceAnswer, produceEffect, produceCall}
 use Rattle.rules.specs.Host.{inputSet, setInputAnswer, setInputEffect, setInputCall, outputRead, outputAnswer, outputEffect, outputCall, nextEventAnswer, nextEventEffect, nextEventCall}

@@ -28,7 +28,7 @@ use Rattle.rules.specs.Producing.{sent, frameSent, packet, packets, counters, p
 use Rattle.rules.specs.Host.{setInputAnswer, setInputEffect, setInputCall, outputAnswer, outputEffect, outputCall, nextEventAnswer, nextEventEffect, nextEventCall}
 use Rattle.rules.specs.Calls.{Call, next, run}
 use Rattle.rules.specs.Lists.{any, keep}
-use Rattle.rules.proofs.ListLaws.{any-map}
+use Rattle.rules_laws.specs.ListLaws.{any-map}
 use Rattle.rules.proofs.Examples.{setup, start, ask, from, points, ending}
 use Rattle.rules.specs.State.{State, triadIs}
 use Rattle.isolation.specs.Names.{Triad, Conn}

@@ -16,14 +16,14 @@ use Rattle.rules.specs.declared.Stores.the-variants.{Nothing, Into}
 use Rattle.rules.specs.declared.Verdict.the-variants.{Stopped, Planned}
 use Rattle.rules.specs.declared.Event.the-variants.{Closed}
 use Rattle.rules.specs.Lists.{find, any, keep, changeFirst, withoutFirst, changeAt, maybe, joined}
-use Rattle.rules.proofs.ListLaws
-use Rattle.rules.proofs.ListLaws.{by-cases, clash, either-way, of-cond, option-map, All, and-left, and-right, eqb-true}
+use Rattle.rules_laws.specs.ListLaws
+use Rattle.rules_laws.specs.ListLaws.{by-cases, clash, either-way, of-cond, option-map, All, and-left, and-right, eqb-true}
 use Rattle.rules.specs.State.{Setup, shapeAt, Content, State, withContents, fixeds, isInput, isOutput, isOwner}
 use Rattle.rules.specs.Answers.{Answer, isYes, settled, fitting, atTime, Wrote}
 use Rattle.rules.specs.Checks.{owns, placeOf}
 use Rattle.rules.specs.Opening.{stored, opened, newConn, sideAt, verdictOf, planAnswer, planEffect, askedAnswer, askedEffect, openAsked, configBytes, openAnswer, openEffect}
 use Rattle.rules.specs.Removal.{afterRemoval, connTriad, removed, closed, closeFor, closeBy, closeAnswer, closeEffect}
-use Rattle.rules.proofs.RemovalLaws.{removedIf}
+use Rattle.rules_laws.specs.RemovalLaws.{removedIf}
 use Rattle.rules.specs.Receiving.{Frame, meantFor, newer, hasCip, repeats, rightSize, hear, taken, deliver, delivered, received, frameOf, receiveEffect}
 use Rattle.rules.specs.Producing
 use Rattle.rules.specs.Producing.{due, lateBy, delays, sent, sends, packet, packets, inputBytes, counters, produceAnswer, produceEffect}

@@ -12,16 +12,16 @@ use Rattle.wire_opens.specs.declared.CloseAnswer.the-variants.{Close, NoClose}
 use Rattle.rules.specs.declared.Verdict.the-variants.{Stopped, Planned}
 use Rattle.rules.specs.declared.Event.the-variants.{Closed, TimedOut}
 use Rattle.rules.specs.Lists.{find, any, keep, changeFirst, withoutFirst, maybe, repeat}
-use Rattle.rules.proofs.ListLaws
-use Rattle.rules.proofs.ListLaws.{by-cases, either-way, All}
+use Rattle.rules_laws.specs.ListLaws
+use Rattle.rules_laws.specs.ListLaws.{by-cases, either-way, All}
 use Rattle.rules.specs.State.{Setup, shapeAt, State, triadIs, fixeds, withSent, isInput, isOutput, isOwner}
 use Rattle.rules.specs.Answers.{isYes}
 use Rattle.rules.specs.Setup.{fresh}
 use Rattle.rules.specs.Checks.{hasTriad, placeOf, planOf}
-use Rattle.rules.proofs.CheckLaws
+use Rattle.rules_laws.specs.CheckLaws
 use Rattle.rules.specs.Opening.{newConn, newFixed, opened, askedPath, verdictOf, planEffect, askedEffect, openAsked, configBytes, openAnswer, openEffect, openCall}
 use Rattle.rules.specs.Removal.{inStream, handsOn, handedOver, endsStream, afterRemoval, connTriad, removed, closed, closeBy, closeAnswer, closeEffect, closeCall, expired, expiredFirst, expireAnswer, expireEffect, expireCall}
-use Rattle.rules.proofs.RemovalLaws.{removedIf}
+use Rattle.rules_laws.specs.RemovalLaws.{removedIf}
 use Rattle.rules.specs.Receiving.{Frame, meantFor, hear, received, frameOf, receiveAnswer, receiveEffect, receiveCall}
 use Rattle.rules.specs.Producing.{sends, produceAnswer, produceEffect, produceCall}
 use Rattle.rules.specs.Host.{inputSet, setInputAnswer, setInputEffect, setInputCall, outputRead, outputAnswer, outputEffect, outputCall, nextEventAnswer, nextEventEffect, nextEventCall}

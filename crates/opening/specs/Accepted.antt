@@ -10,7 +10,7 @@ use Rattle.wire_opens.specs.declared.ForwardOpen.{ForwardOpen}
 use Rattle.wire_opens.specs.declared.OpenAnswer.{OpenAnswer}
 use Rattle.wire_opens.specs.declared.OpenAnswer.the-variants.{Open, NoOpen}
 use Rattle.wire_paths.specs.ConnectionPath.{pathOf}
-use Rattle.rules.proofs.ListLaws.{either-way}
+use Rattle.rules_laws.specs.ListLaws.{either-way}
 use Rattle.rules.specs.Answers.{isYes}
 use Rattle.rules.specs.Checks.{pathIn, verdict}
 use Rattle.rules.specs.Events.{infoOf}

@@ -15,7 +15,7 @@ use Rattle.rules.specs.declared.Event.the-variants.{Closed, TimedOut}
 use Rattle.ids.specs.declared.Triad.{Triad}
 use Rattle.rules.specs.Events.{infoOf, infoRecord, eventRecord, pushed, pushedAll}
 use Rattle.rules.specs.Removal.{afterRemoval, handedOver, listenersOf, runLost, closedEvents, removed, connTriad, expired, closed, expiredFirst}
-use Rattle.rules.proofs.RemovalLaws.{removedIf}
+use Rattle.rules_laws.specs.RemovalLaws.{removedIf}
 use Rattle.rules.specs.declared.Conn.{Conn}
 use Rattle.rules.specs.declared.Fixed.{Fixed}
 use Rattle.rules.specs.declared.Sent.{Sent}

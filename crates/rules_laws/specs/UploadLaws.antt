@@ -9,8 +9,16 @@ use lib.ListN.{length, getD, take, drop}
 use lib.Seq.{take-add, take-all}
 use borrow.Author.Tests.{leb-true, leb-false, eqb-true, eq-eqb, ne-eqb}
 use Rattle.cells.specs.Numbers.{bytesLe}
-use Rattle.rules.specs.Attributes.{Fault, Outcome, Gives, Fails}
-use Rattle.rules.specs.Upload.{checksum, clamped, Last, NoLast, Was, Position, started, Upload, NoUpload, Under, Turn, Repeat, InTurn, OutOfTurn, nextTurn, turnAfter, turnOf, advanced, reachesEnd, transferType, transferBytes, transferReply, transferFor, transfer}
+use Rattle.rules.specs.declared.objects.Fault.{Fault}
+use Rattle.rules.specs.Attributes.{Outcome, Gives, Fails}
+use Rattle.rules.specs.declared.objects.Last.{Last}
+use Rattle.rules.specs.declared.objects.Last.the-variants.{NoLast, Was}
+use Rattle.rules.specs.declared.objects.Position.{Position}
+use Rattle.rules.specs.declared.objects.Upload.{Upload}
+use Rattle.rules.specs.declared.objects.Upload.the-variants.{NoUpload, Under}
+use Rattle.rules.specs.declared.objects.Turn.{Turn}
+use Rattle.rules.specs.declared.objects.Turn.the-variants.{Repeat, InTurn, OutOfTurn}
+use Rattle.rules.specs.Upload.{checksum, clamped, started, nextTurn, turnAfter, turnOf, advanced, reachesEnd, transferType, transferBytes, transferReply, transferFor, transfer}
 
 -- ---- one transfer
 

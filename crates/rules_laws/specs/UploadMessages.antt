@@ -11,12 +11,13 @@ use Rattle.wire_paths.specs.ConnectionPath.{gather}
 use Rattle.wire_requests.specs.declared.Object.the-variants.{Named}
 use Rattle.wire_requests.specs.declared.RequestAnswer.the-variants.{Parsed}
 use Rattle.wire_requests.specs.Requests.{attributeIn, requestWith, requestOf}
 use Rattle.rules.specs.State.{State}
 use Rattle.rules.specs.Attributes.{NoAttribute, Outcome, Gives, Fails}
-use Rattle.rules.specs.Upload.{checksum, clamped, initiateReply, initiate, Upload, transfer}
+use Rattle.rules.specs.declared.objects.Upload.{Upload}
+use Rattle.rules.specs.Upload.{checksum, clamped, initiateReply, initiate, transfer}
 use Rattle.rules.specs.Objects.{edsFile, file}
 use Rattle.rules.specs.Message.{replyHead, replyTo, ofClass, messageOutcome, messageReply}
-use Rattle.rules.proofs.UploadLaws.{Move, Next, Again, Client, client, got, ended, Ask, asksAgain, move, moves, nexts, replyIn, step, begins, uploaded-whole, uploaded-ends}
+use Rattle.rules_laws.specs.UploadLaws.{Move, Next, Again, Client, client, got, ended, Ask, asksAgain, move, moves, nexts, replyIn, step, begins, uploaded-whole, uploaded-ends}
 
 -- a message of a service to File, instance 0xC8, with one byte of data
 abbrev pub toFile : ℕ → ℕ → List ℕ

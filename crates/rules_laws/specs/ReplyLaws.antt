@@ -16,12 +16,17 @@ use Rattle.wire_requests.specs.declared.Object.the-variants.{Named, NoObject}
 use Rattle.wire_requests.specs.declared.RequestAnswer.{RequestAnswer}
 use Rattle.wire_requests.specs.declared.RequestAnswer.the-variants.{Parsed, Unparsed}
 use Rattle.wire_requests.specs.Requests.{messageMax, requestOf}
 use Rattle.rules.specs.State.{Setup, State, contentAt}
 use Rattle.rules.specs.Answers.{Wrote, Refused, NoRoom}
 use Rattle.rules.specs.Attributes.{FirstAttribute, Number, NoAttribute, Outcome, Gives, Fails, Attributes, valueOf, attributeNamed, getSingle, single, among, classAttributes, shortString, taggedText}
-use Rattle.rules.specs.Upload.{checksum, clamped, started, initiate, Position, Upload, NoUpload, Under, Turn, Repeat, InTurn, OutOfTurn, turnOf, advanced, reachesEnd, transferBytes, transferReply, transferFor, transfer, lastOk, positionTests, positionOk, uploadOk}
+use Rattle.rules.specs.declared.objects.Position.{Position}
+use Rattle.rules.specs.declared.objects.Upload.{Upload}
+use Rattle.rules.specs.declared.objects.Upload.the-variants.{NoUpload, Under}
+use Rattle.rules.specs.declared.objects.Turn.{Turn}
+use Rattle.rules.specs.declared.objects.Turn.the-variants.{Repeat, InTurn, OutOfTurn}
+use Rattle.rules.specs.Upload.{checksum, clamped, started, initiate, turnOf, advanced, reachesEnd, transferBytes, transferReply, transferFor, transfer, lastOk, positionTests, positionOk, uploadOk}
 use Rattle.rules.specs.Objects.{identityAttributes, identity, assemblyClass, assemblyAttributes, assemblyPlace, assemblyObject, assembly, interface, tcpIpAttributes, tcpIp, ethernetAttributes, ethernetLink, fileAttributes, initiateUpload, uploadTransfer, edsFile, edsInstance, file}
 use Rattle.rules.specs.Message.{replyHead, replyTo, fileIn, ofClass, ofObject, ofRequest, serviceOf, messageOutcome, messageReply, replyRoom, messageAnswer, messageCall}
 
 -- a state of document 01's sizes
 pub record Sized (st : State) : Type 0 where

@@ -7,11 +7,13 @@ use lib.Dec.{ltb}
 use borrow.Author.Tests.{ltb-true, ltb-false, lt-ltb, le-ltb}
 use Rattle.wire_opens.specs.declared.ForwardOpen.{ForwardOpen}
 use Rattle.wire_opens.specs.Timeout.{timeoutOf}
-use Rattle.rules.proofs.ListLaws.{by-cases}
-use Rattle.rules.specs.State.{Conn, Origin, Plan}
+use Rattle.rules_laws.specs.ListLaws.{by-cases}
+use Rattle.rules.specs.declared.Conn.{Conn}
+use Rattle.rules.specs.declared.Origin.{Origin}
+use Rattle.rules.specs.declared.Plan.{Plan}
 use Rattle.rules.specs.Opening.{newHeard, newConn}
 use Rattle.rules.specs.Removal.{expired}
 use Rattle.rules.specs.Receiving.{Frame, newer, recorded, hear}
 
 -- now minus the last receive time exceeds the timeout; a clock behind that time counts as 0
 abbrev pub silentTooLong : ℕ → ℕ → ℕ → Bool

@@ -9,10 +9,15 @@ use lib.ListN.{getD}
 use Rattle.wire_opens.specs.declared.ForwardOpen.{ForwardOpen}
 use Rattle.wire_paths.specs.declared.ConnectionPath.{ConnectionPath}
 use Rattle.wire_paths.specs.declared.PathAnswer.{PathAnswer}
 use Rattle.rules.specs.Lists.{place, any, maybe, isSome}
-use Rattle.rules.proofs.ListLaws.{by-cases, clash, and-left, All}
-use Rattle.rules.specs.State.{AssemblyKind, isInput, isOutput, isOwner, Fixed, noShape, Setup, shapeAt, Stop, Plan, Stopped, Planned}
+use Rattle.rules_laws.specs.ListLaws.{by-cases, clash, and-left, All}
+use Rattle.rules.specs.declared.AssemblyKind.{AssemblyKind}
+use Rattle.rules.specs.declared.Fixed.{Fixed}
+use Rattle.rules.specs.declared.Stop.{Stop}
+use Rattle.rules.specs.declared.Plan.{Plan}
+use Rattle.rules.specs.declared.Verdict.the-variants.{Stopped, Planned}
+use Rattle.rules.specs.State.{isInput, isOutput, isOwner, noShape, Setup, shapeAt}
 use Rattle.rules.specs.Checks
 
 pub must-none : (b : Bool) (s : Stop) → Checks.must b s ≡ none → b ≡ true
 unfolding Checks.must
