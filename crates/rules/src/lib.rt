@@ -110,14 +110,14 @@ pub struct Origin {
     pub ioport: u16,
 }
 
-// The first check of document 01 that an open does not pass, with the value found and what would have passed.
+// The first check (rules 6.1 to 6.13) that an open does not pass, with the value found and what would have passed.
 pub enum Stop {
-    // check 1: the transport byte
+    // 6.1: the transport byte
     Transport(u8),
-    // check 2: where the path does not parse; a port or attribute segment
+    // 6.2: where the path does not parse; a port or attribute segment
     PathBroken(usize),
     PathBarred,
-    // check 3: a key that is not ours
+    // 6.3: a key that is not ours
     KeyVendor {
         found: u16,
         ours: u16,
@@ -136,7 +136,7 @@ pub enum Stop {
         ourmajor: u8,
         ourminor: u8,
     },
-    // check 4: the last class, if any, is not 4; how many instances and points (4 for more); points that we do not have
+    // 6.4: the last class, if any, is not 4; how many instances and points (4 for more); points that we do not have
     ClassNotFour {
         given: bool,
         found: u32,
@@ -144,7 +144,7 @@ pub enum Stop {
     NumberCount(usize),
     NoOutputPoint(u32),
     NoInputPoint(u32),
-    // check 5: configuration data without a configuration assembly, or of another length than its size
+    // 6.5: configuration data without a configuration assembly, or of another length than its size
     NoConfig {
         length: usize,
     },
@@ -152,7 +152,7 @@ pub enum Stop {
         found: usize,
         size: u16,
     },
-    // check 6: an RPI outside the range
+    // 6.6: an RPI outside the range
     OtRpi {
         found: u32,
         min: u32,
@@ -163,28 +163,28 @@ pub enum Stop {
         min: u32,
         max: u32,
     },
-    // check 7: how the directions are carried
+    // 6.7: how the directions are carried
     OtType(NetType),
     ToType(NetType),
-    // check 8: the O→T size of an owner, and of a heartbeat
+    // 6.8: the O→T size of an owner, and of a heartbeat
     OwnerSize {
         found: u32,
         wanted: u16,
     },
     HeartbeatSize(u32),
-    // check 9: the T→O size
+    // 6.9: the T→O size
     InputSize {
         found: u32,
         wanted: u16,
     },
-    // check 10: the triad is in use
+    // 6.10: the triad is in use
     TriadInUse,
-    // check 11: the output, by its instance, has an owner
+    // 6.11: the output, by its instance, has an owner
     Owned(u16),
-    // check 12: a listen-only open without a stream, multicast or not
+    // 6.12: a listen-only open without a stream, multicast or not
     NoStream,
     ListenPointToPoint,
-    // check 13: the table is full
+    // 6.13: the table is full
     Full,
 }
 
