@@ -1,27 +1,24 @@
 -- Answers and numbers for no, computed: chapter 2 of the rules, each line with its rule.
 use mathlib.Core.Path.{refl}
-use mathlib.Core.List.{List, [], _∷_, _++_, map}
+use mathlib.Core.List.{List, [], _∷_, map}
 use mathlib.Core.Bool.{true, false}
-use Prim.Native.Nat.{ℕ, _+_, _*_, _-_, _^_}
+use Prim.Native.Nat.{ℕ, _-_, _^_}
 use lib.ListN.{set}
 use Rattle.cells.specs.Numbers.{le, leOf, bytesLe}
-use Rattle.cells.specs.BigEndian.{bytesBe}
 use Rattle.cells.specs.Records.{encFields}
-use Rattle.wire_items.specs.Frames.{ioFrame}
 use Rattle.wire_opens.specs.Examples.{Example, _is_, Hold}
 use Rattle.wire_opens.specs.Params.{paramsAt}
 use Rattle.wire_opens.specs.Requests.{triadAt, wayAt, placeAt, fieldsOf, openWith, widthOf, openOf, closeOf}
 use Rattle.wire_replies.specs.Replies.{triadReply}
-use Rattle.rules.specs.State.{Owner, At, State}
-use Rattle.rules.specs.Answers.{Answer, Done, Wrote, Accepted, Gone, Refused, Failed, BadSetup, BadTime, NotParsed, NoAssembly, TooLong, NoRoom, NothingThere, noNumber, answerNumber, answerBytes, Transport, InputSize, fitting, settled}
+use Rattle.rules.specs.Answers.{Done, Wrote, Accepted, Gone, Refused, Failed, BadSetup, BadTime, NotParsed, NoAssembly, TooLong, NoRoom, NothingThere, noNumber, answerNumber, answerBytes, Transport, InputSize, fitting, settled}
 use Rattle.rules.specs.Checks.{must, transportCheck, verdict, placeOf}
 use Rattle.rules.specs.Opening.{verdictOf, openAnswer, openEffect, openCall, refusalAnswer}
-use Rattle.rules.specs.Removal.{closeAnswer, closeEffect, closeCall, expireAnswer, expireEffect, expireCall}
-use Rattle.rules.specs.Receiving.{receiveAnswer, receiveEffect, receiveCall}
-use Rattle.rules.specs.Producing.{packets, packet, produceAnswer, produceEffect, produceCall}
+use Rattle.rules.specs.Removal.{closeAnswer, closeEffect, closeCall, expireAnswer, expireCall}
+use Rattle.rules.specs.Receiving.{receiveAnswer, receiveCall}
+use Rattle.rules.specs.Producing.{produceAnswer, produceCall}
 use Rattle.rules.specs.Host.{setInputAnswer, outputAnswer, assemblyAnswer, nextEventAnswer}
 use Rattle.rules.proofs.Examples.{setup, start, owner, ending, from}
-use Rattle.rules.proofs.Small.{line, two}
+use Rattle.rules.proofs.Small.{two}
 
 abbrev pub numbers : List Example
 numbers =

@@ -3,11 +3,11 @@ use mathlib.Core.Path.{refl}
 use mathlib.Core.List.{List, [], _∷_, _++_, map}
 use mathlib.Core.Bool.{Bool, true, false}
 use Prim.Native.Nat.{ℕ}
-use lib.ListN.{length, getD, replicate}
+use lib.ListN.{getD, replicate}
 use Rattle.cells.specs.Numbers.{bytesLe, le, leOf}
 use Rattle.wire_opens.specs.Examples.{Example, _is_, Hold}
-use Rattle.rules.specs.State.{Kind, Owner, InputOnly, ListenOnly, Never, At, Info, Event, Opened, Closed, TimedOut, Configured, OutputChanged, Events, State, contentAt, withCounters, withEvents}
-use Rattle.rules.specs.Answers.{Done, Wrote, Refused, NoAssembly, TooLong, NoRoom, NothingThere}
+use Rattle.rules.specs.State.{Kind, Owner, InputOnly, ListenOnly, Info, Opened, Closed, TimedOut, Configured, OutputChanged, Events, contentAt, withCounters, withEvents}
+use Rattle.rules.specs.Answers.{Wrote, Refused, NoAssembly, TooLong, NoRoom, NothingThere}
 use Rattle.rules.specs.Events.{infoOf, infoRecord, eventRecord, oldestGone, appended, pushed, pushedAll}
 use Rattle.rules.specs.Receiving.{newer, recorded, hear, taken, changes, deliver, received}
 use Rattle.rules.specs.Checks.{placeOf}
@@ -15,7 +15,7 @@ use Rattle.rules.specs.Host.{filled, setInputAnswer, setInputEffect, set
 use Rattle.rules.specs.Upload.{NoUpload}
 use Rattle.rules.specs.Calls.{Call, next}
 use Rattle.rules.proofs.Examples.{setup}
-use Rattle.rules.proofs.Small.{party, alone, unheard, sending, conn, holding, counting, line, two, output}
+use Rattle.rules.proofs.Small.{party, holding, counting, line, two, output}
 use Rattle.rules.proofs.ReceiveExamples.{running}
 
 abbrev pub dataCalls : List Example
@@ -58,9 +58,7 @@ eventList =
     (nextEventCall 0 (withEvents (waitingFor 1) two) is (Refused NoRoom, withEvents (waitingFor 1) two)) ∷
     (nextEventCall 0 two is (Refused NothingThere, two)) ∷
     -- 12.7: a 1,024th event is kept with all before; a 1,025th is kept too, and the oldest goes
-    (length (pushed (OutputChanged 150) (waitingFor 1022) .waiting) is 1024) ∷
     (getD (pushed (OutputChanged 150) (waitingFor 1022) .waiting) 0 [] is 7 ∷ []) ∷
-    (length (pushed (OutputChanged 150) (waitingFor 1023) .waiting) is 1024) ∷
     (getD (pushed (OutputChanged 150) (waitingFor 1023) .waiting) 0 [] is []) ∷
     (getD (getD (pushed (OutputChanged 150) (waitingFor 1023) .waiting) 1023 []) 0 0 is 5) ∷
     -- 12.14: the events of one call stand in their order
@@ -69,7 +67,7 @@ eventList =
 
 pub event-list : Hold eventList
 unfolding nextEventCall nextEventAnswer nextEventEffect oldestGone appended pushed pushedAll eventRecord bytesLe
-event-list = (refl, (refl, (refl, (refl, (refl, (refl, (refl, (refl, (refl, tt)))))))))
+event-list = (refl, (refl, (refl, (refl, (refl, (refl, (refl, tt)))))))
 
 -- what is told of a connection, every byte another
 abbrev pub info : Kind → Bool → Info

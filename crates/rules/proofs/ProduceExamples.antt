@@ -1,15 +1,13 @@
 -- Packets out, computed: chapter 10 of the rules, each line with its rule.
 use mathlib.Core.Path.{refl}
-use mathlib.Core.List.{List, [], _∷_, _++_, map}
-use mathlib.Core.Bool.{true, false}
+use mathlib.Core.List.{List, [], _∷_, _++_}
 use Prim.Native.Nat.{ℕ, _-_, _^_}
-use lib.ListN.{length, take}
 use Rattle.cells.specs.Numbers.{bytesLe}
 use Rattle.cells.specs.BigEndian.{bytesBe}
 use Rattle.wire_items.specs.Frames.{ioFrame}
 use Rattle.wire_opens.specs.Examples.{Example, _is_, Hold}
-use Rattle.rules.specs.State.{Owner, InputOnly, ListenOnly, Never, At, Conn, Setup, State, withCounters}
-use Rattle.rules.specs.Answers.{Answer, Wrote, Refused, BadTime, NoRoom, answerBytes}
+use Rattle.rules.specs.State.{Owner, InputOnly, ListenOnly, Never, At, Setup, State}
+use Rattle.rules.specs.Answers.{Answer, Wrote, Refused, NoRoom}
 use Rattle.rules.specs.Producing.{sent, frameSent, packet, packets, counters, produceAnswer, produceEffect, produceCall}
 use Rattle.rules.specs.Host.{setInputAnswer, setInputEffect, setInputCall}
 use Rattle.rules.specs.Checks.{placeOf}

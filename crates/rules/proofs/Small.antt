@@ -4,7 +4,7 @@ use mathlib.Core.List.{List, [], _∷_, map}
 use mathlib.Core.Bool.{Bool, true, false}
 use Prim.Native.Nat.{ℕ}
 use lib.ListN.{getD}
-use Rattle.rules.specs.State.{Kind, Owner, InputOnly, ListenOnly, Fixed, Heard, Due, Never, At, Sent, Conn, Content, contentAt, Event, Events, Counters, State}
+use Rattle.rules.specs.State.{Kind, Owner, ListenOnly, Fixed, Heard, Due, Never, At, Sent, Conn, Content, contentAt, Counters, State}
 use Rattle.rules.specs.Setup.{blank}
 use Rattle.rules.proofs.Examples.{setup}
 

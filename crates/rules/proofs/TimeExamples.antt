@@ -1,17 +1,17 @@
 -- Time, computed: chapter 11 of the rules, each line with its rule.
 use mathlib.Core.Path.{_≡_, refl}
-use mathlib.Core.List.{List, [], _∷_, _++_, map}
+use mathlib.Core.List.{List, [], _∷_, map}
 use mathlib.Core.Bool.{true, false}
-use Prim.Native.Nat.{ℕ, _+_, _-_, _^_}
+use Prim.Native.Nat.{ℕ, _+_, _^_}
 use Rattle.cells.specs.Numbers.{le, leOf, bytesLe}
 use Rattle.wire_opens.specs.Examples.{Example, _is_, Hold}
 use Rattle.wire_opens.specs.declared.ForwardOpen.{ForwardOpen}
 use Rattle.rules.specs.State.{InputOnly, ListenOnly, Never, At, Conn, Origin, Plan, State, withFault}
-use Rattle.rules.specs.Answers.{Wrote, Gone, Refused, BadTime, NoRoom, NothingThere}
+use Rattle.rules.specs.Answers.{Wrote, Gone, Refused, NoRoom, NothingThere}
 use Rattle.rules.specs.Events.{infoOf, infoRecord, eventRecord, oldestGone, appended, pushed, pushedAll}
 use Rattle.rules.specs.Opening.{opened}
 use Rattle.rules.specs.Removal.{removed, closed, expiredFirst, expireEffect, expireAnswer, expireCall, deadlineAnswer}
-use Rattle.rules.proofs.Small.{party, alone, heard, unheard, sending, conn, line, untils, told}
+use Rattle.rules.proofs.Small.{party, alone, unheard, sending, conn, line, untils, told}
 
 -- a producing point-to-point connection: O→T id, until when it lives, when it is due
 abbrev pub living : ℕ → ℕ → ℕ → Conn
