@@ -1,5 +1,5 @@
 -- A call of the rules on lent bytes, once and for all: No. 1 and the bytes as they were where the state test fails, else the call's
--- answer in document 01's numbers, and the state that it leaves written over the bytes.
+-- answer as its number, and the state that it leaves written over the bytes.
 use Prim.Native.Nat.{ℕ}
 use mathlib.Core.Bool.{true, false}
 use mathlib.Core.List.{List, []}

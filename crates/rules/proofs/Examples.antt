@@ -1,4 +1,4 @@
--- The definition computes. First document 01's fixed examples; then one short day: a controller (address 8) owns output 150 and starts
+-- The definition computes. First the fixed examples of the source; then one short day: a controller (address 8) owns output 150 and starts
 -- a multicast stream of input 101, a display (address 7) listens, a frame brings data and run, packets leave, the controller falls
 -- silent, and expiry takes both; then what earlier versions got wrong; then each check's refusal, and which of two comes first.
 use mathlib.Core.Path.{refl}
@@ -33,7 +33,7 @@ use Rattle.rules.specs.Upload.{checksum}
 use Rattle.rules.specs.Calls.{Call, run}
 use Rattle.rules.proofs.Computing.{wire, openings, removals, traffic, hosting}
 
--- ---- document 01's fixed examples
+-- ---- the fixed examples of the source
 
 -- whether a sequence is taken after a last one
 abbrev pub follows : ℕ → ℕ → Bool

@@ -1,6 +1,6 @@
-// The definition of the adapter: what document 01 says, rule by rule. This crate has types and definitions, no code.
+// The definition of the adapter: docs/RULES.md in the checker's language, rule by rule. This crate has types and definitions, no code.
 // Here stand the types that code passes by value; specs/State.antt has the whole state, and the other files of specs/
-// the rules, in document 01's order and words.
+// the rules, in its order and words.
 pub mod objects;
 
 use ids::OtId;

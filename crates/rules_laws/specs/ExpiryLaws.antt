@@ -1,4 +1,4 @@
--- Expiry in document 01's own words, and that the kept time says the same.
+-- Expiry in the words of rule 11.1, and that the kept time says the same.
 use mathlib.Core.Path.{_≡_, sym, _∙_}
 use mathlib.Core.Bool.{Bool, true}
 use Prim.Native.Nat.{ℕ, _+_, _-_}
@@ -28,7 +28,7 @@ same-test timeout last now =
 abbrev pub timeout : Conn → ℕ
 timeout c = timeoutOf (c .fixed .otrpi) (c .fixed .multiplier)
 
--- a connection whose frame of time `last` was recorded expires as document 01 says
+-- a connection whose frame of time `last` was recorded expires as the rule says
 pub expires-after-frame : (last now : ℕ) (f : Frame) (c : Conn) → newer (c .heard) (f .sequence) ≡ true → expired now (hear last f c) ≡ silentTooLong (timeout c) last now
 unfolding hear recorded
 expires-after-frame last now f c e = rw e (sym (same-test (timeout c) last now))

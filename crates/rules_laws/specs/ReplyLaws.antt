@@ -28,7 +28,7 @@ use Rattle.rules.specs.Upload.{checksum, clamped, started, initiate, turnOf, ad
 use Rattle.rules.specs.Objects.{identityAttributes, identity, assemblyClass, assemblyAttributes, assemblyPlace, assemblyObject, assembly, interface, tcpIpAttributes, tcpIp, ethernetAttributes, ethernetLink, fileAttributes, initiateUpload, uploadTransfer, edsFile, edsInstance, file}
 use Rattle.rules.specs.Message.{replyHead, replyTo, fileIn, ofClass, ofObject, ofRequest, serviceOf, messageOutcome, messageReply, replyRoom, messageAnswer, messageCall}
 
--- a state of document 01's sizes
+-- a state of the rules' sizes
 pub record Sized (st : State) : Type 0 where
   pub name : length (st .setup .identity .name) ≤ 32
   pub edsName : length (st .setup .edsName) ≤ 32
