@@ -1,0 +1,5 @@
+pub mod Rows
+pub mod Owners
+pub mod Refusals
+pub mod Pairs
+pub mod Apart
