@@ -3,22 +3,20 @@
 -- packets, and what every assembly holds that the address never owned.
 use Prim.Native.Nat.{ℕ}
 use mathlib.Core.Bool.{Bool, true, false}
-use mathlib.Core.List.{List, [], _∷_}
+use mathlib.Core.List.{List}
 use mathlib.Core.Path.{_≡_, refl, ap, sym, subst, _∙_}
-use lib.Seq.{sets}
 use Rattle.rules.specs.Lists.{keep}
-use Rattle.rules.specs.ListLaws.{clash}
-use Rattle.rules.specs.State.{Setup, Content, State, contentAt}
-use Rattle.rules.specs.Answers.{Answer, answerNumber, answerBytes}
+use Rattle.rules.proofs.ListLaws.{clash}
+use Rattle.rules.specs.State.{State, shapeAt, contentAt, isOutput}
+use Rattle.rules.specs.Answers.{Answer}
 use Rattle.rules.specs.Setup.{fresh}
 use Rattle.rules.specs.Calls
 use Rattle.rules.specs.Calls.{Call, answer, next, run}
 use Rattle.image.specs.Image.{view, tested}
-use Rattle.isolation.specs.Names.{Conn}
-use Rattle.isolation.specs.Demand.{Same-expiries, Answered-alike, All-answered-alike, Never-owned, other, demand-3}
+use Rattle.isolation.specs.Demand.{Same-expiries, Answered-alike, All-answered-alike, Never-owned, other, demand-3, inputs-equal}
 use Rattle.starting.specs.Block.{setupGiven, setupCall}
 use Rattle.starting.specs.Calls.{setup-fresh}
-use Rattle.host_runs.specs.Contracts.{Said, Contract, Sets, Changes, Writes, Reads, Says, Replies, Met, Answers}
+use Rattle.host_runs.specs.Contracts.{Said, Answers}
 use Rattle.host_runs.specs.HostCalls.{HostCall, contractOf, callOf}
 use Rattle.host_promises.specs.Rows.{conns, conns-view}
 use Rattle.host_promises.specs.Pairs.{Pair, end, both, first-only, second-only, Same-going, Not-owned, firsts, seconds, paired, step, both-run, premise, unowned}
@@ -96,28 +94,44 @@ pub record Separate {A : ℕ} {l m l″ m″ : List ℕ} (p : Pair A l m l″ m�
   pub answers : All-same p
   pub assemblies : (i : ℕ) → Not-owned i p → contentAt (view l″) i ≡ contentAt (view m″) i
 
-pub demand-3-on-bytes : (l block eds : List ℕ) (seed : ℕ) (s : List ℕ) → (0, s) ≡ setupCall l block eds seed → {A : ℕ} {s′ s″ : List ℕ} (p : Pair A s s s′ s″)
-    → Same-going p → Separate p
-demand-3-on-bytes l block eds seed s z {A} {s′} {s″} p h =
-    let u : Setup = setupGiven block eds in
-    let f = setup-fresh l block eds seed (sym (ap (λ (x : ℕ × List ℕ). x .0) z)) in
-    let b : s ≡ setupCall l block eds seed .1 = ap (λ (x : ℕ × List ℕ). x .1) z in
-    let ok : tested s ≡ true = ap tested b ∙ f .0 in
-    let v : view s ≡ fresh u seed = ap view b ∙ f .1 in
-    let q : Same-expiries (paired p) (fresh u seed) (fresh u seed) = subst (λ (x : State). Same-expiries (paired p) x x) v (premise p ok ok h) in
-    let d = demand-3 A u seed (paired p) q in
-    let r = both-run p ok ok in
-    let one : view s′ ≡ run (firsts p) (fresh u seed) = r .0 ∙ ap (run (firsts p)) v in
-    let two : view s″ ≡ run (seconds p) (fresh u seed) = r .1 ∙ ap (run (seconds p)) v in
-    record {
-      connections =
-          ap (keep (other A)) (sym (conns-view s′)) ∙ ap (λ (x : State). keep (other A) (x .table)) one
-          ∙ d .connections
-          ∙ sym (ap (λ (x : State). keep (other A) (x .table)) two) ∙ ap (keep (other A)) (conns-view s″);
-      answers = all-same p ok ok (subst (λ (x : State). All-answered-alike (paired p) x x) (sym v) (d .answers));
-      assemblies =
-          λ i n.
-          ap (λ (x : State). contentAt x i) one
-          ∙ d .assemblies i (subst (λ (x : State). Never-owned A i (firsts p) x) v (unowned i p ok ok n))
-          ∙ sym (ap (λ (x : State). contentAt x i) two);
-    }
+module _ (l block eds : List ℕ) (seed : ℕ) (s : List ℕ) (z : (0, s) ≡ setupCall l block eds seed) (A : ℕ) (s′ s″ : List ℕ) (p : Pair A s s s′ s″) (h : Same-going p) where
+  abbrev begun : State
+  begun = fresh (setupGiven block eds) seed
+
+  is-begun : (tested s ≡ true) × (view s ≡ begun)
+  is-begun =
+      let f = setup-fresh l block eds seed (sym (ap (λ (x : ℕ × List ℕ). x .0) z)) in
+      let b : s ≡ setupCall l block eds seed .1 = ap (λ (x : ℕ × List ℕ). x .1) z in
+      (ap tested b ∙ f .0, ap view b ∙ f .1)
+
+  same-premise : Same-expiries (paired p) begun begun
+  same-premise = subst (λ (x : State). Same-expiries (paired p) x x) (is-begun .1) (premise p (is-begun .0) (is-begun .0) h)
+
+  first-is : view s′ ≡ run (firsts p) begun
+  first-is = both-run p (is-begun .0) (is-begun .0) .0 ∙ ap (run (firsts p)) (is-begun .1)
+
+  second-is : view s″ ≡ run (seconds p) begun
+  second-is = both-run p (is-begun .0) (is-begun .0) .1 ∙ ap (run (seconds p)) (is-begun .1)
+
+  pub demand-3-on-bytes : Separate p
+  demand-3-on-bytes =
+      let d = demand-3 A (setupGiven block eds) seed (paired p) same-premise in
+      record {
+        connections =
+            ap (keep (other A)) (sym (conns-view s′)) ∙ ap (λ (x : State). keep (other A) (x .table)) first-is
+            ∙ d .connections
+            ∙ sym (ap (λ (x : State). keep (other A) (x .table)) second-is) ∙ ap (keep (other A)) (conns-view s″);
+        answers = all-same p (is-begun .0) (is-begun .0) (subst (λ (x : State). All-answered-alike (paired p) x x) (sym (is-begun .1)) (d .answers));
+        assemblies =
+            λ i n.
+            ap (λ (x : State). contentAt x i) first-is
+            ∙ d .assemblies i (subst (λ (x : State). Never-owned A i (firsts p) x) (is-begun .1) (unowned i p (is-begun .0) (is-begun .0) n))
+            ∙ sym (ap (λ (x : State). contentAt x i) second-is);
+      }
+
+  -- nobody owns an input or a configuration: they are equal without a premise
+  pub inputs-equal-on-bytes : (i : ℕ) → isOutput (shapeAt (setupGiven block eds) i .kind) ≡ false → contentAt (view s′) i ≡ contentAt (view s″) i
+  inputs-equal-on-bytes i n =
+      ap (λ (x : State). contentAt x i) first-is
+      ∙ inputs-equal A (setupGiven block eds) seed (paired p) same-premise i n
+      ∙ sym (ap (λ (x : State). contentAt x i) second-is)

@@ -3,3 +3,5 @@ pub mod Owners
 pub mod Refusals
 pub mod Pairs
 pub mod Apart
+pub mod Sessions
+pub mod Day

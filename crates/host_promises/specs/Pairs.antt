@@ -6,15 +6,14 @@ use mathlib.Core.List.{List, [], _∷_}
 use mathlib.Core.Path.{_≡_, refl, ap, ap₂, sym, subst, _∙_}
 use Rattle.rules.specs.Lists.{any}
 use Rattle.rules.specs.State.{State}
-use Rattle.rules.specs.Answers.{Answer}
-use Rattle.rules.specs.ListLaws.{clash}
 use Rattle.rules.specs.Calls
-use Rattle.rules.specs.Calls.{Call, answer, next, run}
+use Rattle.rules.specs.Calls.{Call, next, run}
 use Rattle.image.specs.Image.{view, tested}
-use Rattle.isolation.specs.Names.{Triad, Conn}
+use Rattle.ids.specs.declared.Triad.{Triad}
+use Rattle.rules.specs.declared.Conn.{Conn}
 use Rattle.isolation.specs.Survive.{in-table}
 use Rattle.isolation.specs.Demand
-use Rattle.isolation.specs.Demand.{Paired, removes, Removes-alike, Same-expiries, Answered-alike, All-answered-alike, owned-by, Never-owned}
+use Rattle.isolation.specs.Demand.{Paired, removes, Removes-alike, Same-expiries, owned-by, Never-owned}
 use Rattle.host_runs.specs.Contracts.{Said, Met}
 use Rattle.host_runs.specs.HostCalls.{HostCall, contractOf, callOf, CCall}
 use Rattle.host_runs.specs.Steps.{Agrees, agrees}

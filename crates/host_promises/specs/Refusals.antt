@@ -1,32 +1,31 @@
 -- A refusal changes nothing: a call whose number has a low byte other than 0 leaves every byte of the state, of the output and of the
 -- upload position as it found them. Of any lent bytes, set up or not.
 use Prim.Native.Nat.{ℕ, _%_}
-use mathlib.Core.Bool.{Bool, true, false, cond}
+use mathlib.Core.Bool.{true, false}
 use mathlib.Core.List.{List, []}
-use mathlib.Core.Path.{_≡_, refl, ap, sym, subst, _∙_}
+use mathlib.Core.Path.{_≡_, refl, ap, sym, _∙_}
 use native.Mathlib.Omega.{arith}
 use lib.Dec.{eqb}
 use lib.ListN.{length}
 use lib.Seq.{sets}
 use borrow.Author.Tests.{eqb-true, eqb-false}
 use Rattle.cells.specs.Back.{Bytes}
-use Rattle.rules.specs.ListLaws.{by-cases}
+use Rattle.rules.proofs.ListLaws.{by-cases}
 use Rattle.rules.specs.State.{State}
 use Rattle.rules.specs.Answers.{Answer, Done, Wrote, Accepted, Gone, Refused, Failed, isYes, answerNumber, answerBytes}
 use Rattle.rules.specs.Message.{messageAnswer, messageCall}
-use Rattle.rules.specs.Calls.{answer, next}
 use Rattle.routing.specs.Answered.{answered}
 use Rattle.image.specs.Image.{view, store, tested}
 use Rattle.image.specs.ViewLaws.{store-view}
-use Rattle.image.specs.Lift.{lifted, liftedOut, liftedRead, lifted-fails, lifted-passes, out-fails, read-fails}
-use Rattle.starting.specs.Block.{accepted, setupCall}
+use Rattle.image.specs.Lift.{lifted-fails, lifted-passes, out-fails, read-fails}
+use Rattle.starting.specs.Block.{accepted}
 use Rattle.starting.specs.Calls.{other-size, bad-setup, set-up}
-use Rattle.uploads.specs.Positions.{decUpload, encUpload}
+use Rattle.uploads.specs.Positions.{decUpload}
 use Rattle.messages.specs.Positions.{positionTested, whole-tested}
 use Rattle.messages.specs.Lifted.{liftedMessage}
 use Rattle.faults.specs.Bounds.{refused-leaves}
 use Rattle.host_runs.specs.Contracts.{Said, Contract, Sets, Changes, Writes, Reads, Says, Replies, Met, nextBy, answerBy}
-use Rattle.host_runs.specs.HostCalls.{HostCall, contractOf, callOf, CCall, contract}
+use Rattle.host_runs.specs.HostCalls.{contractOf, callOf, CCall, contract}
 use Rattle.host_runs.specs.Steps.{same-next, same-answer, out-passes, read-passes}
 
 -- a no: the number's low byte is not 0

@@ -1,20 +1,20 @@
 -- The rows of the table in the bytes that a host holds: never more than 32, never more than 1,024 events; and every stream is fed.
-use Prim.Native.Nat.{ℕ, zero, suc, _*_, _≤_, _<_}
+use Prim.Native.Nat.{ℕ, suc, _*_, _≤_, _<_}
 use mathlib.Core.Bool.{Bool, true}
 use mathlib.Core.List.{List, [], _∷_}
-use mathlib.Core.Path.{_≡_, refl, sym, subst, _∙_}
+use mathlib.Core.Path.{_≡_, refl, sym, subst}
 use native.Mathlib.Omega.{arith}
 use lib.ListN.{length, getD, take, drop}
 use Rattle.cells.specs.Numbers.{le}
 use Rattle.tables.specs.Tables.{rows, row-at, length-rows}
 use Rattle.rules.specs.Lists.{any}
-use Rattle.rules.specs.ListLaws.{by-cases}
+use Rattle.rules.proofs.ListLaws.{by-cases}
 use Rattle.rules.specs.State.{State}
 use Rattle.layout.specs.Places.{tableIn}
 use Rattle.layout.specs.Rows.{decConn}
-use Rattle.image.specs.Image.{view, tested}
+use Rattle.image.specs.Image.{view}
 use Rattle.image.specs.Fits.{is-long, few-events, few-conns}
-use Rattle.faults.specs.Names.{Conn}
+use Rattle.rules.specs.declared.Conn.{Conn}
 use Rattle.faults.specs.Streams.{All-fed, streams-are-fed}
 use Rattle.host_runs.specs.Runs.{Held, held-passes, held-reached}
 

@@ -23,6 +23,9 @@ pub record Said : Type 0 where
   pub output : List ℕ
   pub position : List ℕ
 
+abbrev pub saying : ℕ → List ℕ → List ℕ → Said
+saying r out upload = record { number = r; output = out; position = upload }
+
 -- a call by the kind of its contract, with what is lent beside the state: it sets up; it changes the state; it changes it and writes;
 -- it only reads the state; it is lent no state; it is a message
 pub data Contract : Type 0 where

@@ -17,7 +17,7 @@ use Rattle.rules.specs.Calls.{Call, answer, next}
 use Rattle.starting.specs.Block.{setupGiven, accepted}
 use Rattle.uploads.specs.Positions.{decUpload}
 use Rattle.adapter.specs.Origins.{originOf}
-use Rattle.host_runs.specs.Contracts.{Said, Contract, Sets, Changes, Writes, Reads, Says, Replies}
+use Rattle.host_runs.specs.Contracts.{Contract, Sets, Changes, Writes, Reads, Says, Replies}
 
 -- the calls that the rules have on a state that is set up; `out` and `upload` are the lent bytes as the call finds them
 pub data HostCall : Type 0 where

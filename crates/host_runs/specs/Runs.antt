@@ -2,10 +2,10 @@
 -- whatever it passes and lends, has after each call bytes that pass the state test and that say what a run of the rules says, and was
 -- answered what the rules answer. Nothing is asked of the bytes and answers but that they meet the functions' own contracts.
 use Prim.Native.Nat.{ℕ}
-use mathlib.Core.Bool.{true, cond}
+use mathlib.Core.Bool.{true}
 use mathlib.Core.List.{List, [], _∷_, _++_}
 use mathlib.Core.Path.{_≡_, refl, ap, sym, subst, _∙_}
-use Rattle.rules.specs.ListLaws.{either-way}
+use Rattle.rules.proofs.ListLaws.{either-way}
 use Rattle.rules.specs.State.{Setup, State}
 use Rattle.rules.specs.Setup.{fresh}
 use Rattle.rules.specs.Calls.{Call, next, run}
@@ -14,7 +14,7 @@ use Rattle.starting.specs.Block.{setupGiven, accepted, setupCall}
 use Rattle.starting.specs.Calls.{setup-fresh}
 use Rattle.host_runs.specs.Contracts.{Said, Met, Answers}
 use Rattle.host_runs.specs.HostCalls.{callOf, CCall, contract, nextC, answerC}
-use Rattle.host_runs.specs.Steps.{Agrees, agrees}
+use Rattle.host_runs.specs.Steps.{agrees}
 
 -- a call, and what it answered
 abbrev pub Turn : Type 0
@@ -49,9 +49,9 @@ follows (one c a {ts} {s} {s′} m r) ok =
     record { passes = f .passes; holds = f .holds ∙ ap (λ (st : State). runC ts st) (g .holds); answers = (g .answers, subst (Answered ts) (g .holds) (f .answers)) }
 
 -- from a setup that was answered 0, whatever the bytes were before
-pub c-ruled : (l block eds : List ℕ) (seed : ℕ) (s : List ℕ) → (0, s) ≡ setupCall l block eds seed → {ts : List Turn} {s″ : List ℕ} → Ran ts s s″
+pub run-is-ruled : (l block eds : List ℕ) (seed : ℕ) (s : List ℕ) → (0, s) ≡ setupCall l block eds seed → {ts : List Turn} {s″ : List ℕ} → Ran ts s s″
     → Follows ts (fresh (setupGiven block eds) seed) s″
-c-ruled l block eds seed s e {ts} {s″} r =
+run-is-ruled l block eds seed s e {ts} {s″} r =
     let f = setup-fresh l block eds seed (sym (ap (λ (z : ℕ × List ℕ). z .0) e)) in
     let b : s ≡ setupCall l block eds seed .1 = ap (λ (z : ℕ × List ℕ). z .1) e in
     subst (λ (st : State). Follows ts st s″) (ap view b ∙ f .1) (follows r (ap tested b ∙ f .0))
@@ -67,7 +67,7 @@ abbrev pub Reached : State → Type 0
 Reached st = (u : Setup) × (seed : ℕ) × (cs : List Call) × (st ≡ run cs (fresh u seed))
 
 pub held-passes : {s : List ℕ} → Held s → tested s ≡ true
-held-passes (held l block eds seed {s = s} e r) = c-ruled l block eds seed s e r .passes
+held-passes (held l block eds seed {s = s} e r) = run-is-ruled l block eds seed s e r .passes
 
 one-more : (c : Call) (cs : List Call) (st : State) → next c (run cs st) ≡ run (cs ++ (c ∷ [])) st
 one-more c [] st = refl
@@ -86,12 +86,4 @@ reached-run (t ∷ ts) st h = reached-run ts (nextC (t .0) st) (reached-next (t 
 
 pub held-reached : {s : List ℕ} → Held s → Reached (view s)
 held-reached (held l block eds seed {ts} {s} e r) =
-    subst Reached (sym (c-ruled l block eds seed s e r .holds)) (reached-run ts (fresh (setupGiven block eds) seed) (setupGiven block eds, seed, [], refl))
-
--- and so is what another call leaves
-append-ran : {ts : List Turn} {s s′ s″ : List ℕ} (c : CCall) (a : Said) → Ran ts s s′ → Met (contract c) s′ s″ a → Ran (ts ++ ((c, a) ∷ [])) s s″
-append-ran c a none m = one c a m none
-append-ran c a (one d b n r) m = one d b n (append-ran c a r m)
-
-pub held-next : {s s′ : List ℕ} (c : CCall) (a : Said) → Held s → Met (contract c) s s′ a → Held s′
-held-next c a (held l block eds seed e r) m = held l block eds seed e (append-ran c a r m)
+    subst Reached (sym (run-is-ruled l block eds seed s e r .holds)) (reached-run ts (fresh (setupGiven block eds) seed) (setupGiven block eds, seed, [], refl))

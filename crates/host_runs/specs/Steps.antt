@@ -1,16 +1,14 @@
 -- One call: from bytes that pass the state test it leaves bytes that pass it and say what the rules' call leaves, and it answers what the
 -- rules answer. One law for each kind of contract, then a line for each call.
 use Prim.Native.Nat.{ℕ}
-use mathlib.Core.Bool.{Bool, true, false, cond}
+use mathlib.Core.Bool.{true}
 use mathlib.Core.List.{List}
 use mathlib.Core.Path.{_≡_, refl, ap, sym, subst, _∙_}
 use lib.ListN.{length}
 use lib.Seq.{sets}
-use Rattle.cells.specs.Pick.{pick}
-use Rattle.rules.specs.ListLaws.{by-cases}
+use Rattle.rules.proofs.ListLaws.{by-cases}
 use Rattle.rules.specs.State.{State}
-use Rattle.rules.specs.Answers.{Answer, Done, Refused, BadSetup, answerNumber, answerBytes}
-use Rattle.rules.specs.Setup.{fresh}
+use Rattle.rules.specs.Answers.{Answer, answerNumber, answerBytes}
 use Rattle.rules.specs.Message.{messageCall}
 use Rattle.rules.specs.Calls.{answer, next}
 use Rattle.routing.specs.Answered.{answered}
@@ -18,12 +16,10 @@ use Rattle.image.specs.Image.{view, store, tested}
 use Rattle.image.specs.Fits.{Suits, is-long}
 use Rattle.image.specs.ViewLaws.{suits-view, view-store}
 use Rattle.image.specs.Passes.{tested-store}
-use Rattle.image.specs.Lift.{lifted, liftedOut, liftedRead, lifted-passes}
-use Rattle.starting.specs.Block.{setupGiven, accepted, started, setupCall}
+use Rattle.image.specs.Lift.{liftedOut, liftedRead, lifted-passes, lifted-tested, lifted-view}
+use Rattle.starting.specs.Block.{accepted}
 use Rattle.starting.specs.Fresh.{view-started, tested-started}
 use Rattle.starting.specs.Calls.{bad-setup, set-up}
-use Rattle.uploads.specs.Positions.{decUpload, encUpload}
-use Rattle.messages.specs.Positions.{positionTested}
 use Rattle.messages.specs.Lifted.{liftedMessage}
 use Rattle.application.specs.Left.{input-suits, output-suits, event-suits}
 use Rattle.receiving.specs.Accepted.{receive-suits}
@@ -32,7 +28,6 @@ use Rattle.ending.specs.Accepted.{close-suits, expire-suits}
 use Rattle.opening.specs.Accepted.{open-suits}
 use Rattle.adapter.specs.Origins.{originOf}
 use Rattle.host_runs.specs.Contracts.{Said, Contract, Sets, Changes, Writes, Reads, Says, Replies, Met, nextBy, answerBy, Answers}
-use Rattle.host_runs.specs.HostCalls
 use Rattle.host_runs.specs.HostCalls.{HostCall, contractOf, callOf, CCall, contract, nextC, answerC}
 
 -- ---- each kind of contract
@@ -76,11 +71,11 @@ module _ (s : List ℕ) (ok : tested s ≡ true) (s′ : List ℕ) (a : Said) wh
 
   changes : (call : State → Answer × State) → Suits (call (view s) .1) s → Met (Changes call) s s′ a → Agreed (Changes call) (view s) s′ a
   changes call w m =
-      let e = m ∙ lifted-passes call s ok in
+      let e = ap (λ (z : ℕ × List ℕ). z .1) m in
       record {
-        passes = ap (λ (z : ℕ × List ℕ). tested (z .1)) e ∙ tested-store (call (view s) .1) s w;
-        holds = ap (λ (z : ℕ × List ℕ). view (z .1)) e ∙ view-store (call (view s) .1) s w;
-        answers = ap (λ (z : ℕ × List ℕ). z .0) e;
+        passes = ap tested e ∙ lifted-tested call s ok w;
+        holds = ap view e ∙ lifted-view call s ok w;
+        answers = ap (λ (z : ℕ × List ℕ). z .0) (m ∙ lifted-passes call s ok);
       }
 
   writes : (call : ℕ → State → Answer × State) (out : List ℕ) → Suits (call (length out) (view s) .1) s → Met (Writes call out) s s′ a → Agreed (Writes call out) (view s) s′ a

@@ -1,24 +1,23 @@
 -- The position that a message leaves passes the position's own test, as the one that it found did; eight zeros pass it too.
-use Prim.Native.Nat.{ℕ, zero, suc, _+_, _-_, _*_, _/_, _%_, _≤_, _<_, min, max}
-use mathlib.Core.Bool.{Bool, true, false, cond, _&&_}
+use Prim.Native.Nat.{ℕ, zero, suc, _+_, _*_, _≤_}
+use mathlib.Core.Bool.{Bool, true, false, cond}
 use mathlib.Core.List.{List, [], _∷_, append-nil}
 use mathlib.Core.Option.{Option, none, some}
-use mathlib.Core.Path.{_≡_, refl, ap, ap₂, sym, subst, _∙_}
+use mathlib.Core.Path.{_≡_, refl, ap, sym, subst, _∙_}
 use native.Mathlib.Omega.{arith}
-use lib.Dec.{eqb, leb}
-use lib.ListN.{length, getD, take, drop, replicate}
+use lib.Dec.{eqb}
+use lib.ListN.{length, drop, replicate}
 use borrow.Author.Tests.{leb-true, le-leb, eq-eqb, eqb-true, eqb-false}
 use Rattle.cells.specs.Numbers.{le, leOf, le-1, le-2, bytesLe}
 use Rattle.cells.specs.Records.{sum, encFields, decFields, dec-enc, length-encFields}
 use Rattle.cells.specs.Back.{Bytes, all, all-at, all-cons, all-nil}
-use Rattle.cells.specs.Pick.{pick}
 use Rattle.wire_requests.specs.declared.Object.{Object}
 use Rattle.wire_requests.specs.declared.Object.the-variants.{Named, NoObject}
 use Rattle.wire_requests.specs.declared.FirstAttribute.{FirstAttribute}
 use Rattle.wire_requests.specs.declared.RequestAnswer.{RequestAnswer}
 use Rattle.wire_requests.specs.declared.RequestAnswer.the-variants.{Parsed, Unparsed}
 use Rattle.wire_requests.specs.Requests.{requestOf}
-use Rattle.rules.specs.ListLaws.{either-way, All}
+use Rattle.rules.proofs.ListLaws.{either-way, All}
 use Rattle.rules.specs.declared.objects.Last.{Last}
 use Rattle.rules.specs.declared.objects.Last.the-variants.{NoLast, Was}
 use Rattle.rules.specs.declared.objects.Position.{Position}
@@ -29,13 +28,13 @@ use Rattle.rules.specs.declared.objects.Upload.the-variants.{NoUpload, Under}
 use Rattle.rules.specs.State.{Setup, State}
 use Rattle.rules.specs.Answers.{isYes}
 use Rattle.rules.specs.Attributes.{Outcome}
-use Rattle.rules.specs.Upload.{clamped, started, initiate, turnOf, advanced, transferFor, transferAt, transfer, positionTests, positionOk, uploadOk}
+use Rattle.rules.specs.Upload.{clamped, started, initiate, turnOf, advanced, transferFor, transfer, positionTests, positionOk, uploadOk}
 use Rattle.rules.specs.Objects.{edsInstance, initiateUpload, uploadTransfer, edsFile, file}
 use Rattle.rules.specs.Message.{fileIn, ofClass, ofObject, ofRequest, messageOutcome, messageAnswer, messageCall}
-use Rattle.rules.specs.ReplyLaws.{Sized, position-kept}
-use Rattle.layout.specs.Places.{setupIn, edsIn}
+use Rattle.rules.proofs.ReplyLaws.{position-kept}
+use Rattle.layout.specs.Places.{setupIn}
 use Rattle.image.specs.Image.{view, tested}
-use Rattle.uploads.specs.Positions.{wPosition, toLast, asPosition, asUpload, decUpload, lastNumber, anyLast, lastOffset, listPosition, heldIn, listUpload, encUpload, plainTests, plain, plainList}
+use Rattle.uploads.specs.Positions.{wPosition, decUpload, lastNumber, anyLast, lastOffset, listPosition, heldIn, listUpload, encUpload, plain, plainList}
 use Rattle.uploads.specs.PositionLaws.{read-none, read-under}
 use Rattle.messages.specs.Positions.{positionTested, position-ok, eds-none, eds-some, eds-long, mark-small, sized-tested}
 use Rattle.messages.specs.Lifted.{liftedMessage, messageOn}
