@@ -1,11 +1,10 @@
 -- The C functions as a host calls them, each with what it passes and lends; the contract of each, and the rules' call that it is.
 use Prim.Native.Nat.{ℕ}
-use mathlib.Core.Bool.{Bool, cond}
+use mathlib.Core.Bool.{Bool}
 use mathlib.Core.List.{List}
 use lib.ListN.{length}
 use Rattle.rules.specs.State.{State}
-use Rattle.rules.specs.Answers.{Answer, Done, Refused, BadSetup}
-use Rattle.rules.specs.Setup.{fresh}
+use Rattle.rules.specs.Answers.{Answer}
 use Rattle.rules.specs.Opening.{openCall, refusalAnswer}
 use Rattle.rules.specs.Removal.{closeCall, expireCall, deadlineAnswer}
 use Rattle.rules.specs.Receiving.{receiveCall}
@@ -14,10 +13,9 @@ use Rattle.rules.specs.Host.{setInputCall, outputCall, assemblyAnswer, nextEven
 use Rattle.rules.specs.Routing.{pathAnswer, requestAnswer}
 use Rattle.rules.specs.Calls
 use Rattle.rules.specs.Calls.{Call, answer, next}
-use Rattle.starting.specs.Block.{setupGiven, accepted}
 use Rattle.uploads.specs.Positions.{decUpload}
 use Rattle.adapter.specs.Origins.{originOf}
-use Rattle.host_runs.specs.Contracts.{Contract, Sets, Changes, Writes, Reads, Says, Replies}
+use Rattle.host_runs.specs.Contracts.{Contract, Sets, Changes, Writes, Reads, Says, Replies, nextBy, answerBy}
 
 -- the calls that the rules have on a state that is set up; `out` and `upload` are the lent bytes as the call finds them
 pub data HostCall : Type 0 where
@@ -85,16 +83,16 @@ contract (On c) = contractOf c
 contract (Path path out) = Says (pathAnswer path) out
 contract (Request message out) = Says (requestAnswer message) out
 
--- the state that the rules leave: a setup that is accepted begins anew, one that is refused leaves what there was
+-- the state that the rules leave
 abbrev pub nextC : CCall → State → State
-nextC (Setup block eds seed) st = cond (accepted block eds) (fresh (setupGiven block eds) seed) st
+nextC (Setup block eds seed) st = nextBy (Sets block eds seed) st
 nextC (On c) st = next (callOf c) st
 nextC (Path path out) st = st
 nextC (Request message out) st = st
 
 -- and what they answer
 abbrev pub answerC : CCall → State → Answer
-answerC (Setup block eds seed) st = cond (accepted block eds) Done (Refused BadSetup)
+answerC (Setup block eds seed) st = answerBy (Sets block eds seed) st
 answerC (On c) st = answer (callOf c) st
 answerC (Path path out) st = pathAnswer path (length out)
 answerC (Request message out) st = requestAnswer message (length out)
