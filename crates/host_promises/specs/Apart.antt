@@ -129,7 +129,7 @@ module _ (l block eds : List ℕ) (seed : ℕ) (s : List ℕ) (z : (0, s) ≡ se
             ∙ sym (ap (λ (x : State). contentAt x i) second-is);
       }
 
-  -- nobody owns an input or a configuration: they are equal without a premise
+  -- nobody owns an input or a configuration, so they are equal always
   pub inputs-equal-on-bytes : (i : ℕ) → isOutput (shapeAt (setupGiven block eds) i .kind) ≡ false → contentAt (view s′) i ≡ contentAt (view s″) i
   inputs-equal-on-bytes i n =
       ap (λ (x : State). contentAt x i) first-is
