@@ -42,9 +42,9 @@ module _ (l : List ℕ) (t : tested l ≡ true) where
   changed-suits i u e =
       subst (λ (z : List Content). Suits (withContents z (view l)) l) (sym (change-set (view l .contents) i u)) (suits-content (view l) l w i (u (contentAt (view l) i)) e)
 
-  input-suits : (bytes : List ℕ) (o : Option ℕ) → Suits (settled (setInputAt (view l .setup) bytes o) (inputSet bytes (view l) o) (view l) .1) l
-  input-suits bytes none = w
-  input-suits bytes (some i) =
+  filled-suits : (bytes : List ℕ) (o : Option ℕ) → Suits (settled (setInputAt (view l .setup) bytes o) (inputSet bytes (view l) o) (view l) .1) l
+  filled-suits bytes none = w
+  filled-suits bytes (some i) =
       let n : ℕ = shapeAt (view l .setup) i .size in
       by-cases (leb (length bytes) n)
       (λ e. let h : length bytes ≤ n = leb-true (length bytes) n e in
@@ -54,19 +54,23 @@ module _ (l : List ℕ) (t : tested l ≡ true) where
       rw e (changed-suits i (filled n bytes) k))
       (λ e. rw e w)
 
-  pub input-tested : (n : ℕ) (bytes : List ℕ) → tested (lifted (setInputCall n bytes) l .1) ≡ true
+  pub input-suits : (n : ℕ) (bytes : List ℕ) → Suits (setInputCall n bytes (view l) .1) l
   unfolding setInputCall setInputAnswer setInputEffect
-  input-tested n bytes = lifted-tested (setInputCall n bytes) l t (input-suits bytes (placeOf isInput (view l .setup) n))
+  input-suits n bytes = filled-suits bytes (placeOf isInput (view l .setup) n)
+
+  pub input-tested : (n : ℕ) (bytes : List ℕ) → tested (lifted (setInputCall n bytes) l .1) ≡ true
+  input-tested n bytes = lifted-tested (setInputCall n bytes) l t (input-suits n bytes)
 
   read-suits : (o : Option ℕ) → Suits (outputRead (view l) o) l
   read-suits none = w
   read-suits (some i) = changed-suits i read refl
 
-  pub output-tested : (n : ℕ) (out : List ℕ) → tested (liftedOut (outputCall n) l out .1 .0) ≡ true
+  pub output-suits : (n room : ℕ) → Suits (outputCall n room (view l) .1) l
   unfolding outputCall outputEffect
-  output-tested n out =
-      out-tested (outputCall n) l out t
-      (either-suits (isYes (outputAnswer n (length out) (view l))) l (outputEffect n (view l)) (view l) (read-suits (placeOf isOutput (view l .setup) n)) w)
+  output-suits n room = either-suits (isYes (outputAnswer n room (view l))) l (outputEffect n (view l)) (view l) (read-suits (placeOf isOutput (view l .setup) n)) w
+
+  pub output-tested : (n : ℕ) (out : List ℕ) → tested (liftedOut (outputCall n) l out .1 .0) ≡ true
+  output-tested n out = out-tested (outputCall n) l out t (output-suits n (length out))
 
   gone-suits : Suits (nextEventEffect (view l)) l
   unfolding nextEventEffect oldestGone
@@ -75,7 +79,9 @@ module _ (l : List ℕ) (t : tested l ≡ true) where
       suits-events (view l) l w (oldestGone (view l .events)) (omega arith)
       (let a = f .waiting in let b = length-drop 1 (view l .events .waiting) in omega arith) (records-drop (view l .events .waiting) (f .records))
 
-  pub event-tested : (out : List ℕ) → tested (liftedOut nextEventCall l out .1 .0) ≡ true
+  pub event-suits : (room : ℕ) → Suits (nextEventCall room (view l) .1) l
   unfolding nextEventCall
-  event-tested out =
-      out-tested nextEventCall l out t (either-suits (isYes (nextEventAnswer (length out) (view l))) l (nextEventEffect (view l)) (view l) gone-suits w)
+  event-suits room = either-suits (isYes (nextEventAnswer room (view l))) l (nextEventEffect (view l)) (view l) gone-suits w
+
+  pub event-tested : (out : List ℕ) → tested (liftedOut nextEventCall l out .1 .0) ≡ true
+  event-tested out = out-tested nextEventCall l out t (event-suits (length out))

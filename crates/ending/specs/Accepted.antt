@@ -102,19 +102,23 @@ module _ (l : List ℕ) where
   -- ---- the calls
 
   module _ (ok : tested l ≡ true) where
-    pub close-accepted : (request : List ℕ) (room : ℕ) → tested (store (closeCall request room (view l) .1) l) ≡ true
+    pub close-suits : (request : List ℕ) (room : ℕ) → Suits (closeCall request room (view l) .1) l
     unfolding closeCall closeEffect
-    close-accepted request room =
-        tested-store (closeCall request room (view l) .1) l
-        (either-way (λ (z : State). Suits z l) (isYes (closeAnswer request room (view l))) {x = closeBy (view l) (closeOf request)} {y = view l} (go (closeOf request)) (suits-view l ok))
+    close-suits request room =
+        either-way (λ (z : State). Suits z l) (isYes (closeAnswer request room (view l))) {x = closeBy (view l) (closeOf request)} {y = view l} (go (closeOf request)) (suits-view l ok)
       where
         go : (q : CloseAnswer) → Suits (closeBy (view l) q) l
         go NoClose = suits-view l ok
         go (Close t) = suits-closed t (view l) (suits-view l ok)
 
-    pub expire-accepted : (t : ℕ) → tested (store (expireCall t (view l) .1) l) ≡ true
+    pub close-accepted : (request : List ℕ) (room : ℕ) → tested (store (closeCall request room (view l) .1) l) ≡ true
+    close-accepted request room = tested-store (closeCall request room (view l) .1) l (close-suits request room)
+
+    pub expire-suits : (t : ℕ) → Suits (expireCall t (view l) .1) l
     unfolding expireCall expireEffect
-    expire-accepted t =
-        tested-store (expireCall t (view l) .1) l
-        (either-way (λ (z : State). Suits z l) (isYes (expireAnswer t (view l))) {x = expireEffect t (view l)} {y = view l}
-        (suits-repeat (length (view l .table)) t (view l) (suits-view l ok)) (suits-view l ok))
+    expire-suits t =
+        either-way (λ (z : State). Suits z l) (isYes (expireAnswer t (view l))) {x = expireEffect t (view l)} {y = view l}
+        (suits-repeat (length (view l .table)) t (view l) (suits-view l ok)) (suits-view l ok)
+
+    pub expire-accepted : (t : ℕ) → tested (store (expireCall t (view l) .1) l) ≡ true
+    expire-accepted t = tested-store (expireCall t (view l) .1) l (expire-suits t)

@@ -70,13 +70,15 @@ module _ (l : List ℕ) where
         let n : length (configBytes request o) ≡ pathIn (pathOf path) .datalen = length-take-le (pathIn (pathOf path) .datalen) (drop (pathIn (pathOf path) .datastart) path) (omega arith) in
         suits-opened t o g (configBytes request o) p (view l) (suits-view l ok) (planned-room l ok o (pathOf path) p e (configBytes request o) n) (planned-fits l ok o (pathOf path) p e (configBytes request o) n)
 
-    pub open-accepted : (t service : ℕ) (request : List ℕ) (g : Origin) (room : ℕ) → tested (store (openCall t service request g room (view l) .1) l) ≡ true
+    pub open-suits : (t service : ℕ) (request : List ℕ) (g : Origin) (room : ℕ) → Suits (openCall t service request g room (view l) .1) l
     unfolding openCall openEffect
-    open-accepted t service request g room =
-        tested-store (openCall t service request g room (view l) .1) l
-        (either-way (λ (z : State). Suits z l) (isYes (openAnswer t service request g room (view l))) {x = askedEffect t g request (view l) (openAsked service request)} {y = view l}
-        (go (openAsked service request)) (suits-view l ok))
+    open-suits t service request g room =
+        either-way (λ (z : State). Suits z l) (isYes (openAnswer t service request g room (view l))) {x = askedEffect t g request (view l) (openAsked service request)} {y = view l}
+        (go (openAsked service request)) (suits-view l ok)
       where
         go : (q : OpenAnswer) → Suits (askedEffect t g request (view l) q) l
         go NoOpen = suits-view l ok
         go (Open o) = suits-planned t o g request (verdictOf request o (view l)) refl
+
+    pub open-accepted : (t service : ℕ) (request : List ℕ) (g : Origin) (room : ℕ) → tested (store (openCall t service request g room (view l) .1) l) ≡ true
+    open-accepted t service request g room = tested-store (openCall t service request g room (view l) .1) l (open-suits t service request g room)

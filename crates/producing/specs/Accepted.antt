@@ -23,8 +23,10 @@ suits-produced t st l w =
     let m = w .fits .table in
     suits-counters (sentAll t st) l (suits-table st l w (map (sends t) (st .table)) (omega arith)) (counters (st .setup) (delays t (st .table)) (st .counters))
 
-pub produce-accepted : (l : List ℕ) → tested l ≡ true → (t room : ℕ) → tested (store (produceCall t room (view l) .1) l) ≡ true
+pub produce-suits : (l : List ℕ) → tested l ≡ true → (t room : ℕ) → Suits (produceCall t room (view l) .1) l
 unfolding produceCall
-produce-accepted l ok t room =
-    tested-store (produceCall t room (view l) .1) l
-    (either-way (λ (z : State). Suits z l) (isYes (produceAnswer t room (view l))) {x = produceEffect t (view l)} {y = view l} (suits-produced t (view l) l (suits-view l ok)) (suits-view l ok))
+produce-suits l ok t room =
+    either-way (λ (z : State). Suits z l) (isYes (produceAnswer t room (view l))) {x = produceEffect t (view l)} {y = view l} (suits-produced t (view l) l (suits-view l ok)) (suits-view l ok)
+
+pub produce-accepted : (l : List ℕ) → tested l ≡ true → (t room : ℕ) → tested (store (produceCall t room (view l) .1) l) ≡ true
+produce-accepted l ok t room = tested-store (produceCall t room (view l) .1) l (produce-suits l ok t room)

@@ -72,8 +72,10 @@ module _ (l : List ℕ) where
       go none = w
       go (some f) = suits-received t from f st w
 
-  pub receive-accepted : tested l ≡ true → (t from : ℕ) (bytes : List ℕ) → tested (store (receiveCall t from bytes (view l) .1) l) ≡ true
+  pub receive-suits : tested l ≡ true → (t from : ℕ) (bytes : List ℕ) → Suits (receiveCall t from bytes (view l) .1) l
   unfolding receiveCall
-  receive-accepted ok t from bytes =
-      tested-store (receiveCall t from bytes (view l) .1) l
-      (either-way (λ (z : State). Suits z l) (isYes (receiveAnswer t)) {x = receiveEffect t from bytes (view l)} {y = view l} (suits-effect t from bytes (view l) (suits-view l ok)) (suits-view l ok))
+  receive-suits ok t from bytes =
+      either-way (λ (z : State). Suits z l) (isYes (receiveAnswer t)) {x = receiveEffect t from bytes (view l)} {y = view l} (suits-effect t from bytes (view l) (suits-view l ok)) (suits-view l ok)
+
+  pub receive-accepted : tested l ≡ true → (t from : ℕ) (bytes : List ℕ) → tested (store (receiveCall t from bytes (view l) .1) l) ≡ true
+  receive-accepted ok t from bytes = tested-store (receiveCall t from bytes (view l) .1) l (receive-suits ok t from bytes)

@@ -1,0 +1,7 @@
+pub mod Rows
+pub mod Owners
+pub mod Refusals
+pub mod Pairs
+pub mod Apart
+pub mod Sessions
+pub mod Day

@@ -1,0 +1,4 @@
+pub mod Contracts
+pub mod HostCalls
+pub mod Steps
+pub mod Runs
