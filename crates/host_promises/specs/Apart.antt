@@ -6,7 +6,7 @@ use mathlib.Core.Bool.{Bool, true, false}
 use mathlib.Core.List.{List}
 use mathlib.Core.Path.{_≡_, refl, ap, sym, subst, _∙_}
 use Rattle.rules.specs.Lists.{keep}
-use Rattle.rules.proofs.ListLaws.{clash}
+use Rattle.rules_laws.specs.ListLaws.{clash}
 use Rattle.rules.specs.State.{State, shapeAt, contentAt, isOutput}
 use Rattle.rules.specs.Answers.{Answer}
 use Rattle.rules.specs.Setup.{fresh}

@@ -11,7 +11,7 @@ use lib.Seq.{sets, sets-eq, getD-drop, getD-take}
 use borrow.Author.Tests.{leb-true}
 use Rattle.cells.specs.Numbers.{le, le-1}
 use Rattle.cells.specs.Records.{toBool, ofBool, to-of}
-use Rattle.rules.proofs.ListLaws.{by-cases}
+use Rattle.rules_laws.specs.ListLaws.{by-cases}
 use Rattle.rules.specs.State.{Shape, Content, noContent, State, contentAt, shapeAt, isOutput}
 use Rattle.rules.specs.Answers.{Wrote, Refused, NoRoom, timely, answerNumber, answerBytes}
 use Rattle.rules.specs.Lists.{any}

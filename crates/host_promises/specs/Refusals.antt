@@ -10,7 +10,7 @@ use lib.ListN.{length}
 use lib.Seq.{sets}
 use borrow.Author.Tests.{eqb-true, eqb-false}
 use Rattle.cells.specs.Back.{Bytes}
-use Rattle.rules.proofs.ListLaws.{by-cases}
+use Rattle.rules_laws.specs.ListLaws.{by-cases}
 use Rattle.rules.specs.State.{State}
 use Rattle.rules.specs.Answers.{Answer, Done, Wrote, Accepted, Gone, Refused, Failed, isYes, answerNumber, answerBytes}
 use Rattle.rules.specs.Message.{messageAnswer, messageCall}

@@ -8,7 +8,7 @@ use lib.ListN.{length, getD, take, drop}
 use Rattle.cells.specs.Numbers.{le}
 use Rattle.tables.specs.Tables.{rows, row-at, length-rows}
 use Rattle.rules.specs.Lists.{any}
-use Rattle.rules.proofs.ListLaws.{by-cases}
+use Rattle.rules_laws.specs.ListLaws.{by-cases}
 use Rattle.rules.specs.State.{State}
 use Rattle.layout.specs.Places.{tableIn}
 use Rattle.layout.specs.Rows.{decConn}

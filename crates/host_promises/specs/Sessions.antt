@@ -8,7 +8,7 @@ use native.Mathlib.Omega.{arith}
 use lib.Dec.{leb}
 use lib.ListN.{length, getD, replicate}
 use Rattle.cells.specs.Back.{Bytes}
-use Rattle.rules.proofs.ListLaws.{by-cases}
+use Rattle.rules_laws.specs.ListLaws.{by-cases}
 use Rattle.rules.specs.State.{Setup, State}
 use Rattle.rules.specs.Answers.{Wrote, Refused, NoRoom, answerNumber}
 use Rattle.rules.specs.Message.{replyRoom, messageReply, messageAnswer}

@@ -5,7 +5,7 @@ use Prim.Native.Nat.{ℕ}
 use mathlib.Core.Bool.{true}
 use mathlib.Core.List.{List, [], _∷_, _++_}
 use mathlib.Core.Path.{_≡_, refl, ap, sym, subst, _∙_}
-use Rattle.rules.proofs.ListLaws.{either-way}
+use Rattle.rules_laws.specs.ListLaws.{either-way}
 use Rattle.rules.specs.State.{Setup, State}
 use Rattle.rules.specs.Setup.{fresh}
 use Rattle.rules.specs.Calls.{Call, next, run}

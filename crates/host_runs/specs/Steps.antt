@@ -6,7 +6,7 @@ use mathlib.Core.List.{List}
 use mathlib.Core.Path.{_≡_, refl, ap, sym, subst, _∙_}
 use lib.ListN.{length}
 use lib.Seq.{sets}
-use Rattle.rules.proofs.ListLaws.{by-cases}
+use Rattle.rules_laws.specs.ListLaws.{by-cases}
 use Rattle.rules.specs.State.{State}
 use Rattle.rules.specs.Answers.{Answer, answerNumber, answerBytes}
 use Rattle.rules.specs.Message.{messageCall}

@@ -17,7 +17,7 @@ use Rattle.wire_requests.specs.declared.FirstAttribute.{FirstAttribute}
 use Rattle.wire_requests.specs.declared.RequestAnswer.{RequestAnswer}
 use Rattle.wire_requests.specs.declared.RequestAnswer.the-variants.{Parsed, Unparsed}
 use Rattle.wire_requests.specs.Requests.{requestOf}
-use Rattle.rules.proofs.ListLaws.{either-way, All}
+use Rattle.rules_laws.specs.ListLaws.{either-way, All}
 use Rattle.rules.specs.declared.objects.Last.{Last}
 use Rattle.rules.specs.declared.objects.Last.the-variants.{NoLast, Was}
 use Rattle.rules.specs.declared.objects.Position.{Position}
@@ -31,7 +31,7 @@ use Rattle.rules.specs.Attributes.{Outcome}
 use Rattle.rules.specs.Upload.{clamped, started, initiate, turnOf, advanced, transferFor, transfer, positionTests, positionOk, uploadOk}
 use Rattle.rules.specs.Objects.{edsInstance, initiateUpload, uploadTransfer, edsFile, file}
 use Rattle.rules.specs.Message.{fileIn, ofClass, ofObject, ofRequest, messageOutcome, messageAnswer, messageCall}
-use Rattle.rules.proofs.ReplyLaws.{position-kept}
+use Rattle.rules_laws.specs.ReplyLaws.{position-kept}
 use Rattle.layout.specs.Places.{setupIn}
 use Rattle.image.specs.Image.{view, tested}
 use Rattle.uploads.specs.Positions.{wPosition, decUpload, lastNumber, anyLast, lastOffset, listPosition, heldIn, listUpload, encUpload, plain, plainList}
