@@ -27,14 +27,6 @@ use Rattle.application.specs.Places.{assemblyReadAt, outputReadAt, inputSetAt}
 use Rattle.application.specs.Ways.{fits-in, fits-not, read-wrote, read-no, read-same, out-wrote, out-no, out-same, left-done, left-no, left-same}
 use Rattle.application.specs.Assemblies.{change-set, in-contents, size-is, setup-size, data-is, run-is}
 
--- one more byte made zero; all of them
-pub cleared-more : (s₀ : List ℕ) (at n k : ℕ) (s : List ℕ) → k < n → s ≡ sets s₀ at (take k (replicate n 0)) → set s (at + k) 0 ≡ sets s₀ at (take (k + 1) (replicate n 0))
-cleared-more s₀ at n k s g e =
-    ap (set s (at + k)) (sym (getD-replicate n k 0 0 g)) ∙ copied-more s₀ (replicate n 0) at k s (let z = length-replicate {A = ℕ} n 0 in omega arith) e
-
-pub cleared-all : (n k : ℕ) → n ≤ k → take k (replicate {A = ℕ} n 0) ≡ replicate n 0
-cleared-all n k g = take-all k (replicate n 0) (let z = length-replicate {A = ℕ} n 0 in omega arith)
-
 module _ (s : List ℕ) (t : tested s ≡ true) (b : Bytes s) (i : ℕ) (p : i < le 1 s 0) where
   abbrev h : Holds s (view s) s
   h = holds-tested s t b

@@ -3,9 +3,9 @@ use mathlib.Core.Path.{_≡_, refl, ap, _∙_}
 use native.Mathlib.Omega.{arith}
 use lib.ListN.{length, take, replicate, length-set}
 use lib.Seq.{sets}
-use Rattle.inputs.specs.Inputs.{cleared-more, cleared-all}
-use Rattle.inputs.proofs.clear.Statement.{statement}
-use Rattle.inputs.proofs.clear.Tie as tie
+use Rattle.cells.specs.Writes.{zeroed-more, zeroed-all}
+use Rattle.cells.proofs.zero.Statement.{statement}
+use Rattle.cells.proofs.zero.Tie as tie
 
 abbrev Inv-loop : tie.InvT-loop
 Inv-loop s₀ at n k₀ s k = (k ≤ n) × (s ≡ sets s₀ at (take k (replicate n 0))) × (length s ≡ length s₀)
@@ -31,16 +31,16 @@ loop-less c = omega arith
 loop-again : tie.Need-loop-again Inv-loop μ-loop
 loop-again c =
     let a = c .before .before .args in let w = c .before .loop in
-    (omega arith, cleared-more (a .s .now) (a .at) (a .n) (w .k) (w .s) (c .loop-test .taken) (w .inv .1), length-set (w .s) (a .at + w .k) 0 ∙ w .inv .2)
+    (omega arith, zeroed-more (a .s .now) (a .at) (a .n) (w .k) (w .s) (c .loop-test .taken) (w .inv .1), length-set (w .s) (a .at + w .k) 0 ∙ w .inv .2)
 
 same-length : tie.Need-same-length Inv-loop μ-loop
 same-length c = c .before .loop .inv .2
 
 returns : tie.Need-returns Inv-loop μ-loop
-returns c = let a = c .before .before .args in let w = c .before .loop in w .inv .1 ∙ ap (sets (a .s .now) (a .at)) (cleared-all (a .n) (w .k) (c .loop-test .left))
+returns c = let a = c .before .before .args in let w = c .before .loop in w .inv .1 ∙ ap (sets (a .s .now) (a .at)) (zeroed-all (a .n) (w .k) (c .loop-test .left))
 
-pub clear-spec : {M : Type 1} → statement M
-clear-spec =
+pub zero-spec : {M : Type 1} → statement M
+zero-spec =
     tie.close
     (tie.spec
     Inv-loop
