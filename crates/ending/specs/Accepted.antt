@@ -8,10 +8,11 @@ use native.Mathlib.Omega.{arith}
 use lib.ListN.{length, getD}
 use Rattle.tables.specs.Tables.{without}
 use Rattle.rules.specs.Lists.{find, place, keep, changeFirst, changeAt, repeat}
-use Rattle.rules.specs.ListLaws.{either-way, length-keep, length-change}
+use Rattle.rules.proofs.ListLaws.{either-way, length-keep, length-change}
 use Rattle.rules.specs.State.{Content, State, noContent, contentAt, withContents, withTable, withEvents, withFault, withSent, isOwner, produces}
 use Rattle.rules.specs.Events.{infoOf, infoRecord, eventRecord, appended, pushed, pushedAll}
-use Rattle.rules.specs.Removal.{inStream, idle, closedEvents, removedIf, connTriad, expired, closed, closeBy, closeAnswer, closeEffect, closeCall, expiredFirst, expireEffect, expireAnswer, expireCall}
+use Rattle.rules.specs.Removal.{inStream, idle, closedEvents, connTriad, expired, closed, closeBy, closeAnswer, closeEffect, closeCall, expiredFirst, expireEffect, expireAnswer, expireCall}
+use Rattle.rules.proofs.RemovalLaws.{removedIf}
 use Rattle.rules.specs.Answers.{isYes}
 use Rattle.rules.specs.declared.Conn.{Conn}
 use Rattle.rules.specs.declared.Event.the-variants.{Closed, TimedOut}

@@ -16,16 +16,17 @@ use Rattle.wire_opens.specs.declared.CloseAnswer.the-variants.{Close, NoClose}
 use Rattle.rules.specs.declared.Verdict.the-variants.{Stopped, Planned}
 use Rattle.rules.specs.declared.Event.the-variants.{Closed, TimedOut}
 use Rattle.rules.specs.Lists.{find, withoutFirst, maybe, repeat}
-use Rattle.rules.specs.ListLaws
-use Rattle.rules.specs.ListLaws.{by-cases, either-way}
+use Rattle.rules.proofs.ListLaws
+use Rattle.rules.proofs.ListLaws.{by-cases, either-way}
 use Rattle.rules.specs.State.{Setup, Events, State, fixeds, isInput, isOutput}
 use Rattle.rules.specs.Answers.{Answer, isYes, settled}
 use Rattle.rules.specs.Setup.{fresh}
 use Rattle.rules.specs.Events.{oldestGone, appended, pushed, pushedAll}
 use Rattle.rules.specs.Checks.{placeOf, roomCheck}
-use Rattle.rules.specs.CheckLaws
-use Rattle.rules.specs.Opening.{opened, askedPath, verdictOf, planEffect, requestEffect, requestOf, configBytes, openAnswer, openEffect, openCall}
-use Rattle.rules.specs.Removal.{afterRemoval, connTriad, removed, removedIf, closed, closeBy, closeAnswer, closeEffect, closeCall, expired, expiredFirst, expireAnswer, expireEffect, expireCall}
+use Rattle.rules.proofs.CheckLaws
+use Rattle.rules.specs.Opening.{opened, askedPath, verdictOf, planEffect, askedEffect, openAsked, configBytes, openAnswer, openEffect, openCall}
+use Rattle.rules.specs.Removal.{afterRemoval, connTriad, removed, closed, closeBy, closeAnswer, closeEffect, closeCall, expired, expiredFirst, expireAnswer, expireEffect, expireCall}
+use Rattle.rules.proofs.RemovalLaws.{removedIf}
 use Rattle.rules.specs.Receiving.{Frame, meantFor, hear, received, frameOf, receiveAnswer, receiveEffect, receiveCall}
 use Rattle.rules.specs.Producing.{sends, produceAnswer, produceEffect, produceCall}
 use Rattle.rules.specs.Host.{inputSet, setInputAnswer, setInputEffect, setInputCall, outputRead, outputAnswer, outputEffect, outputCall, nextEventAnswer, nextEventEffect, nextEventCall}
@@ -60,7 +61,7 @@ point-to-point-alone : (c : Conn) (l : List Conn) → c .fixed .multicast ≡ fa
 point-to-point-alone c l e = cc
 
 pub no-rewinding : (fault : Bool) (why : Info → Event) (p : Conn → Bool) (c : Conn) (s : State) → c .fixed .multicast ≡ false →
-    removed fault why p c s .table ≡ withoutFirst p (s .table)
+    removed fault why c (withoutFirst p (s .table)) s .table ≡ withoutFirst p (s .table)
 unfolding removed
 no-rewinding fault why p c s e = point-to-point-alone c (withoutFirst p (s .table)) e
 
@@ -102,7 +103,7 @@ plan-bound now request q g bytes s h (Planned p) e =
     let r = room-left request q s p e in
     record { connections = simp length-append (omega arith); events = pushed-all-bound _ (s .events) (h .events) }
 
-request-bound : (now : ℕ) (g : Origin) (request : List ℕ) (s : State) → Bounded s → (x : OpenAnswer) → Bounded (requestEffect now g request s x)
+request-bound : (now : ℕ) (g : Origin) (request : List ℕ) (s : State) → Bounded s → (x : OpenAnswer) → Bounded (askedEffect now g request s x)
 request-bound now g request s h NoOpen = h
 request-bound now g request s h (Open q) = plan-bound now request q g (configBytes request q) s h (verdictOf request q s) refl
 
@@ -145,7 +146,7 @@ output-bound s h (some i) = record { connections = h .connections; events = h .e
 
 bound : (c : Call) (s : State) → Bounded s → Bounded (next c s)
 unfolding openCall openEffect closeCall closeEffect receiveCall receiveEffect produceCall expireCall expireEffect setInputCall setInputEffect outputCall outputEffect nextEventCall nextEventEffect
-bound (Calls.Open t service request g room) s h = either-way Bounded (isYes (openAnswer t service request g room s)) (request-bound t g request s h (requestOf service request)) h
+bound (Calls.Open t service request g room) s h = either-way Bounded (isYes (openAnswer t service request g room s)) (request-bound t g request s h (openAsked service request)) h
 bound (Calls.OpenRefusal service request room) s h = h
 bound (Calls.Close request room) s h = either-way Bounded (isYes (closeAnswer request room s)) (close-bound s h (closeOf request)) h
 bound (Calls.Receive t from frame) s h = either-way Bounded (isYes (receiveAnswer t)) (received-bound t from s h (frameOf frame (ioOf frame))) h

@@ -17,14 +17,15 @@ use Rattle.rules.specs.declared.Verdict.the-variants.{Stopped, Planned}
 use Rattle.rules.specs.declared.Stores.the-variants.{Nothing, Into}
 use Rattle.rules.specs.declared.Event.the-variants.{Closed, TimedOut}
 use Rattle.rules.specs.Lists.{find, any, changeFirst, withoutFirst, changeAt, maybe, repeat}
-use Rattle.rules.specs.ListLaws
-use Rattle.rules.specs.ListLaws.{by-cases, clash, either-way, All, and-left, and-right, eqb-true}
+use Rattle.rules.proofs.ListLaws
+use Rattle.rules.proofs.ListLaws.{by-cases, clash, either-way, All, and-left, and-right, eqb-true}
 use Rattle.rules.specs.State.{Setup, Shape, shapeAt, Content, noContent, State, isInput, isOutput, isOwner, isListener}
 use Rattle.rules.specs.Answers.{isYes, timely}
 use Rattle.rules.specs.Setup.{blank, fresh}
 use Rattle.rules.specs.Checks.{owns, placeOf}
-use Rattle.rules.specs.Opening.{holding, stored, newConn, opened, verdictOf, planEffect, requestEffect, requestOf, configBytes, openAnswer, openEffect, openCall}
-use Rattle.rules.specs.Removal.{afterRemoval, connTriad, idle, runLost, removed, removedIf, closed, closeBy, closeAnswer, closeEffect, closeCall, expired, expiredFirst, expireAnswer, expireEffect, expireCall}
+use Rattle.rules.specs.Opening.{holding, stored, newConn, opened, verdictOf, planEffect, askedEffect, openAsked, configBytes, openAnswer, openEffect, openCall}
+use Rattle.rules.specs.Removal.{afterRemoval, connTriad, idle, runLost, removed, closed, closeBy, closeAnswer, closeEffect, closeCall, expired, expiredFirst, expireAnswer, expireEffect, expireCall}
+use Rattle.rules.proofs.RemovalLaws.{removedIf}
 use Rattle.rules.specs.Receiving.{Frame, meantFor, hear, taken, changes, deliver, delivered, received, frameOf, receiveAnswer, receiveEffect, receiveCall}
 use Rattle.rules.specs.Producing.{sends, produceAnswer, produceEffect, produceCall}
 use Rattle.rules.specs.Host.{filled, read, inputSet, setInputAnswer, setInputEffect, setInputCall, outputRead, outputAnswer, outputEffect, outputCall, nextEventAnswer, nextEventEffect, nextEventCall}
@@ -80,7 +81,7 @@ plan-owned now q g bytes s (Planned p) h i =
     more (s .setup) (s .table) (s .table ++ (c ∷ [])) (λ j y. ListLaws.any-append (ownerOf j) (s .table) (c ∷ []) ∙ ap (λ b. b || (ownerOf j c || false)) y) i
     (getD (stored (p .stores) bytes (s .contents)) i noContent) (stored-run (s .setup) (s .table) (p .stores) bytes (s .contents) h i)
 
-request-owned : (now : ℕ) (g : Origin) (request : List ℕ) (s : State) → Owned s → (x : OpenAnswer) → Owned (requestEffect now g request s x)
+request-owned : (now : ℕ) (g : Origin) (request : List ℕ) (s : State) → Owned s → (x : OpenAnswer) → Owned (askedEffect now g request s x)
 request-owned now g request s h NoOpen = h
 request-owned now g request s h (Open q) = plan-owned now q g (configBytes request q) s (verdictOf request q s) h
 
@@ -172,7 +173,7 @@ output-owned s h (some j) i = at-change (InRun (s .setup) (s .table) i) i j read
 -- EVERY CALL KEEPS IT
 owned : (u : Setup) (c : Call) (s : State) → Sound u s → Owned s → Owned (next c s)
 unfolding openCall openEffect closeCall closeEffect receiveCall receiveEffect produceCall expireCall expireEffect setInputCall setInputEffect outputCall outputEffect nextEventCall nextEventEffect
-owned u (Calls.Open t service request g room) s q h = either-way Owned (isYes (openAnswer t service request g room s)) (request-owned t g request s h (requestOf service request)) h
+owned u (Calls.Open t service request g room) s q h = either-way Owned (isYes (openAnswer t service request g room s)) (request-owned t g request s h (openAsked service request)) h
 owned u (Calls.OpenRefusal service request room) s q h = h
 owned u (Calls.Close request room) s q h = either-way Owned (isYes (closeAnswer request room s)) (close-owned s h (closeOf request)) h
 owned u (Calls.Receive t from frame) s q h = either-way Owned (isYes (receiveAnswer t)) (received-owned u t from s q h (frameOf frame (ioOf frame))) h

@@ -16,15 +16,16 @@ use Rattle.rules.specs.declared.Stream.the-variants.{Joins, Own}
 use Rattle.rules.specs.declared.Verdict.the-variants.{Stopped, Planned}
 use Rattle.rules.specs.declared.Event.the-variants.{Closed, TimedOut}
 use Rattle.rules.specs.Lists.{find, any, changeFirst, withoutFirst, maybe, repeat}
-use Rattle.rules.specs.ListLaws
-use Rattle.rules.specs.ListLaws.{T-true, by-cases, clash, either-way, All, and-left, and-right}
+use Rattle.rules.proofs.ListLaws
+use Rattle.rules.proofs.ListLaws.{T-true, by-cases, clash, either-way, All, and-left, and-right}
 use Rattle.rules.specs.State.{Setup, State, withSent, produces, fixeds, isListener, isInput, isOutput}
 use Rattle.rules.specs.Answers.{isYes}
 use Rattle.rules.specs.Setup.{fresh}
 use Rattle.rules.specs.Checks.{Roles, asksMulticast, carries, streamFound, streamOf, joins, streamCheck, rolesOf, pathIn, planOf, placeOf}
-use Rattle.rules.specs.CheckLaws
-use Rattle.rules.specs.Opening.{afterId, sideOf, firstDue, newFixed, newConn, opened, askedPath, verdictOf, planEffect, requestEffect, requestOf, configBytes, openAnswer, openEffect, openCall}
-use Rattle.rules.specs.Removal.{inStream, feeds, handsOn, handedOver, endsStream, withoutListeners, afterRemoval, connTriad, removed, removedIf, closed, closeBy, closeAnswer, closeEffect, closeCall, expired, expiredFirst, expireAnswer, expireEffect, expireCall}
+use Rattle.rules.proofs.CheckLaws
+use Rattle.rules.specs.Opening.{afterId, sideOf, firstDue, newFixed, newConn, opened, askedPath, verdictOf, planEffect, askedEffect, openAsked, configBytes, openAnswer, openEffect, openCall}
+use Rattle.rules.specs.Removal.{inStream, feeds, handsOn, handedOver, endsStream, withoutListeners, afterRemoval, connTriad, removed, closed, closeBy, closeAnswer, closeEffect, closeCall, expired, expiredFirst, expireAnswer, expireEffect, expireCall}
+use Rattle.rules.proofs.RemovalLaws.{removedIf}
 use Rattle.rules.specs.Receiving.{Frame, meantFor, newer, hear, received, frameOf, receiveAnswer, receiveEffect, receiveCall}
 use Rattle.rules.specs.Producing.{nextDue, due, sent, sends, produceAnswer, produceEffect, produceCall}
 use Rattle.rules.specs.Host.{inputSet, setInputAnswer, setInputEffect, setInputCall, outputRead, outputAnswer, outputEffect, outputCall, nextEventAnswer, nextEventEffect, nextEventCall}
@@ -299,7 +300,7 @@ unfolding opened
 plan-fed now request q g bytes s a (Stopped x) e = a
 plan-fed now request q g bytes s a (Planned p) e = open-fed now q g (s .table) (s .nextId) p (admitted request q s p e) a
 
-request-fed : (now : ℕ) (g : Origin) (request : List ℕ) (s : State) → Kept s → (x : OpenAnswer) → Kept (requestEffect now g request s x)
+request-fed : (now : ℕ) (g : Origin) (request : List ℕ) (s : State) → Kept s → (x : OpenAnswer) → Kept (askedEffect now g request s x)
 request-fed now g request s a NoOpen = a
 request-fed now g request s a (Open q) = plan-fed now request q g (configBytes request q) s a (verdictOf request q s) refl
 
@@ -350,7 +351,7 @@ output-fed s a (some i) = a
 
 stays-fed : (c : Call) (s : State) → Kept s → Kept (next c s)
 unfolding openCall openEffect closeCall closeEffect receiveCall receiveEffect produceCall expireCall expireEffect setInputCall setInputEffect outputCall outputEffect nextEventCall nextEventEffect
-stays-fed (Calls.Open t service request g room) s h = either-way Kept (isYes (openAnswer t service request g room s)) (request-fed t g request s h (requestOf service request)) h
+stays-fed (Calls.Open t service request g room) s h = either-way Kept (isYes (openAnswer t service request g room s)) (request-fed t g request s h (openAsked service request)) h
 stays-fed (Calls.OpenRefusal service request room) s h = h
 stays-fed (Calls.Close request room) s h = either-way Kept (isYes (closeAnswer request room s)) (close-fed s h (closeOf request)) h
 stays-fed (Calls.Receive t from frame) s h = either-way Kept (isYes (receiveAnswer t)) (received-fed t from s h (frameOf frame (ioOf frame))) h

@@ -7,7 +7,7 @@ use lib.Dec.{eqb, eqb·zero-suc, eqb·suc-zero, eqb·suc-suc}
 use lib.ListN.{getD}
 use borrow.Author.Tests.{eq-eqb}
 use Rattle.rules.specs.Lists.{changeAt}
-use Rattle.rules.specs.ListLaws.{by-cases}
+use Rattle.rules.proofs.ListLaws.{by-cases}
 use Rattle.rules.specs.State.{Content, noContent, isOwner}
 use Rattle.rules.specs.Checks.{owns}
 use Rattle.rules.specs.Removal.{idle, runLost}

@@ -11,8 +11,8 @@ use lib.Dec.{eqb}
 use lib.ListN.{getD}
 use borrow.Author.Tests.{eq-eqb}
 use Rattle.rules.specs.Lists.{any, keep, maybe, joined}
-use Rattle.rules.specs.ListLaws
-use Rattle.rules.specs.ListLaws.{by-cases, clash, either-way, All, and-left, and-right, eqb-true}
+use Rattle.rules.proofs.ListLaws
+use Rattle.rules.proofs.ListLaws.{by-cases, clash, either-way, All, and-left, and-right, eqb-true}
 use Rattle.rules.specs.State.{Setup, shapeAt, Content, noContent, State, isOutput, isOwner}
 use Rattle.rules.specs.Answers.{Answer, isYes, settled, fitting, Wrote, timely}
 use Rattle.rules.specs.Setup.{fresh}

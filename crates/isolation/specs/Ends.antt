@@ -8,8 +8,8 @@ use native.Mathlib.Omega.{arith}
 use lib.Dec.{eqb}
 use lib.ListN.{length}
 use Rattle.rules.specs.Lists.{find, any, keep, withoutFirst, repeat}
-use Rattle.rules.specs.ListLaws
-use Rattle.rules.specs.ListLaws.{by-cases, clash, either-way, of-cond, All, and-left, and-right, eqb-true}
+use Rattle.rules.proofs.ListLaws
+use Rattle.rules.proofs.ListLaws.{by-cases, clash, either-way, of-cond, All, and-left, and-right, eqb-true}
 use Rattle.rules.specs.State.{withSent, isListener}
 use Rattle.isolation.specs.Names.{ToId, Fixed, Heard, Sent, Conn}
 use Rattle.rules.specs.Removal.{inStream, feeds, handsOn, handedOver, endsStream, withoutListeners, afterRemoval, removeFirst}

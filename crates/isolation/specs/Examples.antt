@@ -24,12 +24,12 @@ use Rattle.rules.specs.Checks.{must, andThen, transportCheck, pathCheck, revisi
 use Rattle.rules.specs.Opening.{afterId, pointDest, groupDest, sideOf, newFixed, newHeard, newConn, opened, verdictOf, replyOf, openAnswer, openEffect, openCall}
 use Rattle.rules.specs.Removal.{removed, closed, closeAnswer, closeEffect, closeCall, expiredFirst, expireEffect, expireAnswer, expireCall, deadlineAnswer, connTriad}
 use Rattle.rules.specs.Receiving.{newer, recorded, hear, taken, changes, deliver, received, receiveAnswer, receiveEffect, receiveCall}
-use Rattle.rules.specs.Producing.{sent, frameOf, packet, packets, counters, produceAnswer, produceEffect, produceCall}
+use Rattle.rules.specs.Producing.{sent, frameSent, packet, packets, counters, produceAnswer, produceEffect, produceCall}
 use Rattle.rules.specs.Host.{setInputAnswer, setInputEffect, setInputCall, outputAnswer, outputEffect, outputCall, nextEventAnswer, nextEventEffect, nextEventCall}
 use Rattle.rules.specs.Calls.{Call, next, run}
 use Rattle.rules.specs.Lists.{any, keep}
-use Rattle.rules.specs.ListLaws.{any-map}
-use Rattle.rules.specs.Examples.{setup, start, ask, from, points, ending}
+use Rattle.rules.proofs.ListLaws.{any-map}
+use Rattle.rules.proofs.Examples.{setup, start, ask, from, points, ending}
 use Rattle.rules.specs.State.{State, triadIs}
 use Rattle.isolation.specs.Names.{Triad, Conn}
 use Rattle.isolation.specs.Survive.{triad-of, in-table}
@@ -47,7 +47,7 @@ abbrev brief : Conn → ℕ × ℕ × ℕ
 brief c = (c .fixed .triad .serial, c .fixed .toid .0, c .sent .sequence)
 
 produced-on : map brief (run calls start .table) ≡ (2, 6, 1) ∷ (3, 6, 0) ∷ []
-unfolding fresh setupOk answerNumber le leOf bytesLe bytesBe startOf stepAt itemsFrom itemsOf ioOf ioFrame portAt logicalAt keyOf keyAt dataAt segAt Segments.between Segments.stepAt segsFrom segsOf gather ConnectionPath.some last connectionPath pathOf paramsAt triadAt wayAt placeAt fieldsOf openWith widthOf openOf closeOf infoOf infoRecord eventRecord oldestGone appended pushed pushedAll openReply triadReply encFields must andThen transportCheck pathCheck revisionOk keyStop keyCheck kindOf placeOf pointsCheck rolesOf configCheck rpiCheck typeCheck otSizeCheck toSizeCheck triadCheck ownerCheck streamOf streamCheck roomCheck planOf verdict afterId pointDest groupDest sideOf newFixed newHeard newConn opened verdictOf replyOf openAnswer openEffect openCall removed closed closeAnswer closeEffect closeCall expiredFirst expireEffect expireAnswer expireCall deadlineAnswer newer recorded hear taken changes deliver received receiveAnswer receiveEffect receiveCall sent frameOf packet packets counters produceAnswer produceEffect produceCall setInputAnswer setInputEffect setInputCall outputAnswer outputEffect outputCall nextEventAnswer nextEventEffect nextEventCall
+unfolding fresh setupOk answerNumber le leOf bytesLe bytesBe startOf stepAt itemsFrom itemsOf ioOf ioFrame portAt logicalAt keyOf keyAt dataAt segAt Segments.between Segments.stepAt segsFrom segsOf gather ConnectionPath.some last connectionPath pathOf paramsAt triadAt wayAt placeAt fieldsOf openWith widthOf openOf closeOf infoOf infoRecord eventRecord oldestGone appended pushed pushedAll openReply triadReply encFields must andThen transportCheck pathCheck revisionOk keyStop keyCheck kindOf placeOf pointsCheck rolesOf configCheck rpiCheck typeCheck otSizeCheck toSizeCheck triadCheck ownerCheck streamOf streamCheck roomCheck planOf verdict afterId pointDest groupDest sideOf newFixed newHeard newConn opened verdictOf replyOf openAnswer openEffect openCall removed closed closeAnswer closeEffect closeCall expiredFirst expireEffect expireAnswer expireCall deadlineAnswer newer recorded hear taken changes deliver received receiveAnswer receiveEffect receiveCall sent frameSent packet packets counters produceAnswer produceEffect produceCall setInputAnswer setInputEffect setInputCall outputAnswer outputEffect outputCall nextEventAnswer nextEventEffect nextEventCall
 produced-on = refl
 
 -- in one run the listener of 7 times out; in the other a heartbeat of 7 keeps it, and it closes with its stream when 9 times out
@@ -72,11 +72,11 @@ abbrev told : State → List ℕ
 told st = map (λ e. getD e 0 0) (st .events .waiting)
 
 by-time : told (run first start) ≡ 1 ∷ 1 ∷ 1 ∷ 2 ∷ 3 ∷ 3 ∷ []
-unfolding fresh setupOk answerNumber le leOf bytesLe bytesBe startOf stepAt itemsFrom itemsOf ioOf ioFrame portAt logicalAt keyOf keyAt dataAt segAt Segments.between Segments.stepAt segsFrom segsOf gather ConnectionPath.some last connectionPath pathOf paramsAt triadAt wayAt placeAt fieldsOf openWith widthOf openOf closeOf infoOf infoRecord eventRecord oldestGone appended pushed pushedAll openReply triadReply encFields must andThen transportCheck pathCheck revisionOk keyStop keyCheck kindOf placeOf pointsCheck rolesOf configCheck rpiCheck typeCheck otSizeCheck toSizeCheck triadCheck ownerCheck streamOf streamCheck roomCheck planOf verdict afterId pointDest groupDest sideOf newFixed newHeard newConn opened verdictOf replyOf openAnswer openEffect openCall removed closed closeAnswer closeEffect closeCall expiredFirst expireEffect expireAnswer expireCall deadlineAnswer newer recorded hear taken changes deliver received receiveAnswer receiveEffect receiveCall sent frameOf packet packets counters produceAnswer produceEffect produceCall setInputAnswer setInputEffect setInputCall outputAnswer outputEffect outputCall nextEventAnswer nextEventEffect nextEventCall
+unfolding fresh setupOk answerNumber le leOf bytesLe bytesBe startOf stepAt itemsFrom itemsOf ioOf ioFrame portAt logicalAt keyOf keyAt dataAt segAt Segments.between Segments.stepAt segsFrom segsOf gather ConnectionPath.some last connectionPath pathOf paramsAt triadAt wayAt placeAt fieldsOf openWith widthOf openOf closeOf infoOf infoRecord eventRecord oldestGone appended pushed pushedAll openReply triadReply encFields must andThen transportCheck pathCheck revisionOk keyStop keyCheck kindOf placeOf pointsCheck rolesOf configCheck rpiCheck typeCheck otSizeCheck toSizeCheck triadCheck ownerCheck streamOf streamCheck roomCheck planOf verdict afterId pointDest groupDest sideOf newFixed newHeard newConn opened verdictOf replyOf openAnswer openEffect openCall removed closed closeAnswer closeEffect closeCall expiredFirst expireEffect expireAnswer expireCall deadlineAnswer newer recorded hear taken changes deliver received receiveAnswer receiveEffect receiveCall sent frameSent packet packets counters produceAnswer produceEffect produceCall setInputAnswer setInputEffect setInputCall outputAnswer outputEffect outputCall nextEventAnswer nextEventEffect nextEventCall
 by-time = refl
 
 by-stream : told (run second start) ≡ 1 ∷ 1 ∷ 1 ∷ 2 ∷ 2 ∷ 3 ∷ []
-unfolding fresh setupOk answerNumber le leOf bytesLe bytesBe startOf stepAt itemsFrom itemsOf ioOf ioFrame portAt logicalAt keyOf keyAt dataAt segAt Segments.between Segments.stepAt segsFrom segsOf gather ConnectionPath.some last connectionPath pathOf paramsAt triadAt wayAt placeAt fieldsOf openWith widthOf openOf closeOf infoOf infoRecord eventRecord oldestGone appended pushed pushedAll openReply triadReply encFields must andThen transportCheck pathCheck revisionOk keyStop keyCheck kindOf placeOf pointsCheck rolesOf configCheck rpiCheck typeCheck otSizeCheck toSizeCheck triadCheck ownerCheck streamOf streamCheck roomCheck planOf verdict afterId pointDest groupDest sideOf newFixed newHeard newConn opened verdictOf replyOf openAnswer openEffect openCall removed closed closeAnswer closeEffect closeCall expiredFirst expireEffect expireAnswer expireCall deadlineAnswer newer recorded hear taken changes deliver received receiveAnswer receiveEffect receiveCall sent frameOf packet packets counters produceAnswer produceEffect produceCall setInputAnswer setInputEffect setInputCall outputAnswer outputEffect outputCall nextEventAnswer nextEventEffect nextEventCall
+unfolding fresh setupOk answerNumber le leOf bytesLe bytesBe startOf stepAt itemsFrom itemsOf ioOf ioFrame portAt logicalAt keyOf keyAt dataAt segAt Segments.between Segments.stepAt segsFrom segsOf gather ConnectionPath.some last connectionPath pathOf paramsAt triadAt wayAt placeAt fieldsOf openWith widthOf openOf closeOf infoOf infoRecord eventRecord oldestGone appended pushed pushedAll openReply triadReply encFields must andThen transportCheck pathCheck revisionOk keyStop keyCheck kindOf placeOf pointsCheck rolesOf configCheck rpiCheck typeCheck otSizeCheck toSizeCheck triadCheck ownerCheck streamOf streamCheck roomCheck planOf verdict afterId pointDest groupDest sideOf newFixed newHeard newConn opened verdictOf replyOf openAnswer openEffect openCall removed closed closeAnswer closeEffect closeCall expiredFirst expireEffect expireAnswer expireCall deadlineAnswer newer recorded hear taken changes deliver received receiveAnswer receiveEffect receiveCall sent frameSent packet packets counters produceAnswer produceEffect produceCall setInputAnswer setInputEffect setInputCall outputAnswer outputEffect outputCall nextEventAnswer nextEventEffect nextEventCall
 by-stream = refl
 
 -- what an expiry removes that leaves nothing, by the triads
@@ -88,19 +88,19 @@ abbrev triad : ℕ → Triad
 triad n = record { serial = n; vendor = 1; originator = 1 }
 
 before-first : map triad-of (run calls start .table) ≡ triad 2 ∷ triad 3 ∷ []
-unfolding fresh setupOk answerNumber le leOf bytesLe bytesBe startOf stepAt itemsFrom itemsOf ioOf ioFrame portAt logicalAt keyOf keyAt dataAt segAt Segments.between Segments.stepAt segsFrom segsOf gather ConnectionPath.some last connectionPath pathOf paramsAt triadAt wayAt placeAt fieldsOf openWith widthOf openOf closeOf infoOf infoRecord eventRecord oldestGone appended pushed pushedAll openReply triadReply encFields must andThen transportCheck pathCheck revisionOk keyStop keyCheck kindOf placeOf pointsCheck rolesOf configCheck rpiCheck typeCheck otSizeCheck toSizeCheck triadCheck ownerCheck streamOf streamCheck roomCheck planOf verdict afterId pointDest groupDest sideOf newFixed newHeard newConn opened verdictOf replyOf openAnswer openEffect openCall removed closed closeAnswer closeEffect closeCall expiredFirst expireEffect expireAnswer expireCall deadlineAnswer newer recorded hear taken changes deliver received receiveAnswer receiveEffect receiveCall sent frameOf packet packets counters produceAnswer produceEffect produceCall setInputAnswer setInputEffect setInputCall outputAnswer outputEffect outputCall nextEventAnswer nextEventEffect nextEventCall
+unfolding fresh setupOk answerNumber le leOf bytesLe bytesBe startOf stepAt itemsFrom itemsOf ioOf ioFrame portAt logicalAt keyOf keyAt dataAt segAt Segments.between Segments.stepAt segsFrom segsOf gather ConnectionPath.some last connectionPath pathOf paramsAt triadAt wayAt placeAt fieldsOf openWith widthOf openOf closeOf infoOf infoRecord eventRecord oldestGone appended pushed pushedAll openReply triadReply encFields must andThen transportCheck pathCheck revisionOk keyStop keyCheck kindOf placeOf pointsCheck rolesOf configCheck rpiCheck typeCheck otSizeCheck toSizeCheck triadCheck ownerCheck streamOf streamCheck roomCheck planOf verdict afterId pointDest groupDest sideOf newFixed newHeard newConn opened verdictOf replyOf openAnswer openEffect openCall removed closed closeAnswer closeEffect closeCall expiredFirst expireEffect expireAnswer expireCall deadlineAnswer newer recorded hear taken changes deliver received receiveAnswer receiveEffect receiveCall sent frameSent packet packets counters produceAnswer produceEffect produceCall setInputAnswer setInputEffect setInputCall outputAnswer outputEffect outputCall nextEventAnswer nextEventEffect nextEventCall
 before-first = refl
 
 before-second : map triad-of (run (calls ++ (Call.Receive 30000 7 heartbeat ∷ [])) start .table) ≡ triad 2 ∷ triad 3 ∷ []
-unfolding fresh setupOk answerNumber le leOf bytesLe bytesBe startOf stepAt itemsFrom itemsOf ioOf ioFrame portAt logicalAt keyOf keyAt dataAt segAt Segments.between Segments.stepAt segsFrom segsOf gather ConnectionPath.some last connectionPath pathOf paramsAt triadAt wayAt placeAt fieldsOf openWith widthOf openOf closeOf infoOf infoRecord eventRecord oldestGone appended pushed pushedAll openReply triadReply encFields must andThen transportCheck pathCheck revisionOk keyStop keyCheck kindOf placeOf pointsCheck rolesOf configCheck rpiCheck typeCheck otSizeCheck toSizeCheck triadCheck ownerCheck streamOf streamCheck roomCheck planOf verdict afterId pointDest groupDest sideOf newFixed newHeard newConn opened verdictOf replyOf openAnswer openEffect openCall removed closed closeAnswer closeEffect closeCall expiredFirst expireEffect expireAnswer expireCall deadlineAnswer newer recorded hear taken changes deliver received receiveAnswer receiveEffect receiveCall sent frameOf packet packets counters produceAnswer produceEffect produceCall setInputAnswer setInputEffect setInputCall outputAnswer outputEffect outputCall nextEventAnswer nextEventEffect nextEventCall
+unfolding fresh setupOk answerNumber le leOf bytesLe bytesBe startOf stepAt itemsFrom itemsOf ioOf ioFrame portAt logicalAt keyOf keyAt dataAt segAt Segments.between Segments.stepAt segsFrom segsOf gather ConnectionPath.some last connectionPath pathOf paramsAt triadAt wayAt placeAt fieldsOf openWith widthOf openOf closeOf infoOf infoRecord eventRecord oldestGone appended pushed pushedAll openReply triadReply encFields must andThen transportCheck pathCheck revisionOk keyStop keyCheck kindOf placeOf pointsCheck rolesOf configCheck rpiCheck typeCheck otSizeCheck toSizeCheck triadCheck ownerCheck streamOf streamCheck roomCheck planOf verdict afterId pointDest groupDest sideOf newFixed newHeard newConn opened verdictOf replyOf openAnswer openEffect openCall removed closed closeAnswer closeEffect closeCall expiredFirst expireEffect expireAnswer expireCall deadlineAnswer newer recorded hear taken changes deliver received receiveAnswer receiveEffect receiveCall sent frameSent packet packets counters produceAnswer produceEffect produceCall setInputAnswer setInputEffect setInputCall outputAnswer outputEffect outputCall nextEventAnswer nextEventEffect nextEventCall
 before-second = refl
 
 after-first : run first start .table ≡ []
-unfolding fresh setupOk answerNumber le leOf bytesLe bytesBe startOf stepAt itemsFrom itemsOf ioOf ioFrame portAt logicalAt keyOf keyAt dataAt segAt Segments.between Segments.stepAt segsFrom segsOf gather ConnectionPath.some last connectionPath pathOf paramsAt triadAt wayAt placeAt fieldsOf openWith widthOf openOf closeOf infoOf infoRecord eventRecord oldestGone appended pushed pushedAll openReply triadReply encFields must andThen transportCheck pathCheck revisionOk keyStop keyCheck kindOf placeOf pointsCheck rolesOf configCheck rpiCheck typeCheck otSizeCheck toSizeCheck triadCheck ownerCheck streamOf streamCheck roomCheck planOf verdict afterId pointDest groupDest sideOf newFixed newHeard newConn opened verdictOf replyOf openAnswer openEffect openCall removed closed closeAnswer closeEffect closeCall expiredFirst expireEffect expireAnswer expireCall deadlineAnswer newer recorded hear taken changes deliver received receiveAnswer receiveEffect receiveCall sent frameOf packet packets counters produceAnswer produceEffect produceCall setInputAnswer setInputEffect setInputCall outputAnswer outputEffect outputCall nextEventAnswer nextEventEffect nextEventCall
+unfolding fresh setupOk answerNumber le leOf bytesLe bytesBe startOf stepAt itemsFrom itemsOf ioOf ioFrame portAt logicalAt keyOf keyAt dataAt segAt Segments.between Segments.stepAt segsFrom segsOf gather ConnectionPath.some last connectionPath pathOf paramsAt triadAt wayAt placeAt fieldsOf openWith widthOf openOf closeOf infoOf infoRecord eventRecord oldestGone appended pushed pushedAll openReply triadReply encFields must andThen transportCheck pathCheck revisionOk keyStop keyCheck kindOf placeOf pointsCheck rolesOf configCheck rpiCheck typeCheck otSizeCheck toSizeCheck triadCheck ownerCheck streamOf streamCheck roomCheck planOf verdict afterId pointDest groupDest sideOf newFixed newHeard newConn opened verdictOf replyOf openAnswer openEffect openCall removed closed closeAnswer closeEffect closeCall expiredFirst expireEffect expireAnswer expireCall deadlineAnswer newer recorded hear taken changes deliver received receiveAnswer receiveEffect receiveCall sent frameSent packet packets counters produceAnswer produceEffect produceCall setInputAnswer setInputEffect setInputCall outputAnswer outputEffect outputCall nextEventAnswer nextEventEffect nextEventCall
 after-first = refl
 
 after-second : run second start .table ≡ []
-unfolding fresh setupOk answerNumber le leOf bytesLe bytesBe startOf stepAt itemsFrom itemsOf ioOf ioFrame portAt logicalAt keyOf keyAt dataAt segAt Segments.between Segments.stepAt segsFrom segsOf gather ConnectionPath.some last connectionPath pathOf paramsAt triadAt wayAt placeAt fieldsOf openWith widthOf openOf closeOf infoOf infoRecord eventRecord oldestGone appended pushed pushedAll openReply triadReply encFields must andThen transportCheck pathCheck revisionOk keyStop keyCheck kindOf placeOf pointsCheck rolesOf configCheck rpiCheck typeCheck otSizeCheck toSizeCheck triadCheck ownerCheck streamOf streamCheck roomCheck planOf verdict afterId pointDest groupDest sideOf newFixed newHeard newConn opened verdictOf replyOf openAnswer openEffect openCall removed closed closeAnswer closeEffect closeCall expiredFirst expireEffect expireAnswer expireCall deadlineAnswer newer recorded hear taken changes deliver received receiveAnswer receiveEffect receiveCall sent frameOf packet packets counters produceAnswer produceEffect produceCall setInputAnswer setInputEffect setInputCall outputAnswer outputEffect outputCall nextEventAnswer nextEventEffect nextEventCall
+unfolding fresh setupOk answerNumber le leOf bytesLe bytesBe startOf stepAt itemsFrom itemsOf ioOf ioFrame portAt logicalAt keyOf keyAt dataAt segAt Segments.between Segments.stepAt segsFrom segsOf gather ConnectionPath.some last connectionPath pathOf paramsAt triadAt wayAt placeAt fieldsOf openWith widthOf openOf closeOf infoOf infoRecord eventRecord oldestGone appended pushed pushedAll openReply triadReply encFields must andThen transportCheck pathCheck revisionOk keyStop keyCheck kindOf placeOf pointsCheck rolesOf configCheck rpiCheck typeCheck otSizeCheck toSizeCheck triadCheck ownerCheck streamOf streamCheck roomCheck planOf verdict afterId pointDest groupDest sideOf newFixed newHeard newConn opened verdictOf replyOf openAnswer openEffect openCall removed closed closeAnswer closeEffect closeCall expiredFirst expireEffect expireAnswer expireCall deadlineAnswer newer recorded hear taken changes deliver received receiveAnswer receiveEffect receiveCall sent frameSent packet packets counters produceAnswer produceEffect produceCall setInputAnswer setInputEffect setInputCall outputAnswer outputEffect outputCall nextEventAnswer nextEventEffect nextEventCall
 after-second = refl
 
 -- the same connections are gone, so the premise is met
@@ -135,9 +135,9 @@ abbrev theirs : List Call
 theirs = opening 1 198 10000 7 ∷ opening 2 199 100000 8 ∷ []
 
 pub closes : length (keep (other 7) (run (theirs ++ (Call.Expire 50000 ∷ [])) start .table)) ≡ 0
-unfolding fresh setupOk answerNumber le leOf bytesLe bytesBe startOf stepAt itemsFrom itemsOf ioOf ioFrame portAt logicalAt keyOf keyAt dataAt segAt Segments.between Segments.stepAt segsFrom segsOf gather ConnectionPath.some last connectionPath pathOf paramsAt triadAt wayAt placeAt fieldsOf openWith widthOf openOf closeOf infoOf infoRecord eventRecord oldestGone appended pushed pushedAll openReply triadReply encFields must andThen transportCheck pathCheck revisionOk keyStop keyCheck kindOf placeOf pointsCheck rolesOf configCheck rpiCheck typeCheck otSizeCheck toSizeCheck triadCheck ownerCheck streamOf streamCheck roomCheck planOf verdict afterId pointDest groupDest sideOf newFixed newHeard newConn opened verdictOf replyOf openAnswer openEffect openCall removed closed closeAnswer closeEffect closeCall expiredFirst expireEffect expireAnswer expireCall deadlineAnswer newer recorded hear taken changes deliver received receiveAnswer receiveEffect receiveCall sent frameOf packet packets counters produceAnswer produceEffect produceCall setInputAnswer setInputEffect setInputCall outputAnswer outputEffect outputCall nextEventAnswer nextEventEffect nextEventCall
+unfolding fresh setupOk answerNumber le leOf bytesLe bytesBe startOf stepAt itemsFrom itemsOf ioOf ioFrame portAt logicalAt keyOf keyAt dataAt segAt Segments.between Segments.stepAt segsFrom segsOf gather ConnectionPath.some last connectionPath pathOf paramsAt triadAt wayAt placeAt fieldsOf openWith widthOf openOf closeOf infoOf infoRecord eventRecord oldestGone appended pushed pushedAll openReply triadReply encFields must andThen transportCheck pathCheck revisionOk keyStop keyCheck kindOf placeOf pointsCheck rolesOf configCheck rpiCheck typeCheck otSizeCheck toSizeCheck triadCheck ownerCheck streamOf streamCheck roomCheck planOf verdict afterId pointDest groupDest sideOf newFixed newHeard newConn opened verdictOf replyOf openAnswer openEffect openCall removed closed closeAnswer closeEffect closeCall expiredFirst expireEffect expireAnswer expireCall deadlineAnswer newer recorded hear taken changes deliver received receiveAnswer receiveEffect receiveCall sent frameSent packet packets counters produceAnswer produceEffect produceCall setInputAnswer setInputEffect setInputCall outputAnswer outputEffect outputCall nextEventAnswer nextEventEffect nextEventCall
 closes = refl
 
 pub stays : length (keep (other 7) (run (theirs ++ (Call.Receive 30000 7 (ioFrame 5 1 1 []) ∷ Call.Expire 50000 ∷ [])) start .table)) ≡ 1
-unfolding fresh setupOk answerNumber le leOf bytesLe bytesBe startOf stepAt itemsFrom itemsOf ioOf ioFrame portAt logicalAt keyOf keyAt dataAt segAt Segments.between Segments.stepAt segsFrom segsOf gather ConnectionPath.some last connectionPath pathOf paramsAt triadAt wayAt placeAt fieldsOf openWith widthOf openOf closeOf infoOf infoRecord eventRecord oldestGone appended pushed pushedAll openReply triadReply encFields must andThen transportCheck pathCheck revisionOk keyStop keyCheck kindOf placeOf pointsCheck rolesOf configCheck rpiCheck typeCheck otSizeCheck toSizeCheck triadCheck ownerCheck streamOf streamCheck roomCheck planOf verdict afterId pointDest groupDest sideOf newFixed newHeard newConn opened verdictOf replyOf openAnswer openEffect openCall removed closed closeAnswer closeEffect closeCall expiredFirst expireEffect expireAnswer expireCall deadlineAnswer newer recorded hear taken changes deliver received receiveAnswer receiveEffect receiveCall sent frameOf packet packets counters produceAnswer produceEffect produceCall setInputAnswer setInputEffect setInputCall outputAnswer outputEffect outputCall nextEventAnswer nextEventEffect nextEventCall
+unfolding fresh setupOk answerNumber le leOf bytesLe bytesBe startOf stepAt itemsFrom itemsOf ioOf ioFrame portAt logicalAt keyOf keyAt dataAt segAt Segments.between Segments.stepAt segsFrom segsOf gather ConnectionPath.some last connectionPath pathOf paramsAt triadAt wayAt placeAt fieldsOf openWith widthOf openOf closeOf infoOf infoRecord eventRecord oldestGone appended pushed pushedAll openReply triadReply encFields must andThen transportCheck pathCheck revisionOk keyStop keyCheck kindOf placeOf pointsCheck rolesOf configCheck rpiCheck typeCheck otSizeCheck toSizeCheck triadCheck ownerCheck streamOf streamCheck roomCheck planOf verdict afterId pointDest groupDest sideOf newFixed newHeard newConn opened verdictOf replyOf openAnswer openEffect openCall removed closed closeAnswer closeEffect closeCall expiredFirst expireEffect expireAnswer expireCall deadlineAnswer newer recorded hear taken changes deliver received receiveAnswer receiveEffect receiveCall sent frameSent packet packets counters produceAnswer produceEffect produceCall setInputAnswer setInputEffect setInputCall outputAnswer outputEffect outputCall nextEventAnswer nextEventEffect nextEventCall
 stays = refl

@@ -10,12 +10,13 @@ use lib.ListN.{length}
 use Rattle.rules.specs.declared.Kind.the-variants.{Owner, InputOnly, ListenOnly}
 use Rattle.rules.specs.declared.Event.the-variants.{TimedOut}
 use Rattle.rules.specs.Lists.{find, any, withoutFirst, maybe, repeat}
-use Rattle.rules.specs.ListLaws
-use Rattle.rules.specs.ListLaws.{by-cases, clash, and-left, and-right, eqb-true}
+use Rattle.rules.proofs.ListLaws
+use Rattle.rules.proofs.ListLaws.{by-cases, clash, and-left, and-right, eqb-true}
 use Rattle.rules.specs.State.{State, isOwner, isListener}
 use Rattle.rules.specs.Answers.{Gone, atTime}
 use Rattle.rules.specs.Checks.{owns}
-use Rattle.rules.specs.Removal.{afterRemoval, removeFirst, connTriad, expired, removed, removedIf, expiredFirst, expireEffect, expireAnswer}
+use Rattle.rules.specs.Removal.{afterRemoval, removeFirst, connTriad, expired, removed, expiredFirst, expireEffect, expireAnswer}
+use Rattle.rules.proofs.RemovalLaws.{removedIf}
 use Rattle.isolation.specs.Names.{Triad, Kind, Conn}
 use Rattle.isolation.specs.Ends.{reaches, any-removal, all-ends, length-removal, empty}
 use Rattle.isolation.specs.Survive.{Distinct, in-table, same-left}

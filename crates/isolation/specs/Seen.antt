@@ -16,13 +16,14 @@ use Rattle.rules.specs.declared.Stores.the-variants.{Nothing, Into}
 use Rattle.rules.specs.declared.Verdict.the-variants.{Stopped, Planned}
 use Rattle.rules.specs.declared.Event.the-variants.{Closed}
 use Rattle.rules.specs.Lists.{find, any, keep, changeFirst, withoutFirst, changeAt, maybe, joined}
-use Rattle.rules.specs.ListLaws
-use Rattle.rules.specs.ListLaws.{by-cases, clash, either-way, of-cond, option-map, All, and-left, and-right, eqb-true}
+use Rattle.rules.proofs.ListLaws
+use Rattle.rules.proofs.ListLaws.{by-cases, clash, either-way, of-cond, option-map, All, and-left, and-right, eqb-true}
 use Rattle.rules.specs.State.{Setup, shapeAt, Content, State, withContents, fixeds, isInput, isOutput, isOwner}
 use Rattle.rules.specs.Answers.{Answer, isYes, settled, fitting, atTime, Wrote}
 use Rattle.rules.specs.Checks.{owns, placeOf}
-use Rattle.rules.specs.Opening.{stored, opened, newConn, sideAt, verdictOf, planAnswer, planEffect, requestAnswer, requestEffect, requestOf, configBytes, openAnswer, openEffect}
-use Rattle.rules.specs.Removal.{afterRemoval, connTriad, removed, removedIf, closed, closeFor, closeBy, closeAnswer, closeEffect}
+use Rattle.rules.specs.Opening.{stored, opened, newConn, sideAt, verdictOf, planAnswer, planEffect, askedAnswer, askedEffect, openAsked, configBytes, openAnswer, openEffect}
+use Rattle.rules.specs.Removal.{afterRemoval, connTriad, removed, closed, closeFor, closeBy, closeAnswer, closeEffect}
+use Rattle.rules.proofs.RemovalLaws.{removedIf}
 use Rattle.rules.specs.Receiving.{Frame, meantFor, newer, hasCip, repeats, rightSize, hear, taken, deliver, delivered, received, frameOf, receiveEffect}
 use Rattle.rules.specs.Producing
 use Rattle.rules.specs.Producing.{due, lateBy, delays, sent, sends, packet, packets, inputBytes, counters, produceAnswer, produceEffect}
@@ -163,21 +164,21 @@ module _ (A : ℕ) (o : ℕ → Bool) (s t : State) (r : Alike A o s t) where
   plan-alike now q g bytes (Stopped x) = r
   plan-alike now q g bytes (Planned p) = opened-alike now q g bytes p
 
-  request-alike : (now : ℕ) (g : Origin) (request : List ℕ) (x : OpenAnswer) → Alike A o (requestEffect now g request s x) (requestEffect now g request t x)
+  request-alike : (now : ℕ) (g : Origin) (request : List ℕ) (x : OpenAnswer) → Alike A o (askedEffect now g request s x) (askedEffect now g request t x)
   request-alike now g request NoOpen = r
   request-alike now g request (Open q) = rw (verdict-alike request q) (plan-alike now q g (configBytes request q) (verdictOf request q t))
 
-  request-says-alike : (g : Origin) (request : List ℕ) (room : ℕ) (x : OpenAnswer) → requestAnswer g request room s x ≡ requestAnswer g request room t x
+  request-says-alike : (g : Origin) (request : List ℕ) (room : ℕ) (x : OpenAnswer) → askedAnswer g request room s x ≡ askedAnswer g request room t x
   request-says-alike g request room NoOpen = refl
   request-says-alike g request room (Open q) = ap₂ (λ n v. planAnswer q g n room v) (r .nextId) (verdict-alike request q)
 
   pub open-says-alike : (now service : ℕ) (request : List ℕ) (g : Origin) (room : ℕ) → openAnswer now service request g room s ≡ openAnswer now service request g room t
   unfolding openAnswer
-  open-says-alike now service request g room = ap (atTime now) (request-says-alike g request room (requestOf service request))
+  open-says-alike now service request g room = ap (atTime now) (request-says-alike g request room (openAsked service request))
 
   pub open-alike : (now service : ℕ) (request : List ℕ) (g : Origin) → Alike A o (openEffect now service request g s) (openEffect now service request g t)
   unfolding openEffect
-  open-alike now service request g = request-alike now g request (requestOf service request)
+  open-alike now service request g = request-alike now g request (openAsked service request)
 
   -- CLOSE
   close-for-alike : (room : ℕ) (x : CloseAnswer) → closeFor room s x ≡ closeFor room t x
@@ -238,7 +239,7 @@ module _ (A : ℕ) (o : ℕ → Bool) (s t : State) (r : Alike A o s t) where
   each now cs c = packet now (inputBytes cs (c .fixed)) c
 
   packets-hide : (now : ℕ) (cs : List Content) (l : List Conn) → packets now cs (map (hide A) l) ≡ packets now cs l
-  unfolding packets packet Producing.frameOf sent
+  unfolding packets packet Producing.frameSent sent
   packets-hide now cs l = ap (joined (each now cs)) (due-keep now l) ∙ joined-map (hide A) (each now cs) (λ c. refl) (keep (due now) l)
 
   delays-hide : (now : ℕ) (l : List Conn) → delays now (map (hide A) l) ≡ delays now l

@@ -12,15 +12,16 @@ use Rattle.wire_opens.specs.declared.CloseAnswer.the-variants.{Close, NoClose}
 use Rattle.rules.specs.declared.Verdict.the-variants.{Stopped, Planned}
 use Rattle.rules.specs.declared.Event.the-variants.{Closed, TimedOut}
 use Rattle.rules.specs.Lists.{find, any, keep, changeFirst, withoutFirst, maybe, repeat}
-use Rattle.rules.specs.ListLaws
-use Rattle.rules.specs.ListLaws.{by-cases, either-way, All}
+use Rattle.rules.proofs.ListLaws
+use Rattle.rules.proofs.ListLaws.{by-cases, either-way, All}
 use Rattle.rules.specs.State.{Setup, shapeAt, State, triadIs, fixeds, withSent, isInput, isOutput, isOwner}
 use Rattle.rules.specs.Answers.{isYes}
 use Rattle.rules.specs.Setup.{fresh}
 use Rattle.rules.specs.Checks.{hasTriad, placeOf, planOf}
-use Rattle.rules.specs.CheckLaws
-use Rattle.rules.specs.Opening.{newConn, newFixed, opened, askedPath, verdictOf, planEffect, requestEffect, requestOf, configBytes, openAnswer, openEffect, openCall}
-use Rattle.rules.specs.Removal.{inStream, handsOn, handedOver, endsStream, afterRemoval, connTriad, removed, removedIf, closed, closeBy, closeAnswer, closeEffect, closeCall, expired, expiredFirst, expireAnswer, expireEffect, expireCall}
+use Rattle.rules.proofs.CheckLaws
+use Rattle.rules.specs.Opening.{newConn, newFixed, opened, askedPath, verdictOf, planEffect, askedEffect, openAsked, configBytes, openAnswer, openEffect, openCall}
+use Rattle.rules.specs.Removal.{inStream, handsOn, handedOver, endsStream, afterRemoval, connTriad, removed, closed, closeBy, closeAnswer, closeEffect, closeCall, expired, expiredFirst, expireAnswer, expireEffect, expireCall}
+use Rattle.rules.proofs.RemovalLaws.{removedIf}
 use Rattle.rules.specs.Receiving.{Frame, meantFor, hear, received, frameOf, receiveAnswer, receiveEffect, receiveCall}
 use Rattle.rules.specs.Producing.{sends, produceAnswer, produceEffect, produceCall}
 use Rattle.rules.specs.Host.{inputSet, setInputAnswer, setInputEffect, setInputCall, outputRead, outputAnswer, outputEffect, outputCall, nextEventAnswer, nextEventEffect, nextEventCall}
@@ -134,7 +135,7 @@ module _ (u : Setup) where
   plan-sound now request q g bytes s h (Stopped x) e = h
   plan-sound now request q g bytes s h (Planned p) e = opened-sound now q g bytes p s (accepted request q s p e) h
 
-  request-sound : (now : ℕ) (g : Origin) (request : List ℕ) (s : State) → Sound u s → (x : OpenAnswer) → Sound u (requestEffect now g request s x)
+  request-sound : (now : ℕ) (g : Origin) (request : List ℕ) (s : State) → Sound u s → (x : OpenAnswer) → Sound u (askedEffect now g request s x)
   request-sound now g request s h NoOpen = h
   request-sound now g request s h (Open q) = plan-sound now request q g (configBytes request q) s h (verdictOf request q s) refl
 
@@ -191,7 +192,7 @@ module _ (u : Setup) where
   -- EVERY CALL KEEPS IT
   pub sound : (c : Call) (s : State) → Sound u s → Sound u (next c s)
   unfolding openCall openEffect closeCall closeEffect receiveCall receiveEffect produceCall expireCall expireEffect setInputCall setInputEffect outputCall outputEffect nextEventCall nextEventEffect
-  sound (Calls.Open t service request g room) s h = either-way (Sound u) (isYes (openAnswer t service request g room s)) (request-sound t g request s h (requestOf service request)) h
+  sound (Calls.Open t service request g room) s h = either-way (Sound u) (isYes (openAnswer t service request g room s)) (request-sound t g request s h (openAsked service request)) h
   sound (Calls.OpenRefusal service request room) s h = h
   sound (Calls.Close request room) s h = either-way (Sound u) (isYes (closeAnswer request room s)) (close-sound s h (closeOf request)) h
   sound (Calls.Receive t from frame) s h = either-way (Sound u) (isYes (receiveAnswer t)) (received-sound t from s h (frameOf frame (ioOf frame))) h

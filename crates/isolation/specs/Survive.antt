@@ -5,8 +5,8 @@ use mathlib.Core.List.{List, [], _∷_, map}
 use mathlib.Core.Bool.{Bool, true, false, not, _&&_}
 use lib.Dec.{eqb, eqb-refl}
 use Rattle.rules.specs.Lists.{find, any, keep, maybe}
-use Rattle.rules.specs.ListLaws
-use Rattle.rules.specs.ListLaws.{by-cases, clash, All, and-left, and-right, eqb-true, T-true}
+use Rattle.rules.proofs.ListLaws
+use Rattle.rules.proofs.ListLaws.{by-cases, clash, All, and-left, and-right, eqb-true, T-true}
 use Rattle.rules.specs.State.{triadIs, withSent}
 use Rattle.isolation.specs.Names.{ToId, Triad, Fixed, Heard, Sent, Conn}
 use Rattle.rules.specs.Removal.{inStream, connTriad}

@@ -14,11 +14,11 @@ use Rattle.rules.specs.State.{Identity, Shape, Setup}
 use Rattle.layout.specs.Places.{setupIn, edsIn}
 
 -- a shape, 5 bytes: instance 2 at 0, size 2 at 2, kind 1 at 4 (2 output, 3 configuration, else input)
-abbrev pub kindOf : ℕ → AssemblyKind
-kindOf n = cond (eqb n 2) Output (cond (eqb n 3) Config Input)
+abbrev pub kindNamed : ℕ → AssemblyKind
+kindNamed n = cond (eqb n 2) Output (cond (eqb n 3) Config Input)
 
 unfoldable pub decShape : List ℕ → Shape
-decShape b = record { instance = le 2 b 0; kind = kindOf (le 1 b 4); size = le 2 b 2 }
+decShape b = record { instance = le 2 b 0; kind = kindNamed (le 1 b 4); size = le 2 b 2 }
 
 -- the shape at a place of a setup region, of which there are 16
 abbrev pub shapeIn : List ℕ → ℕ → Shape

@@ -13,7 +13,7 @@ use rules::Socket;
 ghost use mathlib.Core.Path.{_≡_};
 ghost use Prim.Native.Nat.{ℕ, _*_, _≤_, _<_};
 ghost use lib.ListN.{length, take, drop};
-ghost use Rattle.layout.specs.Setups.{kindOf, shapeIn};
+ghost use Rattle.layout.specs.Setups.{kindNamed, shapeIn};
 ghost use Rattle.layout.specs.Rows.{toDue, toKind, kindIn, multicastIn, anyIn, anycipIn, decSent, decHeard, decFixed};
 
 // ---- numbers for what is no number
@@ -197,7 +197,7 @@ pub fn due_at(r: &[u8], i: usize) -> Due
 // ---- shapes, in the setup's region
 
 fn kind_named(n: u8) -> AssemblyKind
-    ensures { λ r. ⌜ r ≡ kindOf n ⌝ }
+    ensures { λ r. ⌜ r ≡ kindNamed n ⌝ }
 {
     if n == 2 {
         return AssemblyKind::Output;

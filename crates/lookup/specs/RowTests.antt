@@ -9,7 +9,7 @@ use lib.Dec.{eqb, ltb}
 use lib.ListN.{getD, take, drop}
 use borrow.Author.Tests.{eq-eqb, ne-eqb, le-ltb}
 use Rattle.cells.specs.Numbers.{le}
-use Rattle.rules.specs.ListLaws.{by-cases, find-any, none-found, none-is}
+use Rattle.rules.proofs.ListLaws.{by-cases, find-any, none-found, none-is}
 use Rattle.rules.specs.Lists.{maybe, find, place, any}
 use Rattle.rules.specs.State.{isListener}
 use Rattle.rules.specs.Removal.{inStream, feeds, expired, connTriad}

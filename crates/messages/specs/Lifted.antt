@@ -13,7 +13,7 @@ use Rattle.rules.specs.State.{State}
 use Rattle.rules.specs.Attributes.{Outcome}
 use Rattle.rules.specs.Answers.{Answer, answerNumber, answerBytes, Wrote, Refused, NoRoom}
 use Rattle.rules.specs.Message.{serviceOf, messageOutcome, messageReply, replyRoom, messageCall}
-use Rattle.rules.specs.ReplyLaws.{no-room, always-replied}
+use Rattle.rules.proofs.ReplyLaws.{no-room, always-replied}
 use Rattle.image.specs.Image.{view, tested}
 use Rattle.uploads.specs.Positions.{decUpload, encUpload}
 use Rattle.messages.specs.Positions.{positionTested}

@@ -20,7 +20,7 @@ use Rattle.rules.specs.Attributes.{Outcome, Fails}
 use Rattle.rules.specs.Upload.{uploadOk}
 use Rattle.rules.specs.Objects.{fileAttributes, edsFile, file}
 use Rattle.rules.specs.Message.{fileIn}
-use Rattle.rules.specs.ReplyLaws.{Sized}
+use Rattle.rules.proofs.ReplyLaws.{Sized}
 use Rattle.layout.specs.Places.{setupIn, edsIn}
 use Rattle.layout.specs.Setups.{setupFrom, setupOf}
 use Rattle.image.specs.Image.{view, tested}

@@ -20,7 +20,7 @@ use Rattle.rules.specs.State.{State}
 use Rattle.rules.specs.Attributes.{Outcome, Fails}
 use Rattle.rules.specs.Upload.{uploadOk}
 use Rattle.rules.specs.Message.{ofClass, ofObject, ofRequest, serviceOf, replyTo, messageOutcome, messageReply}
-use Rattle.rules.specs.ReplyLaws.{Sized, reply-fits}
+use Rattle.rules.proofs.ReplyLaws.{Sized, reply-fits}
 use Rattle.attributes.specs.declared.Given.{Given}
 use Rattle.uploads.specs.Lent.{stepped}
 use Rattle.messages.specs.Replies.{replied}

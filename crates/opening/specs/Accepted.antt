@@ -10,11 +10,11 @@ use Rattle.wire_opens.specs.declared.ForwardOpen.{ForwardOpen}
 use Rattle.wire_opens.specs.declared.OpenAnswer.{OpenAnswer}
 use Rattle.wire_opens.specs.declared.OpenAnswer.the-variants.{Open, NoOpen}
 use Rattle.wire_paths.specs.ConnectionPath.{pathOf}
-use Rattle.rules.specs.ListLaws.{either-way}
+use Rattle.rules.proofs.ListLaws.{either-way}
 use Rattle.rules.specs.Answers.{isYes}
 use Rattle.rules.specs.Checks.{pathIn, verdict}
 use Rattle.rules.specs.Events.{infoOf}
-use Rattle.rules.specs.Opening.{afterId, sideAt, newConn, opened, pathBytes, configBytes, askedPath, verdictOf, planEffect, requestEffect, requestOf, openAnswer, openEffect, openCall}
+use Rattle.rules.specs.Opening.{afterId, sideAt, newConn, opened, pathBytes, configBytes, askedPath, verdictOf, planEffect, askedEffect, openAsked, openAnswer, openEffect, openCall}
 use Rattle.rules.specs.State.{State, contentAt, shapeAt, withNextId, fixeds}
 use Rattle.rules.specs.declared.Conn.{Conn}
 use Rattle.rules.specs.declared.Event.the-variants.{Opened, Configured}
@@ -74,9 +74,9 @@ module _ (l : List ℕ) where
     unfolding openCall openEffect
     open-accepted t service request g room =
         tested-store (openCall t service request g room (view l) .1) l
-        (either-way (λ (z : State). Suits z l) (isYes (openAnswer t service request g room (view l))) {x = requestEffect t g request (view l) (requestOf service request)} {y = view l}
-        (go (requestOf service request)) (suits-view l ok))
+        (either-way (λ (z : State). Suits z l) (isYes (openAnswer t service request g room (view l))) {x = askedEffect t g request (view l) (openAsked service request)} {y = view l}
+        (go (openAsked service request)) (suits-view l ok))
       where
-        go : (q : OpenAnswer) → Suits (requestEffect t g request (view l) q) l
+        go : (q : OpenAnswer) → Suits (askedEffect t g request (view l) q) l
         go NoOpen = suits-view l ok
         go (Open o) = suits-planned t o g request (verdictOf request o (view l)) refl

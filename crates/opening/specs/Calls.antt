@@ -19,7 +19,7 @@ use Rattle.wire_paths.specs.declared.PathAnswer.{PathAnswer}
 use Rattle.wire_paths.specs.ConnectionPath.{pathOf}
 use Rattle.rules.specs.Answers.{Answer, Refused, Failed, NotParsed, BadTime, isYes, answerNumber, answerBytes, settled}
 use Rattle.rules.specs.Checks.{pathIn, verdict}
-use Rattle.rules.specs.Opening.{opened, pathBytes, verdictOf, planAnswer, planEffect, requestAnswer, requestEffect, requestOf, openAnswer, openEffect, openCall}
+use Rattle.rules.specs.Opening.{opened, pathBytes, verdictOf, planAnswer, planEffect, askedAnswer, askedEffect, openAsked, openAnswer, openEffect, openCall}
 use Rattle.rules.specs.State.{State, fixeds}
 use Rattle.rules.specs.declared.Origin.{Origin}
 use Rattle.rules.specs.declared.Plan.{Plan}
@@ -80,7 +80,7 @@ pub asked-same : (t : ℕ) (o : ForwardOpen) (g : Origin) (request s out : List 
 asked-same t o g request s out x d = d ∙ ap (λ (z : List ℕ). liftedOut (pathCall t o g z) s out) (asked-path request o)
 
 -- the path of an open that parsed is all there
-pub open-inside : (service : ℕ) (request : List ℕ) (o : ForwardOpen) → requestOf service request ≡ Open o → o .path .start + o .path .len ≤ length request
+pub open-inside : (service : ℕ) (request : List ℕ) (o : ForwardOpen) → openAsked service request ≡ Open o → o .path .start + o .path .len ≤ length request
 open-inside service request o e = go (eqb service 0x5B) (eqb service 0x54) e
   where
     go : (b c : Bool) → cond b (openOf true request) (cond c (openOf false request) NoOpen) ≡ Open o → o .path .start + o .path .len ≤ length request
@@ -93,26 +93,26 @@ module _ (t service : ℕ) (request : List ℕ) (g : Origin) (s out : List ℕ) 
   unfolding openCall openAnswer answerNumber
   open-late ok b h =
       let a : Refused BadTime ≡ openAnswer t service request g (length out) (view s) =
-      ap (λ (v : Bool). cond v (requestAnswer g request (length out) (view s) (requestOf service request)) (Refused BadTime)) (sym (lt-leb t 9223372036854775807 h)) in
+      ap (λ (v : Bool). cond v (askedAnswer g request (length out) (view s) (openAsked service request)) (Refused BadTime)) (sym (lt-leb t 9223372036854775807 h)) in
       out-kept (openCall t service request g) s out ok b 3 (ap answerNumber a)
       (ap (λ (z : Answer). cond (isYes z) (openEffect t service request g (view s)) (view s)) (sym a)) (ap answerBytes (sym a))
 
   module _ (h : t ≤ 9223372036854775807) where
-    timely-answer : (q : OpenAnswer) → q ≡ requestOf service request → requestAnswer g request (length out) (view s) q ≡ openAnswer t service request g (length out) (view s)
+    timely-answer : (q : OpenAnswer) → q ≡ openAsked service request → askedAnswer g request (length out) (view s) q ≡ openAnswer t service request g (length out) (view s)
     unfolding openAnswer
-    timely-answer q e = λ j. cond (sym (le-leb t 9223372036854775807 h) j) (requestAnswer g request (length out) (view s) (e j)) (Refused BadTime)
+    timely-answer q e = λ j. cond (sym (le-leb t 9223372036854775807 h) j) (askedAnswer g request (length out) (view s) (e j)) (Refused BadTime)
 
-    pub open-unread : tested s ≡ true → Bytes s → requestOf service request ≡ NoOpen → (4, (s, out)) ≡ liftedOut (openCall t service request g) s out
+    pub open-unread : tested s ≡ true → Bytes s → openAsked service request ≡ NoOpen → (4, (s, out)) ≡ liftedOut (openCall t service request g) s out
     unfolding openCall answerNumber
     open-unread ok b e =
         let a : Refused NotParsed ≡ openAnswer t service request g (length out) (view s) = timely-answer NoOpen (sym e) in
         out-kept (openCall t service request g) s out ok b 4 (ap answerNumber a)
         (ap (λ (z : Answer). cond (isYes z) (openEffect t service request g (view s)) (view s)) (sym a)) (ap answerBytes (sym a))
 
-    pub open-read : (o : ForwardOpen) → requestOf service request ≡ Open o → (r : ℕ) (s′ out′ : List ℕ)
+    pub open-read : (o : ForwardOpen) → openAsked service request ≡ Open o → (r : ℕ) (s′ out′ : List ℕ)
         → (r, (s′, out′)) ≡ liftedOut (pathCall t o g (pathBytes request o)) s out → (r, (s′, out′)) ≡ liftedOut (openCall t service request g) s out
     unfolding openCall openEffect verdictOf pathCall
     open-read o e r s′ out′ d =
         let a = timely-answer (Open o) (sym e) in
         d ∙ out-same (pathCall t o g (pathBytes request o)) (openCall t service request g) s out
-        (λ j. settled (a j) (requestEffect t g request (view s) (sym e j)) (view s))
+        (λ j. settled (a j) (askedEffect t g request (view s) (sym e j)) (view s))

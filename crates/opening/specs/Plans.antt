@@ -17,10 +17,10 @@ use Rattle.wire_paths.specs.declared.PathAnswer.{PathAnswer}
 use Rattle.wire_paths.specs.declared.PathAnswer.the-variants.{Parsed, Unparsed}
 use Rattle.wire_paths.specs.ConnectionPath.{pathOf}
 use Rattle.wire_paths.specs.PathLaws.{data-inside}
-use Rattle.rules.specs.ListLaws.{by-cases, clash}
+use Rattle.rules.proofs.ListLaws.{by-cases, clash}
 use Rattle.rules.specs.State.{Setup, State, noShape, shapeAt, contentAt, fixeds}
 use Rattle.rules.specs.Checks.{pathIn, rolesOf, configStop, configCheck, roomCheck, storesInto, planOf, verdict}
-use Rattle.rules.specs.CheckLaws.{must-none, passed}
+use Rattle.rules.proofs.CheckLaws.{must-none, passed}
 use Rattle.rules.specs.declared.Conn.{Conn}
 use Rattle.rules.specs.declared.Fixed.{Fixed}
 use Rattle.rules.specs.declared.Plan.{Plan}

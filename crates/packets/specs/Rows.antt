@@ -7,7 +7,7 @@ use native.Mathlib.Omega.{arith}
 use lib.ListN.{length, getD, take, drop}
 use Rattle.cells.specs.Numbers.{le}
 use Rattle.rules.specs.State.{Content, State}
-use Rattle.rules.specs.Producing.{due, sent, inputBytes, frameOf, packet}
+use Rattle.rules.specs.Producing.{due, sent, inputBytes, frameSent, packet}
 use Rattle.rules.specs.declared.Conn.{Conn}
 use Rattle.rules.specs.declared.Sent.{Sent}
 use Rattle.layout.specs.Places.{tableIn}
@@ -28,7 +28,7 @@ unfolding sent stepped
 sent-is t c = refl
 
 pub packet-is : (t : ℕ) (d : List ℕ) (c : Conn) → packet t d c ≡ packetOf (c .fixed) (sent t c) d
-unfolding packet frameOf packetOf head
+unfolding packet frameSent packetOf head
 packet-is t d c = simp append-assoc
 
 pub due-packet : (t : ℕ) (contents : List Content) (c : Conn) → due t c ≡ true

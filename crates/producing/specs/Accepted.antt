@@ -5,7 +5,7 @@ use mathlib.Core.List.{List, map}
 use mathlib.Core.Path.{_≡_}
 use native.Mathlib.Omega.{arith}
 use lib.ListN.{length-map}
-use Rattle.rules.specs.ListLaws.{either-way}
+use Rattle.rules.proofs.ListLaws.{either-way}
 use Rattle.rules.specs.State.{State}
 use Rattle.rules.specs.Answers.{isYes}
 use Rattle.rules.specs.Producing.{sends, delays, counters, produceAnswer, produceEffect, produceCall}

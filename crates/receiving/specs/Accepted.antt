@@ -8,7 +8,7 @@ use native.Mathlib.Omega.{arith}
 use lib.Dec.{eqb, ltb}
 use lib.ListN.{length, length-drop}
 use Rattle.rules.specs.Lists.{maybe, find, changeFirst}
-use Rattle.rules.specs.ListLaws.{by-cases, either-way, and-right, eqb-true, length-change}
+use Rattle.rules.proofs.ListLaws.{by-cases, either-way, and-right, eqb-true, length-change}
 use Rattle.rules.specs.State.{Content, State, noContent, shapeAt, contentAt, withContents, withEvents}
 use Rattle.rules.specs.Events.{pushed, pushedAll}
 use Rattle.rules.specs.Answers.{isYes}

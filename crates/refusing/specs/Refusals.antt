@@ -19,19 +19,19 @@ use Rattle.wire_replies.specs.Replies.{openRefusal}
 use Rattle.wire_replies.specs.ReplyLaws.{open-refusal-long}
 use Rattle.rules.specs.Answers.{Answer, Wrote, Refused, Failed, NotParsed, NoRoom, wordsOf, wordsNumber, answerNumber, answerBytes, fitting}
 use Rattle.routing.specs.Answered.{answered}
-use Rattle.rules.specs.Opening.{requestOf, refusalFor, refusalAnswer}
+use Rattle.rules.specs.Opening.{openAsked, refusalFor, refusalAnswer}
 use Rattle.rules.specs.declared.Stop.{Stop}
 
 -- ---- which open
 
 module _ (service : ℕ) (request : List ℕ) where
-  pub request-large : service ≡ 0x5B → openOf true request ≡ requestOf service request
+  pub request-large : service ≡ 0x5B → openOf true request ≡ openAsked service request
   request-large e = ap (λ (b : Bool). cond b (openOf true request) (cond (eqb service 0x54) (openOf false request) NoOpen)) (sym (eq-eqb service 0x5B e))
 
-  pub request-small : (service ≡ 0x5B → ⊥) → service ≡ 0x54 → openOf false request ≡ requestOf service request
+  pub request-small : (service ≡ 0x5B → ⊥) → service ≡ 0x54 → openOf false request ≡ openAsked service request
   request-small n e = rw (ne-eqb service 0x5B n, eq-eqb service 0x54 e)
 
-  pub request-other : (service ≡ 0x5B → ⊥) → (service ≡ 0x54 → ⊥) → NoOpen ≡ requestOf service request
+  pub request-other : (service ≡ 0x5B → ⊥) → (service ≡ 0x54 → ⊥) → NoOpen ≡ openAsked service request
   request-other n m = rw (ne-eqb service 0x5B n, ne-eqb service 0x54 m)
 
 -- ---- the reply's data
@@ -56,7 +56,7 @@ module _ (t : Triad) (out : List ℕ) where
       ∙ ap (λ (b : Bool). let a : Answer = cond b (Wrote (openRefusal t)) (Refused NoRoom) in (answerNumber a, sets out 0 (answerBytes a)))
       (sym (le-leb (length (openRefusal t)) (length out) (omega arith)))
 
-module _ (service : ℕ) (request out : List ℕ) (x : OpenAnswer) (ex : x ≡ requestOf service request) where
+module _ (service : ℕ) (request out : List ℕ) (x : OpenAnswer) (ex : x ≡ openAsked service request) where
   from-answer : (q : OpenAnswer) → x ≡ q → answered (λ room. refusalFor room q) out ≡ answered (refusalAnswer service request) out
   unfolding refusalAnswer answered
   from-answer q e = ap (λ (z : OpenAnswer). answered (λ room. refusalFor room z) out) (sym e ∙ ex)

@@ -7,13 +7,13 @@ ghost use Prim.Native.Nat.{_+_};
 ghost use mathlib.Core.List.{[], _∷_};
 ghost use lib.ListN.{length};
 ghost use Rattle.rules.specs.Answers.{Failed, wordsNumber, answerNumber};
-ghost use Rattle.rules.specs.Opening.{requestOf, refusalAnswer};
+ghost use Rattle.rules.specs.Opening.{openAsked, refusalAnswer};
 ghost use Rattle.routing.specs.Answered.{answered};
 ghost use Rattle.refusing.specs.Refusals.{refusalOf};
 
 // The open that a service's data is: 0x54 is a small one, 0x5B a large one.
 pub fn request_of(service: u8, request: &[u8]) -> OpenAnswer
-    ensures { λ r. ⌜ r ≡ requestOf service (now (request .entry)) ⌝ }
+    ensures { λ r. ⌜ r ≡ openAsked service (now (request .entry)) ⌝ }
 {
     if service == 0x5B {
         return wire_opens::decode_open(request, true);

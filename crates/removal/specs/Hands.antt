@@ -10,7 +10,7 @@ use Rattle.cells.specs.Numbers.{le, le-1, le-8}
 use Rattle.cells.specs.Back.{Bytes}
 use Rattle.rules.specs.Lists.{find, place, changeFirst, changeAt}
 use Rattle.tables.specs.Tables.{rows}
-use Rattle.rules.specs.ListLaws.{by-cases}
+use Rattle.rules.proofs.ListLaws.{by-cases}
 use Rattle.rules.specs.State.{Content, State, noContent, contentAt, withContents, withTable, withSent, isOwner, produces}
 use Rattle.rules.specs.Removal.{inStream, idle}
 use Rattle.rules.specs.declared.Conn.{Conn}

@@ -12,7 +12,7 @@ use Rattle.cells.specs.Numbers.{le}
 use Rattle.cells.specs.Records.{ofBool}
 use Rattle.tables.specs.Tables.{rows, without}
 use Rattle.rules.specs.Lists.{maybe, find, place, any, keep, withoutFirst}
-use Rattle.rules.specs.ListLaws.{by-cases, clash, find-passes, keep-all, all-to, none-found, without-keep-out}
+use Rattle.rules.proofs.ListLaws.{by-cases, clash, find-passes, keep-all, all-to, none-found, without-keep-out}
 use Rattle.rules.specs.State.{Events, State, withTable, isListener}
 use Rattle.rules.specs.Events.{infoOf, infoRecord, eventRecord, appended, pushed, pushedAll}
 use Rattle.rules.specs.Removal.{inStream, feeds, closedEvents}

@@ -14,7 +14,8 @@ use Rattle.rules.specs.declared.Event.{Event}
 use Rattle.rules.specs.declared.Event.the-variants.{Closed, TimedOut}
 use Rattle.ids.specs.declared.Triad.{Triad}
 use Rattle.rules.specs.Events.{infoOf, infoRecord, eventRecord, pushed, pushedAll}
-use Rattle.rules.specs.Removal.{afterRemoval, handedOver, listenersOf, runLost, closedEvents, removed, removedIf, connTriad, expired, closed, expiredFirst}
+use Rattle.rules.specs.Removal.{afterRemoval, handedOver, listenersOf, runLost, closedEvents, removed, connTriad, expired, closed, expiredFirst}
+use Rattle.rules.proofs.RemovalLaws.{removedIf}
 use Rattle.rules.specs.declared.Conn.{Conn}
 use Rattle.rules.specs.declared.Fixed.{Fixed}
 use Rattle.rules.specs.declared.Sent.{Sent}
@@ -80,11 +81,11 @@ module _ (p : Conn → Bool) (st : State) (i : ℕ) (g : place p (st .table) ≡
   abbrev c : Conn
   c = getD (st .table) i noConn
 
-  closed-at : removed false Closed p c st ≡ goneAt 2 i st
+  closed-at : removed false Closed c (withoutFirst p (st .table)) st ≡ goneAt 2 i st
   unfolding removed pushed eventRecord
   closed-at = ap (after (st .fault) (Closed (infoOf (st .setup) (c .fixed))) c st) (without-at p noConn (st .table) i g)
 
-  timed-at : removed true TimedOut p c st ≡ withFault true (goneAt 3 i st)
+  timed-at : removed true TimedOut c (withoutFirst p (st .table)) st ≡ withFault true (goneAt 3 i st)
   unfolding removed pushed eventRecord
   timed-at = ap (after true (TimedOut (infoOf (st .setup) (c .fixed))) c st) (without-at p noConn (st .table) i g)
 

@@ -13,8 +13,8 @@ use Rattle.wire_paths.specs.declared.ConnectionPath.{ConnectionPath}
 use Rattle.rules.specs.declared.AssemblyKind.{AssemblyKind}
 use Rattle.rules.specs.State.{Setup, isInput, isOutput, isConfig, isOwner}
 use Rattle.rules.specs.Lists.{isSome}
-use Rattle.rules.specs.ListLaws.{clash}
-use Rattle.rules.specs.CheckLaws.{must-none, then-none}
+use Rattle.rules.proofs.ListLaws.{clash}
+use Rattle.rules.proofs.CheckLaws.{must-none, then-none}
 use Rattle.rules.specs.Checks as checks
 use Rattle.layout.specs.Setups.{decShape, setupFrom}
 use Rattle.checking.specs.PlaceLaws.{place-in}

@@ -10,7 +10,7 @@ use lib.Dec.{ltb, leb}
 use lib.ListN.{length, getD, take, drop}
 use Rattle.cells.specs.Pick.{pick}
 use Rattle.wire_paths.specs.Segments.{pathMax, stepAt, Segs, segs, broken, follow, segsFrom, segsOf}
-use Rattle.wire_paths.specs.ConnectionPath.{numbersIn, connectionPath, pathAnswer, pathOf}
+use Rattle.wire_paths.specs.ConnectionPath.{numbersIn, connectionPath, pathRead, pathOf}
 use Rattle.wire_paths.specs.PathLaws as paths
 use Rattle.wire_paths.specs.declared.ConnectionPath.{ConnectionPath}
 use Rattle.wire_paths.specs.declared.PathAnswer.the-variants.{Parsed, Unparsed}
@@ -36,7 +36,7 @@ module _ (s : List ℕ) (p : ConnectionPath) (e : Parsed p ≡ pathOf s) where
   unfolding pathOf connectionPath
   count = go (segsOf s) e
     where
-      go : (r : Segs) → Parsed p ≡ pathAnswer r → p .count ≤ 4
+      go : (r : Segs) → Parsed p ≡ pathRead r → p .count ≤ 4
       go (segs l) q = let n : p .count ≡ min (length (numbersIn l)) 4 = cc in omega arith
       go (broken o) q = absurd (let z : _≡_ {A = ℕ} 0 1 = cc in omega arith)
 

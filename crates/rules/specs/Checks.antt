@@ -144,7 +144,7 @@ configCheck u p r = cond (eqb (p .datalen) 0) none (configStop u (p .datalen) (r
 
 -- check 6: either RPI outside the range, whose ends pass
 abbrev pub rpiOk : Setup → ℕ → Bool
-rpiOk u us = leb (u .rpiMin) us && leb us (u .rpiMax)
+rpiOk u rpi = leb (u .rpiMin) rpi && leb rpi (u .rpiMax)
 
 unfoldable pub rpiCheck : Setup → ForwardOpen → Option Stop
 rpiCheck u o =

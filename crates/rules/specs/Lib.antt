@@ -11,16 +11,7 @@ pub mod Producing
 pub mod Host
 pub mod Routing
 pub mod Calls
-pub mod Examples
-pub mod ListLaws
-pub mod CheckLaws
-pub mod ExpiryLaws
 pub mod Attributes
 pub mod Upload
 pub mod Objects
 pub mod Message
-pub mod UploadLaws
-pub mod UploadMessages
-pub mod ReplyLaws
-pub mod ObjectExamples
-pub mod RoutingExamples

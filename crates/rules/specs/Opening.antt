@@ -138,24 +138,24 @@ abbrev pub planEffect : ℕ → ForwardOpen → Origin → List ℕ → State �
 planEffect t o g bytes st (Stopped s) = st
 planEffect t o g bytes st (Planned p) = opened t o g bytes p st
 
-abbrev pub requestAnswer : Origin → List ℕ → ℕ → State → OpenAnswer → Answer
-requestAnswer g request room st NoOpen = Refused NotParsed
-requestAnswer g request room st (Open o) = planAnswer o g (st .nextId) room (verdictOf request o st)
+abbrev pub askedAnswer : Origin → List ℕ → ℕ → State → OpenAnswer → Answer
+askedAnswer g request room st NoOpen = Refused NotParsed
+askedAnswer g request room st (Open o) = planAnswer o g (st .nextId) room (verdictOf request o st)
 
-abbrev pub requestEffect : ℕ → Origin → List ℕ → State → OpenAnswer → State
-requestEffect t g request st NoOpen = st
-requestEffect t g request st (Open o) = planEffect t o g (configBytes request o) st (verdictOf request o st)
+abbrev pub askedEffect : ℕ → Origin → List ℕ → State → OpenAnswer → State
+askedEffect t g request st NoOpen = st
+askedEffect t g request st (Open o) = planEffect t o g (configBytes request o) st (verdictOf request o st)
 
 -- service 0x54 is a small open, 0x5B a large one
-abbrev pub requestOf : ℕ → List ℕ → OpenAnswer
-requestOf service request = cond (eqb service 0x5B) (openOf true request) (cond (eqb service 0x54) (openOf false request) NoOpen)
+abbrev pub openAsked : ℕ → List ℕ → OpenAnswer
+openAsked service request = cond (eqb service 0x5B) (openOf true request) (cond (eqb service 0x54) (openOf false request) NoOpen)
 
 -- OPEN: No. 3, 4, 5, 8
 unfoldable pub openAnswer : ℕ → ℕ → List ℕ → Origin → ℕ → State → Answer
-openAnswer t service request g room st = atTime t (requestAnswer g request room st (requestOf service request))
+openAnswer t service request g room st = atTime t (askedAnswer g request room st (openAsked service request))
 
 unfoldable pub openEffect : ℕ → ℕ → List ℕ → Origin → State → State
-openEffect t service request g st = requestEffect t g request st (requestOf service request)
+openEffect t service request g st = askedEffect t g request st (openAsked service request)
 
 unfoldable pub openCall : ℕ → ℕ → List ℕ → Origin → ℕ → State → Answer × State
 openCall t service request g room st = settled (openAnswer t service request g room st) (openEffect t service request g st) st
@@ -166,4 +166,4 @@ refusalFor room NoOpen = Refused NotParsed
 refusalFor room (Open o) = fitting room (openRefusal (o .triad)) (Wrote (openRefusal (o .triad)))
 
 unfoldable pub refusalAnswer : ℕ → List ℕ → ℕ → Answer
-refusalAnswer service request room = refusalFor room (requestOf service request)
+refusalAnswer service request room = refusalFor room (openAsked service request)

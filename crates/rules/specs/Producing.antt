@@ -44,14 +44,14 @@ sends t c = cond (due t c) (withSent (sent t c) c) c
 abbrev pub inputBytes : List Content → Fixed → List ℕ
 inputBytes contents f = getD contents (f .input) noContent .bytes
 
-unfoldable pub frameOf : ℕ → List ℕ → Conn → List ℕ
-frameOf t bytes c = ioFrame (c .fixed .toid .0) (sent t c .sequence) (sent t c .cip) bytes
+unfoldable pub frameSent : ℕ → List ℕ → Conn → List ℕ
+frameSent t bytes c = ioFrame (c .fixed .toid .0) (sent t c .sequence) (sent t c .cip) bytes
 
 -- address 4, port 2, multicast 1, local 4, frame length 2, all big-endian, then the frame
 unfoldable pub packet : ℕ → List ℕ → Conn → List ℕ
 packet t bytes c =
     bytesBe 4 (c .fixed .dest .address) ++ bytesBe 2 (c .fixed .dest .port) ++ bytesBe 1 (ofBool (c .fixed .multicast)) ++ bytesBe 4 (c .fixed .local) ++
-    bytesBe 2 (length (frameOf t bytes c)) ++ frameOf t bytes c
+    bytesBe 2 (length (frameSent t bytes c)) ++ frameSent t bytes c
 
 -- producing connections in table order, each packet behind the one before
 unfoldable pub packets : ℕ → List Content → List Conn → List ℕ

@@ -61,9 +61,8 @@ runLost f contents = cond (isOwner (f .kind)) (changeAt (f .output) idle content
 abbrev pub closedEvents : Setup → List Conn → List Event
 closedEvents u cs = map (λ c. Closed (infoOf u (c .fixed))) cs
 
-unfoldable pub removed : Bool → (Info → Event) → (Conn → Bool) → Conn → State → State
-removed fault why p c st =
-    let rest = withoutFirst p (st .table) in
+unfoldable pub removed : Bool → (Info → Event) → Conn → List Conn → State → State
+removed fault why c rest st =
     record {
       setup = st .setup;
       contents = runLost (c .fixed) (st .contents);
@@ -74,16 +73,16 @@ removed fault why p c st =
       counters = st .counters;
     }
 
-abbrev pub removedIf : Bool → (Info → Event) → (Conn → Bool) → State → Option Conn → State
-removedIf fault why p st none = st
-removedIf fault why p st (some c) = removed fault why p c st
+-- the first that passes a test goes, if there is one
+abbrev pub removedFirst : Bool → (Info → Event) → (Conn → Bool) → State → State
+removedFirst fault why p st = maybe st (λ c. removed fault why c (withoutFirst p (st .table)) st) (find p (st .table))
 
 abbrev pub connTriad : Triad → Conn → Bool
 connTriad t c = hasTriad t (c .fixed)
 
 -- CLOSE: No. 4, 9, 8
 unfoldable pub closed : Triad → State → State
-closed t st = removedIf false Closed (connTriad t) st (find (connTriad t) (st .table))
+closed t st = removedFirst false Closed (connTriad t) st
 
 abbrev pub closeFor : ℕ → State → CloseAnswer → Answer
 closeFor room st NoClose = Refused NotParsed
@@ -109,7 +108,7 @@ expired t c = ltb (c .heard .until) t
 
 -- expiry removes the first such, repeatedly, and sets the fault mark
 unfoldable pub expiredFirst : ℕ → State → State
-expiredFirst t st = removedIf true TimedOut (expired t) st (find (expired t) (st .table))
+expiredFirst t st = removedFirst true TimedOut (expired t) st
 
 unfoldable pub expireEffect : ℕ → State → State
 expireEffect t st = repeat (length (st .table)) (expiredFirst t) st

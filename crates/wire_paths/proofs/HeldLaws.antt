@@ -4,7 +4,7 @@ use mathlib.Core.Path.{_≡_, sym, _∙_, ap}
 use mathlib.Core.List.{List, [], _∷_, _++_}
 use Rattle.wire_paths.specs.Segments.{stepAt}
 use Rattle.wire_paths.specs.WalkLaws.{Passed, passed-none, passed-more, passed-all, passed-broken}
-use Rattle.wire_paths.specs.ConnectionPath.{connectionPath, pathAnswer, pathOf}
+use Rattle.wire_paths.specs.ConnectionPath.{connectionPath, pathRead, pathOf}
 use Rattle.wire_paths.specs.Adding.{added}
 use Rattle.wire_paths.proofs.AddingLaws.{added-more}
 use Rattle.wire_paths.specs.declared.Seg.{Seg}
@@ -31,8 +31,8 @@ module _ (s : List ℕ) (at : ℕ) (p : ConnectionPath) (h : Held s at p) where
 
   pub held-all : End ≡ stepAt s at → Parsed p ≡ pathOf s
   unfolding pathOf
-  held-all f = ap Parsed (h .holds) ∙ sym (ap pathAnswer (passed-all s at (h .done) (h .passed) f))
+  held-all f = ap Parsed (h .holds) ∙ sym (ap pathRead (passed-all s at (h .done) (h .passed) f))
 
   pub held-broken : (o : ℕ) → Broken o ≡ stepAt s at → Unparsed o ≡ pathOf s
   unfolding pathOf
-  held-broken o f = sym (ap pathAnswer (passed-broken s at (h .done) (h .passed) o f))
+  held-broken o f = sym (ap pathRead (passed-broken s at (h .done) (h .passed) o f))

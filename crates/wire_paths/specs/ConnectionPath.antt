@@ -113,10 +113,10 @@ connectionPath l =
       datalen = last (0, 0) (placesIn l) .1;
     }
 
-abbrev pub pathAnswer : Segs → PathAnswer
-pathAnswer (segs l) = Parsed (connectionPath l)
-pathAnswer (broken o) = Unparsed o
+abbrev pub pathRead : Segs → PathAnswer
+pathRead (segs l) = Parsed (connectionPath l)
+pathRead (broken o) = Unparsed o
 
 -- what an open reads of a path, or where it does not parse
 unfoldable pub pathOf : List ℕ → PathAnswer
-pathOf s = pathAnswer (segsOf s)
+pathOf s = pathRead (segsOf s)

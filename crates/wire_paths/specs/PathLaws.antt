@@ -10,7 +10,7 @@ use native.Mathlib.Omega.{arith}
 use borrow.Author.Tests.{ltb-true, ltb-false, eqb-true, eqb-false, le-ltb, eq-eqb}
 use Rattle.cells.specs.Pick.{pick}
 use Rattle.wire_paths.specs.Segments.{upTo, evenUp, portOffset, linkOffset, linkSize, portAt, logicalAt, keyAt, dataAt, between, segAt, pathMax, stepAt, Segs, segs, broken, cons, follow, segsFrom, segsOf}
-use Rattle.wire_paths.specs.ConnectionPath.{gather, last, place, connectionPath, pathAnswer, pathOf}
+use Rattle.wire_paths.specs.ConnectionPath.{gather, last, place, connectionPath, pathRead, pathOf}
 use Rattle.wire_paths.specs.declared.ConnectionPath.{ConnectionPath}
 use Rattle.wire_paths.specs.declared.PathAnswer.the-variants.{Parsed}
 use Rattle.wire_paths.specs.declared.Key.{Key}
@@ -236,7 +236,7 @@ pub data-inside : (s : List ℕ) (p : ConnectionPath) → Parsed p ≡ pathOf s 
 unfolding pathOf connectionPath
 data-inside s p e = go (segsOf s) refl e
   where
-    go : (r : Segs) → segsOf s ≡ r → Parsed p ≡ pathAnswer r → p .datastart + p .datalen ≤ length s
+    go : (r : Segs) → segsOf s ≡ r → Parsed p ≡ pathRead r → p .datastart + p .datalen ≤ length s
     go (segs l) q f =
         let d : p .datastart ≡ last (0, 0) (gather place l) .0 = cc in
         let n : p .datalen ≡ last (0, 0) (gather place l) .1 = cc in

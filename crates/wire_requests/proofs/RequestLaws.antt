@@ -6,7 +6,7 @@ use lib.ListN.{length, getD, take, drop}
 use native.Mathlib.Omega.{arith}
 use borrow.Author.Tests.{le-leb, lt-leb, lt-ltb, le-ltb}
 use Rattle.wire_paths.specs.Segments.{stepAt, Segs, segs, broken, segsOf}
-use Rattle.wire_paths.specs.ConnectionPath.{gather, pathAnswer, pathOf}
+use Rattle.wire_paths.specs.ConnectionPath.{gather, pathRead, pathOf}
 use Rattle.wire_paths.specs.WalkLaws.{Ahead, ahead-all, ahead-then, ahead-end, ahead-whole, Passed, passed-none, passed-more, passed-all, passed-broken}
 use Rattle.wire_paths.specs.declared.Seg.{Seg}
 use Rattle.wire_paths.specs.declared.Seg.the-variants.{Port, Class, Instance, Point, Attribute, Keyed, Data}
@@ -108,7 +108,7 @@ module _ (s : List ℕ) where
   unfolding pathOf objectOf
   object-parsed p o e f = go (segsOf s) refl e
     where
-      go : (r : Segs) → segsOf s ≡ r → paths.the-variants.Parsed p ≡ pathAnswer r → objects.the-variants.Parsed o ≡ objectAnswer r
+      go : (r : Segs) → segsOf s ≡ r → paths.the-variants.Parsed p ≡ pathRead r → objects.the-variants.Parsed o ≡ objectAnswer r
       go (segs l) q g = ap objects.the-variants.Parsed (f l q)
       go (broken b) q g = absurd (let z : _≡_ {A = ℕ} 0 1 = cc in omega arith)
 
@@ -116,7 +116,7 @@ module _ (s : List ℕ) where
   unfolding pathOf objectOf
   object-unparsed o e = go (segsOf s) e
     where
-      go : (r : Segs) → paths.the-variants.Unparsed o ≡ pathAnswer r → objects.the-variants.Unparsed o ≡ objectAnswer r
+      go : (r : Segs) → paths.the-variants.Unparsed o ≡ pathRead r → objects.the-variants.Unparsed o ≡ objectAnswer r
       go (segs l) g = absurd (let z : _≡_ {A = ℕ} 0 1 = cc in omega arith)
       go (broken b) g = cc
 

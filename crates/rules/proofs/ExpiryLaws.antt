@@ -7,7 +7,7 @@ use lib.Dec.{ltb}
 use borrow.Author.Tests.{ltb-true, ltb-false, lt-ltb, le-ltb}
 use Rattle.wire_opens.specs.declared.ForwardOpen.{ForwardOpen}
 use Rattle.wire_opens.specs.Timeout.{timeoutOf}
-use Rattle.rules.specs.ListLaws.{by-cases}
+use Rattle.rules.proofs.ListLaws.{by-cases}
 use Rattle.rules.specs.State.{Conn, Origin, Plan}
 use Rattle.rules.specs.Opening.{newHeard, newConn}
 use Rattle.rules.specs.Removal.{expired}

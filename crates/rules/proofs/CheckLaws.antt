@@ -10,7 +10,7 @@ use Rattle.wire_opens.specs.declared.ForwardOpen.{ForwardOpen}
 use Rattle.wire_paths.specs.declared.ConnectionPath.{ConnectionPath}
 use Rattle.wire_paths.specs.declared.PathAnswer.{PathAnswer}
 use Rattle.rules.specs.Lists.{place, any, maybe, isSome}
-use Rattle.rules.specs.ListLaws.{by-cases, clash, and-left, All}
+use Rattle.rules.proofs.ListLaws.{by-cases, clash, and-left, All}
 use Rattle.rules.specs.State.{AssemblyKind, isInput, isOutput, isOwner, Fixed, noShape, Setup, shapeAt, Stop, Plan, Stopped, Planned}
 use Rattle.rules.specs.Checks
 

@@ -16,7 +16,7 @@ use Rattle.rules.specs.Attributes.{NoAttribute, Outcome, Gives, Fails}
 use Rattle.rules.specs.Upload.{checksum, clamped, initiateReply, initiate, Upload, transfer}
 use Rattle.rules.specs.Objects.{edsFile, file}
 use Rattle.rules.specs.Message.{replyHead, replyTo, ofClass, messageOutcome, messageReply}
-use Rattle.rules.specs.UploadLaws.{Move, Next, Again, Client, client, got, ended, Ask, asksAgain, move, moves, nexts, replyIn, step, begins, uploaded-whole, uploaded-ends}
+use Rattle.rules.proofs.UploadLaws.{Move, Next, Again, Client, client, got, ended, Ask, asksAgain, move, moves, nexts, replyIn, step, begins, uploaded-whole, uploaded-ends}
 
 -- a message of a service to File, instance 0xC8, with one byte of data
 abbrev pub toFile : ℕ → ℕ → List ℕ
