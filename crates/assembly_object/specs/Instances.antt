@@ -1,13 +1,13 @@
 -- The setup's list of assemblies by instance alone.
-use Prim.Native.Nat.{ℕ, zero, suc, _+_, _≤_, _<_, max}
-use mathlib.Core.Bool.{Bool, true, false, cond}
+use Prim.Native.Nat.{ℕ, _+_, _≤_, _<_, max}
+use mathlib.Core.Bool.{Bool, cond}
 use mathlib.Core.List.{List, [], _∷_}
-use mathlib.Core.Option.{Option, none, some}
+use mathlib.Core.Option.{Option}
 use mathlib.Core.Path.{_≡_, refl, ap, sym, _∙_}
 use native.Mathlib.Omega.{arith}
 use native.Mathlib.Numerals.{add-one}
 use lib.Dec.{eqb}
-use lib.ListN.{length, drop, drop-of-length-le}
+use lib.ListN.{drop, drop-of-length-le}
 use lib.Seq.{drop-cons}
 use borrow.Author.Tests.{eq-eqb, ne-eqb}
 use Rattle.cells.specs.Numbers.{le}
@@ -20,11 +20,8 @@ use Rattle.rules.specs.Objects.{largestInstance, assemblyClass, assemblyPlace, 
 use Rattle.layout.specs.Places.{setupIn}
 use Rattle.layout.specs.Setups.{decShape, shapeIn, setupFrom, setupOf}
 use Rattle.image.specs.Image.{view}
-use Rattle.image.specs.TestLaws.{assemblies-in}
-use Rattle.application.specs.declared.places.Found.{Found}
-use Rattle.application.specs.declared.places.Found.the-variants.{At}
-use Rattle.application.specs.Places.{placeIn}
-use Rattle.application.specs.PlaceLaws.{place-in}
+use Rattle.layout.specs.Searched.{placeIn}
+use Rattle.layout.specs.declared.Found.{Found}
 use Rattle.attributes.specs.declared.Given.{Given}
 use Rattle.attributes.specs.Told.{told}
 
@@ -80,10 +77,3 @@ module _ (s : List ℕ) (n : ℕ) (x : Found) (e : placeIn x ≡ place (hasInsta
   pub found-is : assemblyPlace (view s .setup) n ≡ placeIn x
   unfolding assemblyPlace view setupOf
   found-is = sym e
-
-  pub found-in : (i : ℕ) → x ≡ At i → i < le 1 s 0
-  found-in i q =
-      let a = assemblies-in s in
-      let m = length-rows 5 decShape (le 1 (setupIn s) 0) (drop 110 (setupIn s)) in
-      let h = place-in (hasInstance n) (rows 5 decShape (le 1 (setupIn s) 0) (drop 110 (setupIn s))) i (sym e ∙ ap placeIn q) in
-      omega arith

@@ -94,10 +94,6 @@ module _ (l : List ℕ) where
   unfolding tested
   state-fails4 h = sym (all-fails (testsState l) 4 (h))
 
-  pub state-fails5 : all (rows 70 goodRow (le 2 l 224) (tableIn l)) ≡ false → false ≡ tested l
-  unfolding tested
-  state-fails5 h = sym (all-fails (testsState l) 5 (h))
-
   pub state-passes : length l ≡ 109056 → goodSetup (setupIn l) ≡ true → goodHead l ≡ true → goodShapes (setupIn l) ≡ true
       → all (rows 1 goodMark (le 1 (setupIn l) 0) (marksIn l)) ≡ true → all (rows 70 goodRow (le 2 l 224) (tableIn l)) ≡ true → true ≡ tested l
   unfolding tested all

@@ -1,7 +1,6 @@
 // Inputs, as the application gives them.
 use application::answers::Outcome;
-use application::places;
-use application::places::Found;
+use layout::Found;
 ghost use mathlib.Core.Path.{_≡_};
 ghost use Prim.Native.Nat.{_+_, _≤_, _<_};
 ghost use lib.ListN.{length, replicate};

@@ -1,8 +1,9 @@
 use mathlib.Core.Path.{ap, _∙_}
-use Rattle.application.specs.Places.{placeIn}
-use Rattle.application.specs.PlaceLaws.{setup-ready}
+use Rattle.layout.specs.Searched.{placeIn}
+use Rattle.image.specs.Holds.{setup-ready}
+use Rattle.places.specs.PlaceLaws.{found-in}
 use Rattle.attributes.specs.Values.{fails}
-use Rattle.assembly_object.specs.Instances.{assembly-class, assembly-place, found-is, found-in}
+use Rattle.assembly_object.specs.Instances.{assembly-class, assembly-place, hasInstance, found-is}
 use native.Mathlib.Omega.{arith}
 use borrow.Author.Needs.{needs}
 use Rattle.assembly_object.proofs.assembly.Statement.{statement}
@@ -45,7 +46,7 @@ enum-known-i : tie.Need-enum-known-i
 enum-known-i c = search needs
 
 here-requires : tie.Need-here-requires
-here-requires c κs = let k = c .before .before .before .before .before .before .before .before .before in (k .pre .0, found-in (k .args .s .now) (k .args .instance) _ (c .before .before .before .before .find .ensures) _ (c .before .before .i .given .1), omega arith)
+here-requires c κs = let k = c .before .before .before .before .before .before .before .before .before in (k .pre .0, found-in (k .args .s .now) (hasInstance (k .args .instance)) _ (c .before .before .before .before .find .ensures) _ (c .before .before .i .given .1), omega arith)
 
 returns-2 : tie.Need-returns-2
 returns-2 c =

@@ -1,6 +1,6 @@
 use native.Mathlib.Omega.{arith}
 use lib.ListN.{length-take, length-drop}
-use Rattle.application.specs.PlaceLaws.{setup-ready}
+use Rattle.image.specs.Holds.{setup-ready}
 use Rattle.listing.specs.Listing.{told}
 use borrow.Author.Needs.{needs}
 use Rattle.listing.proofs.tell.Statement.{statement}

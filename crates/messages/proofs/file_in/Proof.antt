@@ -3,7 +3,7 @@ use mathlib.Core.Path.{ap, sym, _∙_}
 use native.Mathlib.Nat.{add-sub-cancel-left}
 use lib.ListN.{take, drop, length-take}
 use Rattle.image.specs.Fits.{is-long}
-use Rattle.application.specs.PlaceLaws.{setup-ready}
+use Rattle.image.specs.Holds.{setup-ready}
 use Rattle.attributes.specs.Values.{fails}
 use Rattle.uploads.specs.Positions.{decUpload}
 use Rattle.file_object.specs.Files.{kept}

@@ -1,6 +1,9 @@
 use mathlib.Core.Path.{ap}
-use Rattle.application.specs.Places.{placeIn}
-use Rattle.application.specs.PlaceLaws.{setup-ready, found-is, found-in}
+use Rattle.rules.specs.Checks.{isAt}
+use Rattle.rules.specs.Host.{kindTest}
+use Rattle.layout.specs.Searched.{placeIn}
+use Rattle.image.specs.Holds.{setup-ready}
+use Rattle.places.specs.PlaceLaws.{found-is, found-in}
 use Rattle.outputs.specs.Outputs.{assembly-none, assembly-some}
 use borrow.Author.Needs.{needs}
 use Rattle.outputs.proofs.assembly.Statement.{statement}
@@ -25,7 +28,7 @@ enum-known-f : tie.Need-enum-known-f
 enum-known-f c = search needs
 
 copy-assembly-requires : tie.Need-copy-assembly-requires
-copy-assembly-requires c κs = let a = c .before .before .before .before .before .before .before .before .args in (c .before .before .before .before .before .before .before .before .pre, found-in (a .s .now) (a .kind) (a .instance) (c .before .before .before .before .find .result) (c .before .before .before .before .find .ensures) _ (c .before .before .f .given .1))
+copy-assembly-requires c κs = let a = c .before .before .before .before .before .before .before .before .args in (c .before .before .before .before .before .before .before .before .pre, found-in (a .s .now) (isAt (kindTest (a .kind)) (a .instance)) (c .before .before .before .before .find .result) (c .before .before .before .before .find .ensures) _ (c .before .before .f .given .1))
 
 returns : tie.Need-returns
 returns c =

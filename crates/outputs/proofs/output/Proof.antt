@@ -1,7 +1,10 @@
 use mathlib.Core.Path.{ap}
 use native.Mathlib.Omega.{arith}
-use Rattle.application.specs.Places.{placeIn}
-use Rattle.application.specs.PlaceLaws.{setup-ready, found-is, found-in}
+use Rattle.rules.specs.Checks.{isAt}
+use Rattle.rules.specs.Host.{kindTest}
+use Rattle.layout.specs.Searched.{placeIn}
+use Rattle.image.specs.Holds.{setup-ready}
+use Rattle.places.specs.PlaceLaws.{found-is, found-in}
 use Rattle.outputs.specs.Outputs.{output-none, output-some}
 use borrow.Author.Needs.{needs}
 use Rattle.outputs.proofs.output.Statement.{statement}
@@ -26,7 +29,7 @@ enum-known-f : tie.Need-enum-known-f
 enum-known-f c = search needs
 
 take-output-requires : tie.Need-take-output-requires
-take-output-requires c κs = let a = c .before .before .before .before .before .before .before .before .before .before .args in (c .before .before .before .before .before .before .before .before .before .before .pre, found-in (a .s .now) 2 (a .instance) (c .before .before .before .before .before .find .result) (c .before .before .before .before .before .find .ensures) _ (c .before .before .before .f .given .1))
+take-output-requires c κs = let a = c .before .before .before .before .before .before .before .before .before .before .args in (c .before .before .before .before .before .before .before .before .before .before .pre, found-in (a .s .now) (isAt (kindTest 2) (a .instance)) (c .before .before .before .before .before .find .result) (c .before .before .before .before .before .find .ensures) _ (c .before .before .before .f .given .1))
 
 same-length : tie.Need-same-length
 same-length c = search needs

@@ -8,7 +8,11 @@ use lib.Dec.{eqb}
 use lib.ListN.{length, getD, take, drop, length-drop}
 use lib.Seq.{take-all}
 use Rattle.cells.specs.Numbers.{le}
-use Rattle.receiving.specs.TakeLaws.{kept-few, take-same, take-quiet, take-told}
+use Rattle.rules.specs.declared.Event.the-variants.{OutputChanged}
+use Rattle.image.specs.Kept.{kept-few}
+use Rattle.events.specs.Records.{output-is}
+use Rattle.events.specs.Pushes.{told-as}
+use Rattle.receiving.specs.TakeLaws.{take-same, take-quiet, take-told}
 use borrow.Author.Needs.{needs}
 use Rattle.receiving.proofs.take_in.Statement.{statement}
 use Rattle.receiving.proofs.take_in.Tie as tie
@@ -55,14 +59,14 @@ same-length-2 c = search needs
 returns-2 : tie.Need-returns-2
 returns-2 c = let a = c .before .before .before .before .before .before .before .before .before .before .before .before .before .before .before .before .before .before .args in let s = a .s .now in let d = a .d .now in let x : List ℕ = take (length d - 6) (drop 6 d) in let ex : x ≡ drop 6 d = take-all (length d - 6) (drop 6 d) (let k = length-drop 6 d in omega arith) in let m : ℕ = getD s (240 + a .i) 0 in λ f ef st l h n. take-quiet s (a .i) (c .before .before .before .before .before .before .before .before .before .before .before .before .before .before .before .before .before .before .pre .1) d m refl (eqb (getD d 2 0 % 2) 1) refl (c .before .before .before .before .before .before .before .before .before .put-data .last .0) (c .before .before .before .before .before .before .before .before .before .put-data .result) x ex (c .before .before .before .before .before .before .before .before .before .put-data .ensures .1) (c .before .before .before .before .before .before .differs .result) (c .before .before .before .before .before .before .differs .ensures) f ef st l h n (c .before .before .before .put-mark .last .0) (c .before .before .before .put-mark .ensures .1) (not-false (c .before .before .before .before .before .before .differs .result) (c .before .before .before .before .before .if1 .left)) (ap not (ne-eqb (m / 2 % 2) 0 (c .if2 .taken)))
 
-push-requires : tie.Need-push-requires
-push-requires c κs = search needs
+tell-assembly-requires : tie.Need-tell-assembly-requires
+tell-assembly-requires c κs = search needs
 
 same-length-3 : tie.Need-same-length-3
 same-length-3 c = search needs
 
 returns-3 : tie.Need-returns-3
-returns-3 c = let a = c .before .before .before .before .before .before .before .before .before .before .before .before .before .before .before .before .before .before .before .before .before .before .args in let s = a .s .now in let d = a .d .now in let x : List ℕ = take (length d - 6) (drop 6 d) in let ex : x ≡ drop 6 d = take-all (length d - 6) (drop 6 d) (let k = length-drop 6 d in omega arith) in let m : ℕ = getD s (240 + a .i) 0 in λ f ef st l h n. take-told s (a .i) (c .before .before .before .before .before .before .before .before .before .before .before .before .before .before .before .before .before .before .before .before .before .before .pre .1) d m refl (eqb (getD d 2 0 % 2) 1) refl (c .before .before .before .before .before .before .before .before .before .before .before .before .before .put-data .last .0) (c .before .before .before .before .before .before .before .before .before .before .before .before .before .put-data .result) x ex (c .before .before .before .before .before .before .before .before .before .before .before .before .before .put-data .ensures .1) (c .before .before .before .before .before .before .before .before .before .before .differs .result) (c .before .before .before .before .before .before .before .before .before .before .differs .ensures) f ef st l h n (c .before .before .before .before .before .before .before .put-mark .last .0) (c .before .before .before .before .before .before .before .put-mark .ensures .1) (not-false (c .before .before .before .before .before .before .before .before .before .before .differs .result) (c .before .before .before .before .before .before .before .before .before .if1 .left)) (ap not (eq-eqb (m / 2 % 2) 0 (c .before .before .before .before .if2 .left))) (c .before .before .before .before .before .before .before .before .before .before .before .before .before .before .before .before .instance-at .result) (c .before .before .before .before .before .before .before .before .before .before .before .before .before .before .before .before .instance-at .ensures) (c .before .before .push .last .0) (c .before .before .push .ensures .1)
+returns-3 c = let a = c .before .before .before .before .before .before .before .before .before .before .before .before .before .before .before .before .before .before .before .before .before .before .args in let s = a .s .now in let d = a .d .now in let x : List ℕ = take (length d - 6) (drop 6 d) in let ex : x ≡ drop 6 d = take-all (length d - 6) (drop 6 d) (let k = length-drop 6 d in omega arith) in let m : ℕ = getD s (240 + a .i) 0 in λ f ef st l h n. take-told s (a .i) (c .before .before .before .before .before .before .before .before .before .before .before .before .before .before .before .before .before .before .before .before .before .before .pre .1) d m refl (eqb (getD d 2 0 % 2) 1) refl (c .before .before .before .before .before .before .before .before .before .before .before .before .before .put-data .last .0) (c .before .before .before .before .before .before .before .before .before .before .before .before .before .put-data .result) x ex (c .before .before .before .before .before .before .before .before .before .before .before .before .before .put-data .ensures .1) (c .before .before .before .before .before .before .before .before .before .before .differs .result) (c .before .before .before .before .before .before .before .before .before .before .differs .ensures) f ef st l h n (c .before .before .before .before .before .before .before .put-mark .last .0) (c .before .before .before .before .before .before .before .put-mark .ensures .1) (not-false (c .before .before .before .before .before .before .before .before .before .before .differs .result) (c .before .before .before .before .before .before .before .before .before .if1 .left)) (ap not (eq-eqb (m / 2 % 2) 0 (c .before .before .before .before .if2 .left))) (c .before .before .before .before .before .before .before .before .before .before .before .before .before .before .before .before .instance-at .result) (c .before .before .before .before .before .before .before .before .before .before .before .before .before .before .before .before .instance-at .ensures) (c .before .before .tell-assembly .last .0) (let v = c .before .before .before .before .before .before .before .before .before .before .before .before .before .before .before .before .instance-at .result in told-as (c .before .before .before .before .before .before .before .put-mark .last .0) (c .before .before .tell-assembly .last .0) 5 v 0 (OutputChanged v) (output-is v) (c .before .before .tell-assembly .ensures .1))
 
 pub take-in-spec : {M : Type 1} → statement M
 take-in-spec =
@@ -82,6 +86,6 @@ take-in-spec =
     put-mark-requires
     same-length-2
     returns-2
-    push-requires
+    tell-assembly-requires
     same-length-3
     returns-3)

@@ -1,6 +1,6 @@
 use native.Mathlib.Omega.{arith}
 use Rattle.rules.specs.Removal.{inStream}
-use Rattle.removal.specs.Turns.{found-in, turn-gone}
+use Rattle.removal.specs.Turns.{found-in, turn-gone, turn-told}
 use Rattle.removal.specs.Listeners.{dropped-none, dropped-one, closes-none, closes-one}
 use borrow.Author.Needs.{needs}
 use Rattle.removal.proofs.close_first.Statement.{statement}
@@ -69,7 +69,7 @@ returns-2 c =
     let s₁ = c .before .before .before .before .before .before .remove-row .last .0 in
     let s₂ = c .before .before .tell .last .0 in (
       dropped-one (a .id) (a .s .now) (c .before .before .before .before .before .before .before .before .before .before .before .before .before .before .before .before .before .u16-at .result) (c .before .before .before .before .before .before .before .before .before .before .before .before .before .before .find-stream .result) (c .before .before .before .before .before .before .before .before .before .before .before .before .before .before .before .before .before .u16-at .ensures) (c .before .before .before .before .before .before .before .before .before .before .before .before .before .before .find-stream .ensures) (c .before .before .before .before .before .before .before .before .before .before .before .before .j .given .0 .0) (c .before .before .before .before .before .before .before .before .before .before .before .before .j .given .1) s₁ s₂ (c .before .before .before .before .before .before .remove-row .ensures .0) (c .before .before .tell .ensures .0),
-      closes-one (a .id) (a .s .now) (c .before .before .before .before .before .before .before .before .before .before .before .before .before .before .before .before .before .u16-at .result) (c .before .before .before .before .before .before .before .before .before .before .before .before .before .before .find-stream .result) (c .before .before .before .before .before .before .before .before .before .before .before .before .before .before .before .before .before .u16-at .ensures) (c .before .before .before .before .before .before .before .before .before .before .before .before .before .before .find-stream .ensures) (c .before .before .before .before .before .before .before .before .before .before .before .before .j .given .0 .0) (c .before .before .before .before .before .before .before .before .before .before .before .before .j .given .1) (c .before .before .before .before .before .before .before .before .fixed-at .result) (c .before .before .before .before .before .before .before .before .fixed-at .ensures) s₁ s₂ (turn-gone (a .s .now) s₁ (c .before .before .before .before .before .before .before .before .before .before .before .before .j .given .0 .0) (c .before .before .before .before .before .before .remove-row .ensures .1)) (c .before .before .tell .ensures .1),
+      closes-one (a .id) (a .s .now) (c .before .before .before .before .before .before .before .before .before .before .before .before .before .before .before .before .before .u16-at .result) (c .before .before .before .before .before .before .before .before .before .before .before .before .before .before .find-stream .result) (c .before .before .before .before .before .before .before .before .before .before .before .before .before .before .before .before .before .u16-at .ensures) (c .before .before .before .before .before .before .before .before .before .before .before .before .before .before .find-stream .ensures) (c .before .before .before .before .before .before .before .before .before .before .before .before .j .given .0 .0) (c .before .before .before .before .before .before .before .before .before .before .before .before .j .given .1) (c .before .before .before .before .before .before .before .before .fixed-at .result) (c .before .before .before .before .before .before .before .before .fixed-at .ensures) s₁ s₂ (turn-gone (a .s .now) s₁ (c .before .before .before .before .before .before .before .before .before .before .before .before .j .given .0 .0) (c .before .before .before .before .before .before .remove-row .ensures .1)) (turn-told s₁ s₂ 2 (c .before .before .before .before .before .before .before .before .fixed-at .result) (c .before .before .tell .ensures .1)),
     )
 
 pub close-first-spec : {M : Type 1} → statement M

@@ -1,8 +1,7 @@
 use borrow.Author.Tests.{not-true, not-false}
 use Rattle.layout.specs.Places.{tableIn}
-use Rattle.layout.specs.Rows.{decConn}
+use Rattle.layout.specs.Rows.{rowAt, decConn}
 use Rattle.image.specs.Image.{view}
-use Rattle.streams.specs.TableLaws.{rowAt}
 use Rattle.status.specs.Status.{row-other, row-owner}
 use borrow.Author.Needs.{needs}
 use Rattle.status.proofs.running_at.Statement.{statement}

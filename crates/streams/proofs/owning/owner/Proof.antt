@@ -3,6 +3,7 @@ use mathlib.Core.List.{[]}
 use Rattle.tables.specs.Tables.{rows}
 use Rattle.layout.specs.Rows.{decFixed}
 use Rattle.layout.specs.Setups.{setupFrom}
+use Rattle.records.specs.Shapes.{shapeOf}
 use Rattle.streams.specs.Owning.{owner-other, owner-free, owner-taken}
 use borrow.Author.Needs.{needs}
 use Rattle.streams.proofs.owning.owner.Statement.{statement}
@@ -26,6 +27,7 @@ instance-of-requires : tie.Need-instance-of-requires
 instance-of-requires c κs = search needs
 
 returns-3 : tie.Need-returns-3
+unfolding shapeOf
 returns-3 c = let a = c .before .before .before .before .before .before .before .args in
     owner-taken (setupFrom (a .r .now) []) (a .kind) (a .output) (rows 70 decFixed (a .n) (a .t .now)) (c .before .before .before .before .is-owner .result) (c .before .before .before .before .is-owner .ensures) (not-false (c .before .before .before .before .is-owner .result) (c .before .before .before .if1 .left)) (c .before .before .owned .result) (c .before .before .owned .ensures) (not-false (c .before .before .owned .result) (c .before .if2 .left)) (c .instance-of .result) (c .instance-of .ensures)
 
