@@ -1,25 +1,18 @@
 -- What an assembly holds, as code reads it.
-use Prim.Native.Nat.{ℕ, zero, suc, _+_, _*_, _-_, _%_, _≤_, _<_}
+use Prim.Native.Nat.{ℕ, _+_, _*_, _-_, _%_, _≤_, _<_}
 use mathlib.Core.Bool.{true}
-use mathlib.Core.List.{List, [], _∷_}
-use mathlib.Core.Path.{_≡_, refl, ap, sym, _∙_}
+use mathlib.Core.List.{List}
+use mathlib.Core.Path.{_≡_, ap, sym, _∙_}
 use native.Mathlib.Omega.{arith}
-use lib.ListN.{length, getD, take, drop, set}
+use lib.ListN.{length, take, drop}
 use Rattle.cells.specs.Numbers.{le, le-1}
 use Rattle.cells.specs.Records.{ofBool}
 use Rattle.cells.specs.Back.{Bytes}
-use Rattle.rules.specs.Lists.{changeAt}
-use Rattle.rules.specs.State.{Shape, Content, noContent, shapeAt, contentAt}
+use Rattle.rules.specs.State.{Shape, Content, shapeAt, contentAt}
 use Rattle.layout.specs.Setups.{shapeIn}
 use Rattle.layout.specs.RowLaws.{bit-small}
 use Rattle.image.specs.Image.{view, tested, markOf}
 use Rattle.image.specs.Holds.{Holds, holds-tested, slotted-tested, assemblies-held, shape-held, mark-held, bytes-held}
-
--- the one at a place changed
-pub change-set : (xs : List Content) (i : ℕ) (u : Content → Content) → changeAt i u xs ≡ set xs i (u (getD xs i noContent))
-change-set [] i u = refl
-change-set (x ∷ xs) zero u = refl
-change-set (x ∷ xs) (suc i) u = ap (λ (z : List Content). x ∷ z) (change-set xs i u)
 
 module _ (s : List ℕ) (t : tested s ≡ true) (b : Bytes s) (i : ℕ) (p : i < le 1 s 0) where
   abbrev h : Holds s (view s) s

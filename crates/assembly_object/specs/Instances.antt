@@ -1,19 +1,17 @@
 -- The setup's list of assemblies by instance alone.
 use Prim.Native.Nat.{ℕ, _+_, _≤_, _<_, max}
 use mathlib.Core.Bool.{Bool, cond}
-use mathlib.Core.List.{List, [], _∷_}
+use mathlib.Core.List.{List, []}
 use mathlib.Core.Option.{Option}
 use mathlib.Core.Path.{_≡_, refl, ap, sym, _∙_}
 use native.Mathlib.Omega.{arith}
-use native.Mathlib.Numerals.{add-one}
 use lib.Dec.{eqb}
-use lib.ListN.{drop, drop-of-length-le}
-use lib.Seq.{drop-cons}
+use lib.ListN.{drop}
 use borrow.Author.Tests.{eq-eqb, ne-eqb}
 use Rattle.cells.specs.Numbers.{le}
-use Rattle.tables.specs.Tables.{rows, length-rows, row-at}
+use Rattle.tables.specs.Tables.{rows, rows-rest, rows-end}
 use Rattle.rules.specs.Lists.{place}
-use Rattle.rules.specs.State.{Shape, noShape}
+use Rattle.rules.specs.State.{Shape}
 use Rattle.wire_requests.specs.declared.FirstAttribute.{FirstAttribute}
 use Rattle.rules.specs.Attributes.{Attributes, single}
 use Rattle.rules.specs.Objects.{largestInstance, assemblyClass, assemblyPlace, assemblyObject, assembly}
@@ -40,16 +38,13 @@ module _ (n : ℕ) (r : List ℕ) where
   pub largest-on : (i most : ℕ) → i < n → (m : ℕ) → m ≡ shapeIn r i .instance
       → max (max most m) (largestInstance (drop (i + 1) shapes)) ≡ max most (largestInstance (drop i shapes))
   largest-on i most h m e =
-      let q : drop i shapes ≡ shapeIn r i ∷ drop (i + 1) shapes =
-      drop-cons shapes i noShape (let z = length-rows 5 decShape n (drop 110 r) in omega arith)
-      ∙ (λ j. row-at 5 decShape n (drop 110 r) i noShape h j ∷ drop (sym (add-one i) j) shapes) in
       (let z : max (max most m) (largestInstance (drop (i + 1) shapes)) ≡ max most (max (shapeIn r i .instance) (largestInstance (drop (i + 1) shapes))) = omega (arith, e) in z)
-      ∙ ap (λ (xs : List Shape). max most (largestInstance xs)) (sym q)
+      ∙ ap (λ (xs : List Shape). max most (largestInstance xs)) (sym (rows-rest 5 decShape n (drop 110 r) i h))
 
   pub largest-ends : (i most : ℕ) → n ≤ i → most ≡ max most (largestInstance (drop i shapes))
   largest-ends i most h =
       (let z : most ≡ max most 0 = omega arith in z)
-      ∙ ap (λ (xs : List Shape). max most (largestInstance xs)) (sym (drop-of-length-le shapes {i = i} (let z = length-rows 5 decShape n (drop 110 r) in omega arith)))
+      ∙ ap (λ (xs : List Shape). max most (largestInstance xs)) (sym (rows-end 5 decShape n (drop 110 r) i h))
 
 -- ---- the class
 

@@ -10,7 +10,7 @@ use lib.Seq.{sets}
 use borrow.Author.Tests.{le-leb, lt-leb}
 use Rattle.cells.specs.Numbers.{le, sets-append}
 use Rattle.cells.specs.Back.{Bytes}
-use Rattle.rules.specs.State.{Content, shapeAt, withContents}
+use Rattle.rules.specs.State.{Content, noContent, shapeAt, withContents}
 use Rattle.rules.specs.Answers.{Done, Refused, NoAssembly, TooLong, settled}
 use Rattle.rules.specs.Checks.{placeOf}
 use Rattle.rules.specs.Host.{filled, setInputAt, inputSet, setInputAnswer, setInputEffect, setInputCall, kindTest}
@@ -21,7 +21,8 @@ use Rattle.image.specs.Changes.{bytesAs, bytes-put}
 use Rattle.image.specs.Lift.{lifted}
 use Rattle.application.specs.Places.{inputSetAt}
 use Rattle.application.specs.Ways.{left-done, left-no, left-same}
-use Rattle.application.specs.Assemblies.{change-set, in-contents, size-is, setup-size}
+use Rattle.image.specs.Searches.{change-at-place}
+use Rattle.application.specs.Assemblies.{in-contents, size-is, setup-size}
 
 module _ (s : List ℕ) (t : tested s ≡ true) (b : Bytes s) (i : ℕ) (p : i < le 1 s 0) where
   abbrev h : Holds s (view s) s
@@ -45,7 +46,7 @@ module _ (s : List ℕ) (t : tested s ≡ true) (b : Bytes s) (i : ℕ) (p : i <
         let lz : length (d ++ zs) ≡ n = length-append d zs ∙ ap (λ (k : ℕ). length d + k) (length-replicate {A = ℕ} (n - length d) 0) ∙ omega arith in
         let left : store (bytesAs i (d ++ zs) (view s)) s ≡ store (inputSet d (view s) (some i)) s =
         ap (λ (k : ℕ). store (bytesAs i (d ++ replicate (k - length d) 0) (view s)) s) (en ∙ sym m)
-        ∙ ap (λ (z : List Content). store (withContents z (view s)) s) (sym (change-set (view s .contents) i (filled (shapeAt (view s .setup) i .size) d))) in
+        ∙ ap (λ (z : List Content). store (withContents z (view s)) s) (sym (change-at-place (filled (shapeAt (view s .setup) i .size) d) noContent (view s .contents) i)) in
         left-done s t (inputSetAt i d) s₂ (inputSet d (view s) (some i))
         (ap (λ (x : Bool). settled (cond x Done (Refused TooLong)) (inputSet d (view s) (some i)) (view s)) (le-leb (length d) (shapeAt (view s .setup) i .size) (omega arith)))
         (e₂ ∙ ap (λ (z : List ℕ). sets z (35328 + i * 512 + length d) zs) e₁ ∙ sym (sets-append s (35328 + i * 512) d zs)

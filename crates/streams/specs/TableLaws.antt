@@ -1,15 +1,12 @@
 -- The rows of the table against a test: one row's numbers, whether any row passes, and the first that does.
 use Prim.Native.Nat.{ℕ, zero, suc, _+_, _*_, _≤_, _<_}
 use mathlib.Core.Bool.{Bool, true, false, cond, not, _||_}
-use mathlib.Core.List.{List, [], _∷_}
+use mathlib.Core.List.{List}
 use mathlib.Core.Option.{none, some}
 use mathlib.Core.Path.{_≡_, refl, ap, sym, _∙_}
-use native.Mathlib.Omega.{arith}
-use native.Mathlib.Numerals.{add-one}
 use lib.Dec.{ltb}
-use lib.ListN.{take, drop, drop-of-length-le}
-use lib.Seq.{drop-cons}
-use Rattle.tables.specs.Tables.{rows, length-rows, row-at}
+use lib.ListN.{take, drop}
+use Rattle.tables.specs.Tables.{rows, length-rows, rows-rest, rows-end}
 use Rattle.wire_opens.specs.declared.ForwardOpen.{ForwardOpen}
 use Rattle.rules.specs.declared.Stop.the-variants.{TriadInUse, Full}
 use Rattle.rules.specs.Lists.{find, place, any}
@@ -23,14 +20,9 @@ use Rattle.lookup.specs.RowTests.{foundOf, found-at, found-none, place-any, pla
 use Rattle.checking.specs.SaysLaws.{must-yes, must-no}
 
 module _ {A : Type 0} (size : ℕ) (dec : List ℕ → A) (p : A → Bool) (n : ℕ) (r : List ℕ) where
-  rest : (i : ℕ) → i < n → drop i (rows size dec n r) ≡ dec (take size (drop (i * size) r)) ∷ drop (i + 1) (rows size dec n r)
-  rest i h =
-      drop-cons (rows size dec n r) i (dec []) (let e = length-rows size dec n r in omega arith)
-      ∙ (λ j. row-at size dec n r i (dec []) h j ∷ drop (sym (add-one i) j) (rows size dec n r))
-
   at-row : (i : ℕ) → i < n → (b : Bool) → p (dec (take size (drop (i * size) r))) ≡ b
       → any p (drop i (rows size dec n r)) ≡ (b || any p (drop (i + 1) (rows size dec n r)))
-  at-row i h b e = ap (any p) (rest i h) ∙ ap (λ (x : Bool). x || any p (drop (i + 1) (rows size dec n r))) e
+  at-row i h b e = ap (any p) (rows-rest size dec n r i h) ∙ ap (λ (x : Bool). x || any p (drop (i + 1) (rows size dec n r))) e
 
   pub any-hit : (i : ℕ) → i < n → p (dec (take size (drop (i * size) r))) ≡ true → any p (drop i (rows size dec n r)) ≡ true
   any-hit i h e = at-row i h true e
@@ -40,12 +32,12 @@ module _ {A : Type 0} (size : ℕ) (dec : List ℕ → A) (p : A → Bool) (n : 
   any-miss i h e = at-row i h false e
 
   pub any-ends : (i : ℕ) → n ≤ i → any p (drop i (rows size dec n r)) ≡ false
-  any-ends i h = ap (any p) (drop-of-length-le (rows size dec n r) {i = i} (let e = length-rows size dec n r in omega arith))
+  any-ends i h = ap (any p) (rows-end size dec n r i h)
 
   find-row : (i : ℕ) → i < n → (b : Bool) → p (dec (take size (drop (i * size) r))) ≡ b
       → find p (drop i (rows size dec n r)) ≡ cond b (some (dec (take size (drop (i * size) r)))) (find p (drop (i + 1) (rows size dec n r)))
   find-row i h b e =
-      ap (find p) (rest i h) ∙ ap (λ (x : Bool). cond x (some (dec (take size (drop (i * size) r)))) (find p (drop (i + 1) (rows size dec n r)))) e
+      ap (find p) (rows-rest size dec n r i h) ∙ ap (λ (x : Bool). cond x (some (dec (take size (drop (i * size) r)))) (find p (drop (i + 1) (rows size dec n r)))) e
 
   pub find-hit : (i : ℕ) → i < n → p (dec (take size (drop (i * size) r))) ≡ true → find p (drop i (rows size dec n r)) ≡ some (dec (take size (drop (i * size) r)))
   find-hit i h e = find-row i h true e
@@ -55,7 +47,7 @@ module _ {A : Type 0} (size : ℕ) (dec : List ℕ → A) (p : A → Bool) (n : 
   find-miss i h e = find-row i h false e
 
   pub find-ends : (i : ℕ) → n ≤ i → find p (drop i (rows size dec n r)) ≡ none
-  find-ends i h = ap (find p) (drop-of-length-le (rows size dec n r) {i = i} (let e = length-rows size dec n r in omega arith))
+  find-ends i h = ap (find p) (rows-end size dec n r i h)
 
 -- check 10, from the row found: what a search of whole rows finds is what any of the fixed parts is
 module _ (o : ForwardOpen) (n : ℕ) (r : List ℕ) (x : Found) (e : x ≡ foundOf (place (connTriad (o .triad)) (rows 70 decConn n r))) where

@@ -1,3 +1,4 @@
+-- The class answers for instance 0; else the place that was found is the rules' place, and what stands there answers.
 use mathlib.Core.Path.{ap, _∙_}
 use Rattle.layout.specs.Searched.{placeIn}
 use Rattle.image.specs.Holds.{setup-ready}
@@ -58,8 +59,14 @@ same-length-2 c = search needs
 
 returns-3 : tie.Need-returns-3
 returns-3 c =
-    let k = c .before .before .before .before .before .before .before .before .before .before .before .before in
-    assembly-place (k .args .s .now) _ _ _ _ _ (c .before .before .before .before .before .before .before .before .before .if1 .left) _ (found-is (k .args .s .now) (k .args .instance) (c .before .before .before .before .before .before .before .find .result) (c .before .before .before .before .before .before .before .find .ensures) ∙ ap placeIn (c .before .before .before .before .before .i .given .1)) (c .before .before .here .ensures)
+    let at-here = c .before .before in
+    let at-i = at-here .before .before .before in
+    let at-find = at-i .before .before in
+    let at-if1 = at-find .before .before in
+    let at-before = at-if1 .before .before in
+    let k = at-before .before in
+    assembly-place (k .args .s .now) _ _ _ _ _ (at-if1 .if1 .left) _ (found-is (k .args .s .now) (k .args .instance) (at-find .find .result) (at-find .find .ensures) ∙ ap placeIn
+    (at-i .i .given .1)) (at-here .here .ensures)
 
 pub assembly-spec : {M : Type 1} → statement M
 assembly-spec =

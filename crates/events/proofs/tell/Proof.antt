@@ -1,3 +1,4 @@
+-- The record of the row's connection, put over zeros, is pushed.
 use native.Mathlib.Omega.{arith}
 use Rattle.image.specs.Holds.{setup-ready}
 use Rattle.events.specs.Pushes.{tells}

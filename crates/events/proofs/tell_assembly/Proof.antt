@@ -1,3 +1,4 @@
+-- Three numbers put over zeros are an assembly's record, which is pushed.
 use Prim.Native.Nat.{ℕ}
 use mathlib.Core.List.{List}
 use mathlib.Core.Path.{ap, _∙_}
@@ -37,13 +38,18 @@ same-length c = search needs
 
 returns : tie.Need-returns
 returns c =
-    let a = c .before .before .before .before .before .before .before .before .before .before .before .before .before .before .before .args in
-    let told = c .before .before .push-event in
-    let last = c .before .before .before .before .before .before .put-u162 in (
+    let at-push-event = c .before .before in
+    let at-put-u162 = at-push-event .before .before .before .before in
+    let at-put-u16 = at-put-u162 .before .before .before in
+    let at-put-u8 = at-put-u16 .before .before .before in
+    let at-entry = at-put-u8 .before .before .before in
+    let a = at-entry .args in
+    let told = at-push-event .push-event in
+    let last = at-put-u162 .put-u162 in (
       told .ensures .0,
       tells-assembly (a .s .now) (told .last .0) (last .last .0) (a .what) (a .instance) (a .length)
           (last .ensures
-          ∙ ap (λ (z : List ℕ). put 2 z 6 (a .length)) (c .before .before .before .before .before .before .before .before .before .put-u16 .ensures ∙ ap (λ (z : List ℕ). put 2 z 4 (a .instance)) (c .before .before .before .before .before .before .before .before .before .before .before .before .put-u8 .ensures))
+          ∙ ap (λ (z : List ℕ). put 2 z 6 (a .length)) (at-put-u16 .put-u16 .ensures ∙ ap (λ (z : List ℕ). put 2 z 4 (a .instance)) (at-put-u8 .put-u8 .ensures))
           ∙ assembly-put (a .what) (a .instance) (a .length)) (told .ensures .1),
     )
 

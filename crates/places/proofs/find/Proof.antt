@@ -1,3 +1,4 @@
+-- The search so far has passed i shapes, and the rest gives the whole answer.
 use Prim.Native.Nat.{_≤_, _-_}
 use mathlib.Core.Path.{_≡_, sym, _∙_}
 use native.Mathlib.Omega.{arith}

@@ -1,3 +1,4 @@
+-- The kind is looked at first, then the instance.
 use borrow.Author.Tests.{not-true, not-false}
 use Rattle.layout.specs.Setups.{shapeIn}
 use Rattle.places.specs.PlaceLaws.{at-not, at-rest}
@@ -12,7 +13,12 @@ is-kind-requires : tie.Need-is-kind-requires
 is-kind-requires c κs = search needs
 
 returns : tie.Need-returns
-returns c = at-not (c .before .before .before .before .args .kind) (c .before .before .before .before .args .instance) (shapeIn (c .before .before .before .before .args .r .now) (c .before .before .before .before .args .i)) _ _ (c .before .before .kind-at .ensures) (c .before .is-kind .ensures) (not-true (c .before .is-kind .result) (c .if1 .taken))
+returns c =
+    let at-is-kind = c .before in
+    let at-kind-at = at-is-kind .before in
+    let at-entry = at-kind-at .before .before in
+    at-not (at-entry .args .kind) (at-entry .args .instance) (shapeIn (at-entry .args .r .now) (at-entry .args .i)) _ _ (at-kind-at .kind-at .ensures) (at-is-kind .is-kind .ensures)
+    (not-true (at-is-kind .is-kind .result) (c .if1 .taken))
 
 instance-at-requires : tie.Need-instance-at-requires
 instance-at-requires c κs = search needs
@@ -21,7 +27,13 @@ cast-result : tie.Need-cast-result
 cast-result c = search needs
 
 returns-2 : tie.Need-returns-2
-returns-2 c = at-rest (c .before .before .before .before .before .args .kind) (c .before .before .before .before .before .args .instance) _ (shapeIn (c .before .before .before .before .before .args .r .now) (c .before .before .before .before .before .args .i)) _ _ (c .before .before .before .kind-at .ensures) (c .before .before .is-kind .ensures) (not-false (c .before .before .is-kind .result) (c .before .if1 .left)) (c .instance-at .ensures)
+returns-2 c =
+    let at-if1 = c .before in
+    let at-is-kind = at-if1 .before in
+    let at-kind-at = at-is-kind .before in
+    let at-entry = at-kind-at .before .before in
+    at-rest (at-entry .args .kind) (at-entry .args .instance) _ (shapeIn (at-entry .args .r .now) (at-entry .args .i)) _ _ (at-kind-at .kind-at .ensures) (at-is-kind .is-kind .ensures)
+    (not-false (at-is-kind .is-kind .result) (at-if1 .if1 .left)) (c .instance-at .ensures)
 
 pub is-at-spec : {M : Type 1} → statement M
 is-at-spec =

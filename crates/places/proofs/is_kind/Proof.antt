@@ -1,3 +1,4 @@
+-- Each kind has its own number.
 use mathlib.Core.Path.{ap, _∙_, sym}
 use Rattle.rules.specs.Host.{kindTest}
 use Rattle.places.specs.PlaceLaws.{kind-input, kind-output, kind-config}

@@ -1,3 +1,4 @@
+-- The bytes are put, then the event of their assembly is told.
 use native.Mathlib.Omega.{arith}
 use mathlib.Core.Path.{refl}
 use lib.ListN.{length}
@@ -27,15 +28,21 @@ same-length : tie.Need-same-length
 same-length c = search needs
 
 returns : tie.Need-returns
-returns c = let a = c .before .before .before .before .before .before .before .before .before .before .before .before .args in
+returns c =
+    let at-tell-assembly = c .before .before in
+    let at-instance-at = at-tell-assembly .before .before in
+    let at-put-bytes = at-instance-at .before .before .before .before in
+    let at-entry = at-put-bytes .before .before .before .before in
+    let a = at-entry .args in
     let s = a .s .now in
-    let s₁ = c .before .before .before .before .before .before .before .before .put-bytes .last .0 in
-    let s₂ = c .before .before .tell-assembly .last .0 in
-    let v = c .before .before .before .before .instance-at .result in
+    let s₁ = at-put-bytes .put-bytes .last .0 in
+    let s₂ = at-tell-assembly .tell-assembly .last .0 in
+    let v = at-instance-at .instance-at .result in
     let m = length (a .config .now) in
-    let k = c .before .before .before .before .before .before .before .before .put-bytes .ensures .0 in (
-      config-kept (a .i) (a .config .now) s s₁ s₂ k (c .before .before .tell-assembly .ensures .0),
-      config-done (a .i) (a .config .now) s s₁ s₂ (let e = kept-few (le 2 s 224) s s₁ k in let p = c .before .before .before .before .before .before .before .before .before .before .before .before .pre .1 in omega (arith, e, p)) v m (c .before .before .before .before .instance-at .ensures) refl (c .before .before .before .before .before .before .before .before .put-bytes .ensures .1) (told-as s₁ s₂ 4 v m (Configured v m) (configured-is v m) (c .before .before .tell-assembly .ensures .1)),
+    let k = at-put-bytes .put-bytes .ensures .0 in (
+      config-kept (a .i) (a .config .now) s s₁ s₂ k (at-tell-assembly .tell-assembly .ensures .0),
+      config-done (a .i) (a .config .now) s s₁ s₂ (let e = kept-few (le 2 s 224) s s₁ k in let p = at-entry .pre .1 in omega (arith, e, p)) v m (at-instance-at .instance-at .ensures) refl
+          (at-put-bytes .put-bytes .ensures .1) (told-as s₁ s₂ 4 v m (Configured v m) (configured-is v m) (at-tell-assembly .tell-assembly .ensures .1)),
     )
 
 pub configure-spec : {M : Type 1} → statement M

@@ -1,3 +1,4 @@
+-- The next id, the row and the event, one after the other, are the new connection placed.
 use Rattle.opening.specs.StepLaws.{place-kept, place-done}
 use borrow.Author.Needs.{needs}
 use Rattle.opening.proofs.placing.place.Statement.{statement}
@@ -16,13 +17,18 @@ same-length : tie.Need-same-length
 same-length c = search needs
 
 returns : tie.Need-returns
-returns c = let a = c .before .before .before .before .before .before .before .before .before .before .before .before .args in
+returns c =
+    let at-tell = c .before .before in
+    let at-add-row = at-tell .before .before .before .before in
+    let at-set-next-id = at-add-row .before .before .before .before in
+    let at-entry = at-set-next-id .before .before .before .before in
+    let a = at-entry .args in
     let s = a .s .now in
-    let s₁ = c .before .before .before .before .before .before .before .before .before .before .set-next-id .last .0 in
-    let s₂ = c .before .before .before .before .before .before .add-row .last .0 in
-    let s₃ = c .before .before .tell .last .0 in (
-      place-kept (a .c) (a .next) s s₁ s₂ s₃ (c .before .before .before .before .before .before .before .before .before .before .set-next-id .ensures .0) (c .before .before .before .before .before .before .add-row .ensures .0) (c .before .before .tell .ensures .0),
-      place-done (a .c) (a .next) s s₁ s₂ s₃ (c .before .before .before .before .before .before .before .before .before .before .before .before .pre .1) (c .before .before .before .before .before .before .before .before .before .before .before .before .pre .3) (c .before .before .before .before .before .before .before .before .before .before .set-next-id .ensures .1) (c .before .before .before .before .before .before .add-row .ensures .1) (c .before .before .tell .ensures .1),
+    let s₁ = at-set-next-id .set-next-id .last .0 in
+    let s₂ = at-add-row .add-row .last .0 in
+    let s₃ = at-tell .tell .last .0 in (
+      place-kept (a .c) (a .next) s s₁ s₂ s₃ (at-set-next-id .set-next-id .ensures .0) (at-add-row .add-row .ensures .0) (at-tell .tell .ensures .0),
+      place-done (a .c) (a .next) s s₁ s₂ s₃ (at-entry .pre .1) (at-entry .pre .3) (at-set-next-id .set-next-id .ensures .1) (at-add-row .add-row .ensures .1) (at-tell .tell .ensures .1),
     )
 
 pub place-spec : {M : Type 1} → statement M

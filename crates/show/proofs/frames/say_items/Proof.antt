@@ -1,3 +1,4 @@
+-- The loop ends because its turns are counted.
 use borrow.Author.Needs.{needs}
 use Rattle.show.proofs.frames.say_items.Statement.{statement}
 use Rattle.show.proofs.frames.say_items.Tie as tie

@@ -1,3 +1,4 @@
+-- A row that has the triad stops the open; none leaves it free.
 use Rattle.streams.specs.TableLaws.{triad-used, triad-free}
 use borrow.Author.Needs.{needs}
 use Rattle.streams.proofs.table.triad.Statement.{statement}
