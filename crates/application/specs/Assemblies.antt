@@ -1,36 +1,18 @@
 -- What an assembly holds, as code reads it.
-use Prim.Native.Nat.{ℕ, zero, suc, _+_, _*_, _-_, _%_, _^_, _≤_, _<_}
-use mathlib.Core.Bool.{Bool, true, false, cond}
-use mathlib.Core.List.{List, [], _∷_, _++_}
-use mathlib.Core.Option.{Option, none, some}
-use mathlib.Core.Path.{_≡_, refl, ap, sym, _∙_}
+use Prim.Native.Nat.{ℕ, _+_, _*_, _-_, _%_, _≤_, _<_}
+use mathlib.Core.Bool.{true}
+use mathlib.Core.List.{List}
+use mathlib.Core.Path.{_≡_, ap, sym, _∙_}
 use native.Mathlib.Omega.{arith}
-use lib.ListN.{length, getD, take, drop, set, replicate, length-append, length-replicate, getD-replicate}
-use lib.Seq.{sets, take-all}
-use borrow.Author.Tests.{le-leb, lt-leb}
-use Rattle.cells.specs.Numbers.{le, put, bytesLe, le-1, sets-append}
+use lib.ListN.{length, take, drop}
+use Rattle.cells.specs.Numbers.{le, le-1}
 use Rattle.cells.specs.Records.{ofBool}
-use Rattle.cells.specs.Writes.{copied-more}
 use Rattle.cells.specs.Back.{Bytes}
-use Rattle.rules.specs.Lists.{changeAt}
-use Rattle.rules.specs.State.{Shape, Content, noContent, shapeAt, contentAt, withContents}
-use Rattle.rules.specs.Answers.{Answer, Done, Wrote, Refused, NoAssembly, TooLong, NoRoom, settled}
-use Rattle.rules.specs.Checks.{placeOf}
-use Rattle.rules.specs.Host.{filled, setInputAt, inputSet, setInputAnswer, setInputEffect, setInputCall, read, outputBytes, outputAt, outputRead, outputAnswer, outputEffect, outputCall, kindTest, assemblyAt, assemblyAnswer}
-use Rattle.layout.specs.Setups.{shapeIn, setupOf}
+use Rattle.rules.specs.State.{Shape, Content, shapeAt, contentAt}
+use Rattle.layout.specs.Setups.{shapeIn}
 use Rattle.layout.specs.RowLaws.{bit-small}
-use Rattle.image.specs.Image.{view, store, tested, markOf}
+use Rattle.image.specs.Image.{view, tested, markOf}
 use Rattle.image.specs.Holds.{Holds, holds-tested, slotted-tested, assemblies-held, shape-held, mark-held, bytes-held}
-use Rattle.image.specs.Changes.{bytesAs, markAs, bytes-put, mark-put}
-use Rattle.image.specs.Lift.{lifted, liftedOut, liftedRead}
-use Rattle.application.specs.Places.{assemblyReadAt, outputReadAt, inputSetAt}
-use Rattle.application.specs.Ways.{fits-in, fits-not, read-wrote, read-no, read-same, out-wrote, out-no, out-same, left-done, left-no, left-same}
-
--- the one at a place changed
-pub change-set : (xs : List Content) (i : ℕ) (u : Content → Content) → changeAt i u xs ≡ set xs i (u (getD xs i noContent))
-change-set [] i u = refl
-change-set (x ∷ xs) zero u = refl
-change-set (x ∷ xs) (suc i) u = ap (λ (z : List Content). x ∷ z) (change-set xs i u)
 
 module _ (s : List ℕ) (t : tested s ≡ true) (b : Bytes s) (i : ℕ) (p : i < le 1 s 0) where
   abbrev h : Holds s (view s) s

@@ -10,7 +10,7 @@ use lib.ListN.{length, replicate, length-append, length-replicate, length-drop}
 use borrow.Author.Tests.{leb-true}
 use Rattle.tables.specs.Ring.{by-cases}
 use Rattle.rules.specs.Lists.{changeAt}
-use Rattle.rules.specs.State.{Content, State, shapeAt, contentAt, withContents}
+use Rattle.rules.specs.State.{Content, noContent, State, shapeAt, contentAt, withContents}
 use Rattle.rules.specs.Answers.{Answer, isYes, settled}
 use Rattle.rules.specs.Events.{oldestGone}
 use Rattle.rules.specs.Checks.{placeOf}
@@ -22,7 +22,7 @@ use Rattle.image.specs.ViewLaws.{suits-view}
 use Rattle.image.specs.Passes.{tested-store}
 use Rattle.image.specs.Kept.{suits-content, suits-events, records-drop}
 use Rattle.image.specs.Lift.{lifted, liftedOut, lifted-tested}
-use Rattle.application.specs.Assemblies.{change-set}
+use Rattle.image.specs.Searches.{change-at-place}
 
 either-suits : (b : Bool) (l : List ℕ) (x y : State) → Suits x l → Suits y l → Suits (cond b x y) l
 either-suits true l x y p q = p
@@ -40,7 +40,7 @@ module _ (l : List ℕ) (t : tested l ≡ true) where
   changed-suits : (i : ℕ) (u : Content → Content) → length (u (contentAt (view l) i) .bytes) ≡ length (contentAt (view l) i .bytes)
       → Suits (withContents (changeAt i u (view l .contents)) (view l)) l
   changed-suits i u e =
-      subst (λ (z : List Content). Suits (withContents z (view l)) l) (sym (change-set (view l .contents) i u)) (suits-content (view l) l w i (u (contentAt (view l) i)) e)
+      subst (λ (z : List Content). Suits (withContents z (view l)) l) (sym (change-at-place u noContent (view l .contents) i)) (suits-content (view l) l w i (u (contentAt (view l) i)) e)
 
   filled-suits : (bytes : List ℕ) (o : Option ℕ) → Suits (settled (setInputAt (view l .setup) bytes o) (inputSet bytes (view l) o) (view l) .1) l
   filled-suits bytes none = w

@@ -1,16 +1,10 @@
--- An assembly's place in the setup's list, and the calls on an assembly whose place is known.
+-- The calls on an assembly whose place in the setup's list is known.
 use Prim.Native.Nat.{ℕ}
 use mathlib.Core.List.{List}
-use mathlib.Core.Option.{Option, none, some}
+use mathlib.Core.Option.{some}
 use Rattle.rules.specs.State.{State}
 use Rattle.rules.specs.Answers.{Answer, settled}
 use Rattle.rules.specs.Host.{assemblyAt, outputAt, outputRead, setInputAt, inputSet}
-use Rattle.application.specs.declared.places.Found.{Found}
-use Rattle.application.specs.declared.places.Found.the-variants.{At, Nowhere}
-
-abbrev pub placeIn : Found → Option ℕ
-placeIn (At i) = some i
-placeIn Nowhere = none
 
 abbrev pub assemblyReadAt : ℕ → ℕ → State → Answer
 assemblyReadAt i room st = assemblyAt room st (some i)

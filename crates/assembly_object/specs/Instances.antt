@@ -1,30 +1,25 @@
 -- The setup's list of assemblies by instance alone.
-use Prim.Native.Nat.{ℕ, zero, suc, _+_, _≤_, _<_, max}
-use mathlib.Core.Bool.{Bool, true, false, cond}
-use mathlib.Core.List.{List, [], _∷_}
-use mathlib.Core.Option.{Option, none, some}
+use Prim.Native.Nat.{ℕ, _+_, _≤_, _<_, max}
+use mathlib.Core.Bool.{Bool, cond}
+use mathlib.Core.List.{List, []}
+use mathlib.Core.Option.{Option}
 use mathlib.Core.Path.{_≡_, refl, ap, sym, _∙_}
 use native.Mathlib.Omega.{arith}
-use native.Mathlib.Numerals.{add-one}
 use lib.Dec.{eqb}
-use lib.ListN.{length, drop, drop-of-length-le}
-use lib.Seq.{drop-cons}
+use lib.ListN.{drop}
 use borrow.Author.Tests.{eq-eqb, ne-eqb}
 use Rattle.cells.specs.Numbers.{le}
-use Rattle.tables.specs.Tables.{rows, length-rows, row-at}
+use Rattle.tables.specs.Tables.{rows, rows-rest, rows-end}
 use Rattle.rules.specs.Lists.{place}
-use Rattle.rules.specs.State.{Shape, noShape}
+use Rattle.rules.specs.State.{Shape}
 use Rattle.wire_requests.specs.declared.FirstAttribute.{FirstAttribute}
 use Rattle.rules.specs.Attributes.{Attributes, single}
 use Rattle.rules.specs.Objects.{largestInstance, assemblyClass, assemblyPlace, assemblyObject, assembly}
 use Rattle.layout.specs.Places.{setupIn}
 use Rattle.layout.specs.Setups.{decShape, shapeIn, setupFrom, setupOf}
 use Rattle.image.specs.Image.{view}
-use Rattle.image.specs.TestLaws.{assemblies-in}
-use Rattle.application.specs.declared.places.Found.{Found}
-use Rattle.application.specs.declared.places.Found.the-variants.{At}
-use Rattle.application.specs.Places.{placeIn}
-use Rattle.application.specs.PlaceLaws.{place-in}
+use Rattle.layout.specs.Searched.{placeIn}
+use Rattle.layout.specs.declared.Found.{Found}
 use Rattle.attributes.specs.declared.Given.{Given}
 use Rattle.attributes.specs.Told.{told}
 
@@ -43,16 +38,13 @@ module _ (n : ℕ) (r : List ℕ) where
   pub largest-on : (i most : ℕ) → i < n → (m : ℕ) → m ≡ shapeIn r i .instance
       → max (max most m) (largestInstance (drop (i + 1) shapes)) ≡ max most (largestInstance (drop i shapes))
   largest-on i most h m e =
-      let q : drop i shapes ≡ shapeIn r i ∷ drop (i + 1) shapes =
-      drop-cons shapes i noShape (let z = length-rows 5 decShape n (drop 110 r) in omega arith)
-      ∙ (λ j. row-at 5 decShape n (drop 110 r) i noShape h j ∷ drop (sym (add-one i) j) shapes) in
       (let z : max (max most m) (largestInstance (drop (i + 1) shapes)) ≡ max most (max (shapeIn r i .instance) (largestInstance (drop (i + 1) shapes))) = omega (arith, e) in z)
-      ∙ ap (λ (xs : List Shape). max most (largestInstance xs)) (sym q)
+      ∙ ap (λ (xs : List Shape). max most (largestInstance xs)) (sym (rows-rest 5 decShape n (drop 110 r) i h))
 
   pub largest-ends : (i most : ℕ) → n ≤ i → most ≡ max most (largestInstance (drop i shapes))
   largest-ends i most h =
       (let z : most ≡ max most 0 = omega arith in z)
-      ∙ ap (λ (xs : List Shape). max most (largestInstance xs)) (sym (drop-of-length-le shapes {i = i} (let z = length-rows 5 decShape n (drop 110 r) in omega arith)))
+      ∙ ap (λ (xs : List Shape). max most (largestInstance xs)) (sym (rows-end 5 decShape n (drop 110 r) i h))
 
 -- ---- the class
 
@@ -80,10 +72,3 @@ module _ (s : List ℕ) (n : ℕ) (x : Found) (e : placeIn x ≡ place (hasInsta
   pub found-is : assemblyPlace (view s .setup) n ≡ placeIn x
   unfolding assemblyPlace view setupOf
   found-is = sym e
-
-  pub found-in : (i : ℕ) → x ≡ At i → i < le 1 s 0
-  found-in i q =
-      let a = assemblies-in s in
-      let m = length-rows 5 decShape (le 1 (setupIn s) 0) (drop 110 (setupIn s)) in
-      let h = place-in (hasInstance n) (rows 5 decShape (le 1 (setupIn s) 0) (drop 110 (setupIn s))) i (sym e ∙ ap placeIn q) in
-      omega arith

@@ -1,7 +1,7 @@
 // Assembly, class 0x04: the data of an assembly of any kind, and its size.
-use application::places::Found;
 use attributes::Asked;
 use attributes::Given;
+use layout::Found;
 use rules::objects::Fault;
 use wire_requests::FirstAttribute;
 ghost use mathlib.Core.Path.{_≡_};
@@ -17,7 +17,7 @@ ghost use Rattle.rules.specs.Objects.{largestInstance, assemblyClass, assemblyA
 ghost use Rattle.layout.specs.Setups.{decShape, shapeIn, setupFrom};
 ghost use Rattle.image.specs.Image.{view};
 ghost use Rattle.application.specs.Outcomes.{Passed};
-ghost use Rattle.application.specs.Places.{placeIn};
+ghost use Rattle.layout.specs.Searched.{placeIn};
 ghost use Rattle.attributes.specs.Told.{told};
 ghost use Rattle.assembly_object.specs.Instances.{hasInstance};
 

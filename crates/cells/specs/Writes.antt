@@ -6,8 +6,8 @@ use native.Mathlib.Omega.{arith}
 use native.Mathlib.Numerals.{add-one}
 use borrow.Author.Tests.{le-leb, lt-leb}
 use lib.Dec.{leb}
-use lib.ListN.{length, getD, take, set}
-use lib.Seq.{sets, take-suc, length-take-le}
+use lib.ListN.{length, getD, take, set, replicate, length-replicate, getD-replicate}
+use lib.Seq.{sets, take-suc, take-all, length-take-le}
 use Rattle.cells.specs.Pick.{pick}
 use Rattle.cells.specs.Numbers.{sets-append}
 use Rattle.cells.specs.declared.Written.{Written}
@@ -33,3 +33,11 @@ copied-more s d at j x h e =
     ∙ ap (λ (n : ℕ). set (sets s at (take j d)) (at + n) (getD d j 0)) (sym (length-take-le j d (omega arith)))
     ∙ sym (sets-append s at (take j d) (getD d j 0 ∷ []))
     ∙ ap (sets s at) (sym (take-suc d j 0 h) ∙ ap (λ (n : ℕ). take n d) (sym (add-one j)))
+
+-- one more byte made zero; all of them
+pub zeroed-more : (s₀ : List ℕ) (at n k : ℕ) (s : List ℕ) → k < n → s ≡ sets s₀ at (take k (replicate n 0)) → set s (at + k) 0 ≡ sets s₀ at (take (k + 1) (replicate n 0))
+zeroed-more s₀ at n k s g e =
+    ap (set s (at + k)) (sym (getD-replicate n k 0 0 g)) ∙ copied-more s₀ (replicate n 0) at k s (let z = length-replicate {A = ℕ} n 0 in omega arith) e
+
+pub zeroed-all : (n k : ℕ) → n ≤ k → take k (replicate {A = ℕ} n 0) ≡ replicate n 0
+zeroed-all n k g = take-all k (replicate n 0) (let z = length-replicate {A = ℕ} n 0 in omega arith)

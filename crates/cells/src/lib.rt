@@ -1,11 +1,11 @@
 // Little-endian numbers in byte slices.
 ghost use mathlib.Core.Path.{_≡_};
 ghost use Prim.Native.Nat.{ℕ, _+_, _≤_, _<_, _*_};
-ghost use lib.ListN.{length, drop};
+ghost use lib.ListN.{length, drop, replicate};
 ghost use lib.Seq.{paste, sets};
 ghost use Rattle.cells.specs.Numbers.{le, put};
-ghost use Rattle.cells.specs.BigEndian.{be, putBe};
-ghost use Rattle.cells.specs.Records.{toBool, ofBool};
+ghost use Rattle.cells.specs.BigEndian.{putBe};
+ghost use Rattle.cells.specs.Records.{ofBool};
 
 fn u16_of(b0: u8, b1: u8) -> u16
     ensures { λ r. ⌜ r ≡ b0 + b1 * 256 ⌝ }
@@ -110,36 +110,6 @@ pub fn put_u64(s: &mut [u8], at: usize, v: u64)
 
 // ---- the same, most significant byte first
 
-pub fn be16_at(s: &[u8], at: usize) -> u16
-    requires { ⌜ at + 2 ≤ length (now s) ⌝ }
-    ensures { λ r. ⌜ r ≡ be 2 (now (s .entry)) at ⌝ }
-{
-    u16_of(s[at + 1], s[at])
-}
-
-pub fn be32_at(s: &[u8], at: usize) -> u32
-    requires { ⌜ at + 4 ≤ length (now s) ⌝ }
-    ensures { λ r. ⌜ r ≡ be 4 (now (s .entry)) at ⌝ }
-{
-    u32_of(s[at + 3], s[at + 2], s[at + 1], s[at])
-}
-
-pub fn be64_at(s: &[u8], at: usize) -> u64
-    requires { ⌜ at + 8 ≤ length (now s) ⌝ }
-    ensures { λ r. ⌜ r ≡ be 8 (now (s .entry)) at ⌝ }
-{
-    u64_of(
-        s[at + 7],
-        s[at + 6],
-        s[at + 5],
-        s[at + 4],
-        s[at + 3],
-        s[at + 2],
-        s[at + 1],
-        s[at],
-    )
-}
-
 pub fn put_be16(s: &mut [u8], at: usize, v: u16)
     requires { ⌜ at + 2 ≤ length (now s) ⌝ }
     ensures { λ _. ⌜ now (s .exit) ≡ putBe 2 (now (s .entry)) at v ⌝ }
@@ -156,27 +126,6 @@ pub fn put_be32(s: &mut [u8], at: usize, v: u32)
     s[at + 1] = (v / 256 / 256 % 256) as u8;
     s[at + 2] = (v / 256 % 256) as u8;
     s[at + 3] = (v % 256) as u8;
-}
-
-pub fn put_be64(s: &mut [u8], at: usize, v: u64)
-    requires { ⌜ at + 8 ≤ length (now s) ⌝ }
-    ensures { λ _. ⌜ now (s .exit) ≡ putBe 8 (now (s .entry)) at v ⌝ }
-{
-    s[at] = (v / 256 / 256 / 256 / 256 / 256 / 256 / 256) as u8;
-    s[at + 1] = (v / 256 / 256 / 256 / 256 / 256 / 256 % 256) as u8;
-    s[at + 2] = (v / 256 / 256 / 256 / 256 / 256 % 256) as u8;
-    s[at + 3] = (v / 256 / 256 / 256 / 256 % 256) as u8;
-    s[at + 4] = (v / 256 / 256 / 256 % 256) as u8;
-    s[at + 5] = (v / 256 / 256 % 256) as u8;
-    s[at + 6] = (v / 256 % 256) as u8;
-    s[at + 7] = (v % 256) as u8;
-}
-
-pub fn bool_at(s: &[u8], at: usize) -> bool
-    requires { ⌜ at + 1 ≤ length (now s) ⌝ }
-    ensures { λ r. ⌜ r ≡ toBool (le 1 (now (s .entry)) at) ⌝ }
-{
-    u8_at(s, at) != 0
 }
 
 pub fn put_bool(s: &mut [u8], at: usize, b: bool)
@@ -207,6 +156,18 @@ pub fn copy_in(s: &mut [u8], at: usize, d: &[u8])
     while j < d.len() {
         s[at + j] = d[j];
         j += 1;
+    }
+}
+
+// n bytes from `at` on made zero.
+pub fn zero(s: &mut [u8], at: usize, n: usize)
+    requires { ⌜ at + n ≤ length (now s) ⌝ }
+    ensures { λ _. ⌜ now (s .exit) ≡ sets (now (s .entry)) at (replicate n 0) ⌝ }
+{
+    let mut k = 0;
+    while k < n {
+        s[at + k] = 0;
+        k += 1;
     }
 }
 

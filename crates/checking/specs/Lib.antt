@@ -2,5 +2,3 @@ pub mod Says
 pub mod SaysLaws
 pub mod RequestLaws
 pub mod KeyLaws
-pub mod Places
-pub mod PlaceLaws

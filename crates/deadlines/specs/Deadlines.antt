@@ -1,21 +1,19 @@
 -- The laws of the walk along the table, and of each way out.
 use Prim.Native.Nat.{ℕ, zero, suc, _+_, _*_, _≤_, _<_, min}
-use mathlib.Core.Bool.{Bool, true, false}
+use mathlib.Core.Bool.{true, false}
 use mathlib.Core.List.{List, [], _∷_}
 use mathlib.Core.Option.{Option, none, some}
 use mathlib.Core.Path.{_≡_, refl, ap, ap₂, sym, _∙_}
 use native.Mathlib.Omega.{arith}
-use native.Mathlib.Numerals.{add-one}
 use lib.Dec.{leb}
-use lib.ListN.{length, getD, take, drop, drop-of-length-le}
-use lib.Seq.{sets, drop-cons}
+use lib.ListN.{length, take, drop}
 use borrow.Author.Tests.{le-leb, lt-leb}
 use Rattle.cells.specs.Numbers.{le, put, bytesLe, length-bytesLe}
-use Rattle.tables.specs.Tables.{rows, length-rows, row-at}
+use Rattle.tables.specs.Tables.{rows, rows-rest, rows-end}
 use Rattle.rules.specs.State.{State}
 use Rattle.rules.specs.declared.Conn.{Conn}
 use Rattle.rules.specs.Lists.{maybe}
-use Rattle.rules.specs.Answers.{Answer, Wrote, Refused, NothingThere, fitting, answerNumber}
+use Rattle.rules.specs.Answers.{Wrote, Refused, NothingThere, fitting, answerNumber}
 use Rattle.rules.specs.declared.Due.{Due}
 use Rattle.rules.specs.declared.Due.the-variants.{Never, At}
 use Rattle.rules.specs.Removal.{dueOr, deadlineOf, leastOf, deadline, deadlineAnswer}
@@ -36,13 +34,11 @@ module _ (n : ℕ) (r : List ℕ) where
   pub least-turn : (m x i : ℕ) → i < n → x ≡ deadlineOf (decConn (take 70 (drop (i * 70) r)))
       → leastOf m (drop i (rows 70 decConn n r)) ≡ leastOf (min m x) (drop (i + 1) (rows 70 decConn n r))
   least-turn m x i h e =
-      ap (leastOf m)
-      (drop-cons (rows 70 decConn n r) i (decConn []) (let k = length-rows 70 decConn n r in omega arith)
-      ∙ (λ j. row-at 70 decConn n r i (decConn []) h j ∷ drop (sym (add-one i) j) (rows 70 decConn n r)))
+      ap (leastOf m) (rows-rest 70 decConn n r i h)
       ∙ ap (λ (y : ℕ). leastOf (min m y) (drop (i + 1) (rows 70 decConn n r))) (sym e)
 
   pub least-end : (m i : ℕ) → n ≤ i → leastOf m (drop i (rows 70 decConn n r)) ≡ m
-  least-end m i h = ap (leastOf m) (drop-of-length-le (rows 70 decConn n r) {i = i} (let k = length-rows 70 decConn n r in omega arith))
+  least-end m i h = ap (leastOf m) (rows-end 70 decConn n r i h)
 
 pub least-whole : (n : ℕ) (r : List ℕ) (m : ℕ) → 0 < n → m ≡ deadlineOf (decConn (take 70 (drop (0 * 70) r)))
     → deadline (rows 70 decConn n r) ≡ some (leastOf m (drop 1 (rows 70 decConn n r)))

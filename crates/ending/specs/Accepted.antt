@@ -34,7 +34,7 @@ use Rattle.image.specs.Changes.{suits-pushed}
 use Rattle.image.specs.Searches.{find-at, change-at-place}
 use Rattle.records.specs.Fields.{length-info}
 use Rattle.lookup.specs.RowTests.{place-none}
-use Rattle.removal.specs.Turns.{told}
+use Rattle.events.specs.Pushes.{told}
 use Rattle.removal.specs.Hands.{handed, idled}
 use Rattle.removal.specs.Listeners.{endsFor, ended}
 use Rattle.removal.specs.Removals.{goneAt, closed-is, expired-is}

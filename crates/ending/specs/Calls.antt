@@ -31,8 +31,8 @@ use Rattle.image.specs.Image.{view, store, tested}
 use Rattle.image.specs.Updates.{noConn}
 use Rattle.image.specs.Holds.{Held, held-tested}
 use Rattle.image.specs.Lift.{lifted, liftedOut, lifted-done, lifted-kept, out-done, out-kept}
-use Rattle.lookup.specs.declared.Found.{Found}
-use Rattle.lookup.specs.declared.Found.the-variants.{At, Nothing}
+use Rattle.layout.specs.declared.Found.{Found}
+use Rattle.layout.specs.declared.Found.the-variants.{At, Nowhere}
 use Rattle.lookup.specs.RowTests.{foundOf, place-any, place-never}
 use Rattle.removal.specs.Turns.{Turns, found-there, found-nowhere}
 use Rattle.removal.specs.Removals.{goneAt, closed-is}
@@ -85,7 +85,7 @@ abbrev pub ClosesFor : Triad → ℕ → List ℕ → List ℕ → List ℕ → 
 ClosesFor t r s s′ out out′ = (st : State) (l : List ℕ) → Held s st l → Settles (closeFor (length out) st (Close t)) (closed t st) st r s′ out out′ l
 
 module _ (t : Triad) (s out : List ℕ) (n : ℕ) (x : Found) (en : n ≡ le 2 s 224) (ex : x ≡ foundOf (place (connTriad t) (rows 70 decConn n (tableIn s)))) where
-  pub close-nothing : x ≡ Nothing → ClosesFor t 9 s s out out
+  pub close-nothing : x ≡ Nowhere → ClosesFor t 9 s s out out
   close-nothing e st l o =
       settles-no (closeFor (length out) st (Close t)) NothingThere (closed t st) st s out l
       (ap (λ (b : Bool). cond b (replyFor t (length out)) (Refused NothingThere)) (sym (place-never (connTriad t) (st .table) (found-nowhere (connTriad t) s n x en ex e st l o))))

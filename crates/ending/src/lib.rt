@@ -1,6 +1,6 @@
 // Close and expiry on a lent state in place.
 use ids::Triad;
-use lookup::Found;
+use layout::Found;
 ghost use mathlib.Core.Path.{_≡_};
 ghost use Prim.Native.Nat.{_<_};
 ghost use Rattle.cells.specs.Numbers.{le};
@@ -32,7 +32,7 @@ pub fn close(s: &mut [u8], t: Triad, out: &mut [u8]) -> u64
 {
     let n = cells::u16_at(s, 224) as usize;
     match lookup::find_triad(&s[256..2560], n, t) {
-        Found::Nothing => 9,
+        Found::Nowhere => 9,
         Found::At(i) => close_at(s, i, t, out),
     }
 }
@@ -46,7 +46,7 @@ fn expire_one(s: &mut [u8], time: u64) -> bool
 {
     let n = cells::u16_at(s, 224) as usize;
     match lookup::find_expired(&s[256..2560], n, time) {
-        Found::Nothing => false,
+        Found::Nowhere => false,
         Found::At(i) => {
             removal::remove_conn(s, i, 3);
             changes::set_fault(s, true);

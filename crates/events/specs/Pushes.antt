@@ -1,18 +1,23 @@
 -- An event more in the list of a held state.
 use Prim.Native.Nat.{ℕ}
-use mathlib.Core.List.{List}
+use mathlib.Core.List.{List, []}
 use mathlib.Core.Path.{_≡_, ap, sym, _∙_}
-use lib.ListN.{length}
+use lib.ListN.{replicate}
 use lib.Seq.{sets}
 use Rattle.tables.specs.Slots.{sets-whole}
-use Rattle.rules.specs.State.{State, withEvents}
-use Rattle.rules.specs.Events.{eventRecord, pushed}
+use Rattle.rules.specs.State.{Setup, State, withEvents}
+use Rattle.rules.specs.Events.{infoOf, infoRecord, eventRecord, pushed}
 use Rattle.rules.specs.declared.Event.{Event}
+use Rattle.rules.specs.declared.Fixed.{Fixed}
+use Rattle.layout.specs.Places.{setupIn}
+use Rattle.layout.specs.Setups.{setupFrom}
 use Rattle.image.specs.Image.{store}
 use Rattle.image.specs.Fits.{Suits}
-use Rattle.image.specs.Holds.{Becomes}
+use Rattle.image.specs.Holds.{Becomes, setup-held}
 use Rattle.image.specs.Changes.{eventPushed, suits-pushed}
-use Rattle.events.specs.Records.{length-event}
+use Rattle.records.specs.Fields.{length-info}
+use Rattle.records.specs.Shapes.{info-in}
+use Rattle.events.specs.Records.{length-event, assemblyRecord}
 
 abbrev pub eventTold : Event → State → State
 eventTold e st = withEvents (pushed e (st .events)) st
@@ -22,10 +27,30 @@ pub suits-told : (st : State) (l : List ℕ) (e : Event) → Suits st l → Suit
 unfolding pushed
 suits-told st l e w = suits-pushed st l w (eventRecord e) (length-event e)
 
--- a row of 32 bytes with the record over it is the record
-pub record-is : (r x : List ℕ) (e : Event) → length r ≡ 32 → x ≡ sets r 0 (eventRecord e) → x ≡ eventRecord e
-record-is r x e n q = q ∙ sets-whole r (eventRecord e) (n ∙ sym (length-event e))
+-- ---- of a connection
 
-pub told : (s s′ : List ℕ) (e : Event) (x : List ℕ) → x ≡ eventRecord e → Becomes s s′ (eventPushed x) → Becomes s s′ (eventTold e)
+abbrev pub told : ℕ → Fixed → State → State
+told what f st = eventPushed (infoRecord what (infoOf (st .setup) f)) st
+
+-- the record of what the setup's region says, put over zeros
+pub tells : (s s′ e : List ℕ) (what : ℕ) (f : Fixed) → e ≡ sets (replicate 32 0) 0 (infoRecord what (infoOf (setupFrom (setupIn s) []) f))
+    → Becomes s s′ (eventPushed e) → Becomes s s′ (told what f)
+tells s s′ e what f q b st l h =
+    b st l h
+    ∙ ap (λ (z : List ℕ). store (eventPushed z st) l)
+    (q ∙ sets-whole (replicate 32 0) (infoRecord what (infoOf (setupFrom (setupIn s) []) f)) (sym (length-info what (infoOf (setupFrom (setupIn s) []) f)))
+    ∙ ap (infoRecord what) (info-in s f ∙ ap (λ (u : Setup). infoOf u f) (setup-held s st l h)))
+
+-- ---- of an assembly
+
+abbrev pub assemblyTold : ℕ → ℕ → ℕ → State → State
+assemblyTold what instance n st = eventPushed (assemblyRecord what instance n) st
+
+pub tells-assembly : (s s′ e : List ℕ) (what instance n : ℕ) → e ≡ assemblyRecord what instance n → Becomes s s′ (eventPushed e) → Becomes s s′ (assemblyTold what instance n)
+tells-assembly s s′ e what instance n q b st l h = b st l h ∙ ap (λ (z : List ℕ). store (eventPushed z st) l) q
+
+-- it is the rules' event that has this record
+pub told-as : (s s′ : List ℕ) (what instance n : ℕ) (e : Event) → assemblyRecord what instance n ≡ eventRecord e
+    → Becomes s s′ (assemblyTold what instance n) → Becomes s s′ (eventTold e)
 unfolding pushed
-told s s′ e x q b st l h = b st l h ∙ ap (λ (z : List ℕ). store (eventPushed z st) l) q
+told-as s s′ what instance n e q b st l h = b st l h ∙ ap (λ (z : List ℕ). store (eventPushed z st) l) q

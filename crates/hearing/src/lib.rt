@@ -1,28 +1,24 @@
 // What receive decides: whom a frame is for, whether it is newer, whether it has a CIP sequence, and whether that was the last one.
 use ids::OtId;
+use layout::Found;
 use rules::Heard;
 use rules::Kind;
 ghost use mathlib.Core.Path.{_≡_};
 ghost use mathlib.Core.Bool.{_&&_};
-ghost use Prim.Native.Nat.{_*_, _≤_, _<_};
+ghost use Prim.Native.Nat.{_≤_, _<_};
 ghost use lib.Dec.{eqb, leb};
-ghost use lib.ListN.{length, take, drop};
+ghost use lib.ListN.{length};
 ghost use Rattle.tables.specs.Tables.{rows};
 ghost use Rattle.rules.specs.Lists.{place};
 ghost use Rattle.rules.specs.State.{isOwner};
 ghost use Rattle.rules.specs.Receiving.{newer};
-ghost use Rattle.layout.specs.Rows.{decConn};
-ghost use Rattle.hearing.specs.Decisions.{placeOf, hears};
-
-// Where a connection is.
-pub enum Found {
-    At(usize),
-    Nowhere,
-}
+ghost use Rattle.layout.specs.Rows.{rowAt, decConn};
+ghost use Rattle.hearing.specs.Decisions.{hears};
+ghost use Rattle.layout.specs.Searched.{placeIn};
 
 fn is_for(r: &[u8], i: usize, id: OtId, from: u32) -> bool
     requires { ⌜ (i < 32) × (2304 ≤ length (now r)) ⌝ }
-    ensures { λ x. ⌜ x ≡ hears id from (decConn (take 70 (drop (i * 70) (now (r .entry))))) ⌝ }
+    ensures { λ x. ⌜ x ≡ hears id from (decConn (rowAt (now (r .entry)) i)) ⌝ }
 {
     let x = layout::otid_at(r, i);
     if x.0 != id.0 {
@@ -33,7 +29,7 @@ fn is_for(r: &[u8], i: usize, id: OtId, from: u32) -> bool
 
 pub fn find(r: &[u8], n: usize, id: OtId, from: u32) -> Found
     requires { ⌜ (n ≤ 32) × (2304 ≤ length (now r)) ⌝ }
-    ensures { λ x. ⌜ placeOf x ≡ place (hears id from) (rows 70 decConn n (now (r .entry))) ⌝ }
+    ensures { λ x. ⌜ placeIn x ≡ place (hears id from) (rows 70 decConn n (now (r .entry))) ⌝ }
 {
     let mut i = 0;
     while i < n {
@@ -59,21 +55,11 @@ pub fn is_newer(h: Heard, q: u32) -> bool
     a <= 2147483647
 }
 
-fn is_owner(k: Kind) -> bool
-    ensures { λ r. ⌜ r ≡ isOwner k ⌝ }
-{
-    match k {
-        Kind::Owner => true,
-        Kind::InputOnly => false,
-        Kind::ListenOnly => false,
-    }
-}
-
 // Whether a CIP sequence is there: an owner alone has one.
 pub fn has_cip(k: Kind, d: &[u8]) -> bool
     ensures { λ r. ⌜ r ≡ isOwner k && leb 2 (length (now (d .entry))) ⌝ }
 {
-    if !is_owner(k) {
+    if !layout::is_owner(k) {
         return false;
     }
     2 <= d.len()

@@ -7,7 +7,6 @@ use native.Mathlib.Omega.{arith}
 use lib.ListN.{length, getD, take, drop, length-map, List·getD-map, List·getD-append}
 use lib.Seq.{drop-drop, take-take, getD-drop, getD-take}
 use Rattle.cells.specs.Numbers.{le, drop-take}
-use Rattle.cells.specs.Records.{ofBool}
 use Rattle.cells.specs.Back.{Bytes}
 use Rattle.tables.specs.Tables.{rows, length-rows}
 use Rattle.tables.specs.Store.{row-stored}
@@ -19,7 +18,7 @@ use Rattle.layout.specs.Rows.{decConn, encConn}
 use Rattle.layout.specs.RowLaws.{length-encConn, dec-encConn}
 use Rattle.image.specs.Image.{view, store, tested, markOf, bytesOf, marksOf, tableOf, dataOf}
 use Rattle.image.specs.Fits.{Suits, few-assemblies, shape-short, shape-at, is-long, is-sound, shapes-good, few-conns, first-slot, few-events}
-use Rattle.image.specs.StoreLaws.{length-store, few-contents, short-bytes, content-short, room, marks-of-store, table-of-store, data-of-store, setup-kept, assemblies-is, produced-is, late-is, maxLate-is, nextId-is, gone-is, waiting-is, conns-is, fault-is}
+use Rattle.image.specs.StoreLaws.{length-setupIn, length-store, few-contents, short-bytes, content-short, room, marks-of-store, table-of-store, data-of-store, setup-kept, assemblies-is, produced-is, late-is, maxLate-is, nextId-is, gone-is, waiting-is, conns-is}
 use Rattle.image.specs.ViewLaws.{suits-view, store-view, table-read}
 use Rattle.image.specs.TestLaws.{assemblies-in}
 use Rattle.image.specs.Updates.{noConn}
@@ -51,6 +50,10 @@ pub record Ready (s : List ℕ) : Type 0 where
 -- no shape says more bytes than a slot has
 abbrev pub Slotted : List ℕ → Type 0
 Slotted s = (i : ℕ) → i < le 1 s 0 → shapeIn s i .size ≤ 512
+
+-- the setup's region is all there, and has at most 16 assemblies
+pub setup-ready : (s : List ℕ) → Ready s → (192 ≤ length (setupIn s)) × (le 1 (setupIn s) 0 ≤ 16)
+setup-ready s r = (let n = length-setupIn s (r .long) in omega arith, let e = assemblies-in s in let a = r .assemblies in omega arith)
 
 -- a part of a part
 part-in : (n k m : ℕ) (x : List ℕ) → k + n ≤ m → take n (drop k (take m x)) ≡ take n (drop k x)
@@ -119,9 +122,6 @@ module _ (s : List ℕ) (st : State) (l : List ℕ) (h : Holds s st l) where
 
   pub conns-held : le 2 s 224 ≡ length (st .table)
   conns-held = ap (λ (z : List ℕ). le 2 z 224) (h .is) ∙ conns-is st l w
-
-  pub fault-held : le 2 s 226 ≡ ofBool (st .fault)
-  fault-held = ap (λ (z : List ℕ). le 2 z 226) (h .is) ∙ fault-is st l w
 
   pub ready-held : Ready s
   ready-held =

@@ -210,8 +210,9 @@ pub record Kept (n : ℕ) (s s′ : List ℕ) : Type 0 where
 pub kept-slotted : (n : ℕ) (s s′ : List ℕ) → Ready s → Kept n s s′ → Slotted s → Slotted s′
 kept-slotted n s s′ r k = slotted-same s s′ (k .setup) (r .assemblies)
 
-pub kept-trans : (n m : ℕ) (s s′ s″ : List ℕ) → Kept n s s′ → Kept m s′ s″ → Kept m s s″
-kept-trans n m s s′ s″ a b = record { ready = b .ready; setup = b .setup ∙ a .setup; conns = b .conns }
+-- as many assemblies as before
+pub kept-few : (n : ℕ) (s s′ : List ℕ) → Kept n s s′ → le 1 s′ 0 ≡ le 1 s 0
+kept-few n s s′ k = le-same 1 s′ s 0 192 (omega arith) (k .setup)
 
 pub kept-none : (s : List ℕ) → Ready s → Kept (le 2 s 224) s s
 kept-none s r = record { ready = r; setup = refl; conns = refl }

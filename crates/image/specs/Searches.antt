@@ -3,12 +3,10 @@ use Prim.Native.Nat.{ℕ, zero, suc, _+_, _*_, _≤_, _<_}
 use mathlib.Core.Bool.{Bool, true, false, cond}
 use mathlib.Core.List.{List, [], _∷_}
 use mathlib.Core.Option.{Option, none, some}
-use mathlib.Core.Path.{_≡_, refl, ap, sym, _∙_}
+use mathlib.Core.Path.{_≡_, refl, ap, _∙_}
 use native.Mathlib.Omega.{arith}
-use native.Mathlib.Numerals.{add-one}
-use lib.ListN.{length, getD, set, take, drop, drop-of-length-le}
-use lib.Seq.{drop-cons}
-use Rattle.tables.specs.Tables.{rows, length-rows, row-at, without}
+use lib.ListN.{length, getD, set, take, drop}
+use Rattle.tables.specs.Tables.{rows, without, rows-rest, rows-end}
 use Rattle.rules.specs.Lists.{maybe, find, place, changeFirst, withoutFirst, changeAt}
 
 -- a place that was found k further on
@@ -27,15 +25,10 @@ later-zero (some j) = ap some (omega arith)
 -- ---- a search along the rows: the place in the rest, so many further on
 
 module _ {A : Type 0} (size : ℕ) (dec : List ℕ → A) (p : A → Bool) (n : ℕ) (r : List ℕ) where
-  rest : (i : ℕ) → i < n → drop i (rows size dec n r) ≡ dec (take size (drop (i * size) r)) ∷ drop (i + 1) (rows size dec n r)
-  rest i h =
-      drop-cons (rows size dec n r) i (dec []) (let e = length-rows size dec n r in omega arith)
-      ∙ (λ j. row-at size dec n r i (dec []) h j ∷ drop (sym (add-one i) j) (rows size dec n r))
-
   at-row : (i : ℕ) → i < n → (b : Bool) → p (dec (take size (drop (i * size) r))) ≡ b
       → later i (place p (drop i (rows size dec n r))) ≡ later i (cond b (some 0) (maybe none (λ j. some (suc j)) (place p (drop (i + 1) (rows size dec n r)))))
   at-row i h b e =
-      ap (λ (z : List A). later i (place p z)) (rest i h)
+      ap (λ (z : List A). later i (place p z)) (rows-rest size dec n r i h)
       ∙ ap (λ (x : Bool). later i (cond x (some 0) (maybe none (λ j. some (suc j)) (place p (drop (i + 1) (rows size dec n r)))))) e
 
   pub search-hit : (i : ℕ) → i < n → p (dec (take size (drop (i * size) r))) ≡ true → later i (place p (drop i (rows size dec n r))) ≡ some i
@@ -46,7 +39,7 @@ module _ {A : Type 0} (size : ℕ) (dec : List ℕ → A) (p : A → Bool) (n : 
   search-miss i h e = at-row i h false e ∙ later-suc i (place p (drop (i + 1) (rows size dec n r)))
 
   pub search-ends : (i : ℕ) → n ≤ i → later i (place p (drop i (rows size dec n r))) ≡ none
-  search-ends i h = ap (λ (z : List A). later i (place p z)) (drop-of-length-le (rows size dec n r) {i = i} (let e = length-rows size dec n r in omega arith))
+  search-ends i h = ap (λ (z : List A). later i (place p z)) (rows-end size dec n r i h)
 
 -- ---- where the place is known
 

@@ -4,14 +4,12 @@ use mathlib.Core.Bool.{Bool, true, false, _&&_}
 use mathlib.Core.List.{List, [], _∷_}
 use mathlib.Core.Path.{_≡_, refl, ap, sym, _∙_}
 use native.Mathlib.Omega.{arith}
-use native.Mathlib.Numerals.{add-one}
 use lib.Dec.{leb}
-use lib.ListN.{length, getD, take, drop, drop-of-length-le}
-use lib.Seq.{drop-cons}
+use lib.ListN.{length, getD, take, drop}
 use borrow.Author.Tests.{le-leb, lt-leb, le-ltb, lt-ltb, eq-eqb, ne-eqb, leb-true}
 use Rattle.cells.specs.Numbers.{le, le-1, le-take, le-drop}
 use Rattle.cells.specs.Back.{all, all-at, all-fails}
-use Rattle.tables.specs.Tables.{rows, length-rows, row-at}
+use Rattle.tables.specs.Tables.{rows, rows-rest, rows-end}
 use Rattle.layout.specs.Places.{setupIn, marksIn, tableIn}
 use Rattle.layout.specs.Setups.{testsSetup, goodSetup, goodShape, goodShapes}
 use Rattle.layout.specs.Rows.{goodRow}
@@ -94,10 +92,6 @@ module _ (l : List ℕ) where
   unfolding tested
   state-fails4 h = sym (all-fails (testsState l) 4 (h))
 
-  pub state-fails5 : all (rows 70 goodRow (le 2 l 224) (tableIn l)) ≡ false → false ≡ tested l
-  unfolding tested
-  state-fails5 h = sym (all-fails (testsState l) 5 (h))
-
   pub state-passes : length l ≡ 109056 → goodSetup (setupIn l) ≡ true → goodHead l ≡ true → goodShapes (setupIn l) ≡ true
       → all (rows 1 goodMark (le 1 (setupIn l) 0) (marksIn l)) ≡ true → all (rows 70 goodRow (le 2 l 224) (tableIn l)) ≡ true → true ≡ tested l
   unfolding tested all
@@ -139,27 +133,22 @@ all-and true bs = refl
 all-and false bs = refl
 
 module _ (size : ℕ) (good : List ℕ → Bool) (n : ℕ) (r : List ℕ) where
-  walk : (i : ℕ) → i < n → drop i (rows size good n r) ≡ good (take size (drop (i * size) r)) ∷ drop (i + 1) (rows size good n r)
-  walk i h =
-      drop-cons (rows size good n r) i true (let e = length-rows size good n r in omega arith)
-      ∙ (λ j. row-at size good n r i true h j ∷ drop (sym (add-one i) j) (rows size good n r))
-
   pub walk-stops : (i : ℕ) → i < n → good (take size (drop (i * size) r)) ≡ false → all (drop i (rows size good n r)) ≡ false
   unfolding all
-  walk-stops i h e = ap all (walk i h) ∙ ap (λ (b : Bool). all (b ∷ drop (i + 1) (rows size good n r))) e
+  walk-stops i h e = ap all (rows-rest size good n r i h) ∙ ap (λ (b : Bool). all (b ∷ drop (i + 1) (rows size good n r))) e
 
   pub walk-on : (i : ℕ) → i < n → good (take size (drop (i * size) r)) ≡ true → all (drop i (rows size good n r)) ≡ all (drop (i + 1) (rows size good n r))
   unfolding all
-  walk-on i h e = ap all (walk i h) ∙ ap (λ (b : Bool). all (b ∷ drop (i + 1) (rows size good n r))) e
+  walk-on i h e = ap all (rows-rest size good n r i h) ∙ ap (λ (b : Bool). all (b ∷ drop (i + 1) (rows size good n r))) e
 
   pub walk-ends : (i : ℕ) → n ≤ i → all (drop i (rows size good n r)) ≡ true
   unfolding all
-  walk-ends i h = ap all (drop-of-length-le (rows size good n r) {i = i} (let e = length-rows size good n r in omega arith))
+  walk-ends i h = ap all (rows-end size good n r i h)
 
   -- what was seen to be good so far, and the rest
   pub walk-both : (i : ℕ) (b : Bool) → i < n
       → (b && all (drop i (rows size good n r))) ≡ ((b && good (take size (drop (i * size) r))) && all (drop (i + 1) (rows size good n r)))
-  walk-both i true h = ap all (walk i h) ∙ all-and (good (take size (drop (i * size) r))) (drop (i + 1) (rows size good n r))
+  walk-both i true h = ap all (rows-rest size good n r i h) ∙ all-and (good (take size (drop (i * size) r))) (drop (i + 1) (rows size good n r))
   walk-both i false h = refl
 
   pub both-ends : (i : ℕ) (b : Bool) → n ≤ i → (b && all (drop i (rows size good n r))) ≡ b

@@ -11,7 +11,8 @@ ghost use Rattle.image.specs.Image.{goodHead, goodMark, tested};
 
 pub const STATE_SIZE: usize = 109056;
 
-fn setup_good(r: &[u8]) -> bool
+// The numbers that the setup's region begins with.
+pub fn setup_good(r: &[u8]) -> bool
     requires { ⌜ 192 ≤ length (now r) ⌝ }
     ensures { λ x. ⌜ x ≡ goodSetup (now (r .entry)) ⌝ }
 {

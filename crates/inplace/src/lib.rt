@@ -9,8 +9,8 @@ use rules::Sent;
 ghost use mathlib.Core.Path.{_≡_};
 ghost use Prim.Native.Nat.{ℕ, _+_, _*_, _/_, _≤_, _<_};
 ghost use mathlib.Core.List.{[], _∷_};
-ghost use lib.ListN.{length, replicate};
-ghost use lib.Seq.{sets, paste};
+ghost use lib.ListN.{length};
+ghost use lib.Seq.{sets};
 ghost use Rattle.cells.specs.Numbers.{le};
 ghost use Rattle.cells.specs.Records.{putFields, ofBool};
 ghost use Rattle.layout.specs.Cut.{cut};
@@ -189,18 +189,6 @@ pub fn put_conn_at(r: &mut [u8], i: usize, c: Conn)
 
 // ---- a row gone
 
-// n bytes from `at` on made zero.
-fn zero(s: &mut [u8], at: usize, n: usize)
-    requires { ⌜ at + n ≤ length (now s) ⌝ }
-    ensures { λ _. ⌜ now (s .exit) ≡ paste (now (s .entry)) at (replicate n 0) n ⌝ }
-{
-    let mut k = 0;
-    while k < n {
-        s[at + k] = 0;
-        k += 1;
-    }
-}
-
 // Row i of n gone: the rows behind it move down, and the last row's place is zero.
 pub fn cut_row(r: &mut [u8], n: usize, i: usize)
     requires { ⌜ (i < n) × (n ≤ 32) × (2304 ≤ length (now r)) ⌝ }
@@ -209,5 +197,5 @@ pub fn cut_row(r: &mut [u8], n: usize, i: usize)
     let to = i * 70;
     let last = (n - 1) * 70;
     cells::move_down(r, to, to + 70, last - to);
-    zero(r, last, 70);
+    cells::zero(r, last, 70);
 }

@@ -1,39 +1,28 @@
 -- An input, as code fills it.
-use Prim.Native.Nat.{ℕ, zero, suc, _+_, _*_, _-_, _%_, _^_, _≤_, _<_}
-use mathlib.Core.Bool.{Bool, true, false, cond}
-use mathlib.Core.List.{List, [], _∷_, _++_}
+use Prim.Native.Nat.{ℕ, _+_, _*_, _-_, _≤_, _<_}
+use mathlib.Core.Bool.{Bool, true, cond}
+use mathlib.Core.List.{List, _++_}
 use mathlib.Core.Option.{Option, none, some}
-use mathlib.Core.Path.{_≡_, refl, ap, sym, _∙_}
+use mathlib.Core.Path.{_≡_, ap, sym, _∙_}
 use native.Mathlib.Omega.{arith}
-use lib.ListN.{length, getD, take, drop, set, replicate, length-append, length-replicate, getD-replicate}
-use lib.Seq.{sets, take-all}
+use lib.ListN.{length, replicate, length-append, length-replicate}
+use lib.Seq.{sets}
 use borrow.Author.Tests.{le-leb, lt-leb}
-use Rattle.cells.specs.Numbers.{le, put, bytesLe, le-1, sets-append}
-use Rattle.cells.specs.Records.{ofBool}
-use Rattle.cells.specs.Writes.{copied-more}
+use Rattle.cells.specs.Numbers.{le, sets-append}
 use Rattle.cells.specs.Back.{Bytes}
-use Rattle.rules.specs.Lists.{changeAt}
-use Rattle.rules.specs.State.{Shape, Content, noContent, shapeAt, contentAt, withContents}
-use Rattle.rules.specs.Answers.{Answer, Done, Wrote, Refused, NoAssembly, TooLong, NoRoom, settled}
+use Rattle.rules.specs.State.{Content, noContent, shapeAt, withContents}
+use Rattle.rules.specs.Answers.{Done, Refused, NoAssembly, TooLong, settled}
 use Rattle.rules.specs.Checks.{placeOf}
-use Rattle.rules.specs.Host.{filled, setInputAt, inputSet, setInputAnswer, setInputEffect, setInputCall, read, outputBytes, outputAt, outputRead, outputAnswer, outputEffect, outputCall, kindTest, assemblyAt, assemblyAnswer}
+use Rattle.rules.specs.Host.{filled, setInputAt, inputSet, setInputAnswer, setInputEffect, setInputCall, kindTest}
 use Rattle.layout.specs.Setups.{shapeIn, setupOf}
-use Rattle.layout.specs.RowLaws.{bit-small}
-use Rattle.image.specs.Image.{view, store, tested, markOf}
-use Rattle.image.specs.Holds.{Holds, holds-tested, slotted-tested, assemblies-held, shape-held, mark-held, bytes-held}
-use Rattle.image.specs.Changes.{bytesAs, markAs, bytes-put, mark-put}
-use Rattle.image.specs.Lift.{lifted, liftedOut, liftedRead}
-use Rattle.application.specs.Places.{assemblyReadAt, outputReadAt, inputSetAt}
-use Rattle.application.specs.Ways.{fits-in, fits-not, read-wrote, read-no, read-same, out-wrote, out-no, out-same, left-done, left-no, left-same}
-use Rattle.application.specs.Assemblies.{change-set, in-contents, size-is, setup-size, data-is, run-is}
-
--- one more byte made zero; all of them
-pub cleared-more : (s₀ : List ℕ) (at n k : ℕ) (s : List ℕ) → k < n → s ≡ sets s₀ at (take k (replicate n 0)) → set s (at + k) 0 ≡ sets s₀ at (take (k + 1) (replicate n 0))
-cleared-more s₀ at n k s g e =
-    ap (set s (at + k)) (sym (getD-replicate n k 0 0 g)) ∙ copied-more s₀ (replicate n 0) at k s (let z = length-replicate {A = ℕ} n 0 in omega arith) e
-
-pub cleared-all : (n k : ℕ) → n ≤ k → take k (replicate {A = ℕ} n 0) ≡ replicate n 0
-cleared-all n k g = take-all k (replicate n 0) (let z = length-replicate {A = ℕ} n 0 in omega arith)
+use Rattle.image.specs.Image.{view, store, tested}
+use Rattle.image.specs.Holds.{Holds, holds-tested}
+use Rattle.image.specs.Changes.{bytesAs, bytes-put}
+use Rattle.image.specs.Lift.{lifted}
+use Rattle.application.specs.Places.{inputSetAt}
+use Rattle.application.specs.Ways.{left-done, left-no, left-same}
+use Rattle.image.specs.Searches.{change-at-place}
+use Rattle.application.specs.Assemblies.{in-contents, size-is, setup-size}
 
 module _ (s : List ℕ) (t : tested s ≡ true) (b : Bytes s) (i : ℕ) (p : i < le 1 s 0) where
   abbrev h : Holds s (view s) s
@@ -57,7 +46,7 @@ module _ (s : List ℕ) (t : tested s ≡ true) (b : Bytes s) (i : ℕ) (p : i <
         let lz : length (d ++ zs) ≡ n = length-append d zs ∙ ap (λ (k : ℕ). length d + k) (length-replicate {A = ℕ} (n - length d) 0) ∙ omega arith in
         let left : store (bytesAs i (d ++ zs) (view s)) s ≡ store (inputSet d (view s) (some i)) s =
         ap (λ (k : ℕ). store (bytesAs i (d ++ replicate (k - length d) 0) (view s)) s) (en ∙ sym m)
-        ∙ ap (λ (z : List Content). store (withContents z (view s)) s) (sym (change-set (view s .contents) i (filled (shapeAt (view s .setup) i .size) d))) in
+        ∙ ap (λ (z : List Content). store (withContents z (view s)) s) (sym (change-at-place (filled (shapeAt (view s .setup) i .size) d) noContent (view s .contents) i)) in
         left-done s t (inputSetAt i d) s₂ (inputSet d (view s) (some i))
         (ap (λ (x : Bool). settled (cond x Done (Refused TooLong)) (inputSet d (view s) (some i)) (view s)) (le-leb (length d) (shapeAt (view s .setup) i .size) (omega arith)))
         (e₂ ∙ ap (λ (z : List ℕ). sets z (35328 + i * 512 + length d) zs) e₁ ∙ sym (sets-append s (35328 + i * 512) d zs)

@@ -1,7 +1,6 @@
 // Inputs, as the application gives them.
 use application::answers::Outcome;
-use application::places;
-use application::places::Found;
+use layout::Found;
 ghost use mathlib.Core.Path.{_≡_};
 ghost use Prim.Native.Nat.{_+_, _≤_, _<_};
 ghost use lib.ListN.{length, replicate};
@@ -11,18 +10,6 @@ ghost use Rattle.rules.specs.Host.{setInputCall};
 ghost use Rattle.image.specs.Lift.{lifted};
 ghost use Rattle.application.specs.Outcomes.{outcomeNumber, Passed};
 ghost use Rattle.application.specs.Places.{inputSetAt};
-
-// n bytes from `at` on made zero.
-fn clear(s: &mut [u8], at: usize, n: usize)
-    requires { ⌜ at + n ≤ length (now s) ⌝ }
-    ensures { λ _. ⌜ now (s .exit) ≡ sets (now (s .entry)) at (replicate n 0) ⌝ }
-{
-    let mut k = 0;
-    while k < n {
-        s[at + k] = 0;
-        k += 1;
-    }
-}
 
 // The input at that place takes the bytes; the rest of it is zero.
 fn fill_input(s: &mut [u8], i: usize, d: &[u8]) -> Outcome
@@ -36,7 +23,7 @@ fn fill_input(s: &mut [u8], i: usize, d: &[u8]) -> Outcome
     }
     let a = 35328 + i * 512;
     cells::copy_in(s, a, d);
-    clear(s, a + m, n - m);
+    cells::zero(s, a + m, n - m);
     Outcome::Done
 }
 

@@ -3,9 +3,8 @@ use Prim.Native.Nat.{ℕ, zero, suc, _+_, _*_, _-_, _≤_, _<_}
 use mathlib.Core.List.{List, _++_, append-assoc}
 use mathlib.Core.Path.{_≡_, refl, ap, ap₂, sym, _∙_}
 use native.Mathlib.Omega.{arith}
-use native.Mathlib.Numerals.{add-one}
-use lib.ListN.{length, take, drop, set, replicate, length-replicate, getD-replicate, length-drop}
-use lib.Seq.{paste, paste-suc, take-paste, drop-paste, length-paste, drop-drop}
+use lib.ListN.{length, take, drop, replicate, length-drop}
+use lib.Seq.{sets, sets-eq, length-sets, paste, take-paste, drop-paste, length-paste, drop-drop}
 use Rattle.tables.specs.Grow.{cutRow}
 use Rattle.layout.specs.Rows.{encConn}
 use Rattle.layout.specs.RowLaws.{length-encConn}
@@ -13,25 +12,17 @@ use Rattle.layout.specs.RowLaws.{length-encConn}
 unfoldable pub cut : ℕ → ℕ → List ℕ → List ℕ
 cut n i r = cutRow 70 encConn length-encConn n i r
 
--- ---- as code does it: one more byte made zero; the rows moved down, then the last row's place zero
-
-pub zero-more : (s₀ s : List ℕ) (at n k : ℕ) → s ≡ paste s₀ at (replicate n 0) k → at + n ≤ length s₀ → k < n
-    → set s (at + k) 0 ≡ paste s₀ at (replicate n 0) (k + 1)
-zero-more s₀ s at n k e h p =
-    let z : length {A = ℕ} (replicate n 0) ≡ n = length-replicate {A = ℕ} n 0 in
-    ap (λ (x : List ℕ). set x (at + k) 0) e
-    ∙ ap (λ (v : ℕ). set (paste s₀ at (replicate n 0) k) (at + k) v) (sym (getD-replicate n k 0 0 p))
-    ∙ paste-suc s₀ at (replicate n 0) k 0 (omega arith) (omega arith)
-    ∙ ap (paste s₀ at (replicate n 0)) (sym (add-one k))
+-- ---- as code does it: the rows moved down, then the last row's place zero
 
 pub cut-is : (r x : List ℕ) (n i : ℕ) → i < n → n ≤ 32 → 2304 ≤ length r
     → x ≡ paste r (i * 70) (drop (i * 70 + 70) r) ((n - 1) * 70 - i * 70)
-    → paste x ((n - 1) * 70) (replicate 70 0) 70 ≡ cut n i r
+    → sets x ((n - 1) * 70) (replicate 70 0) ≡ cut n i r
 unfolding cut cutRow
 cut-is r x n i p q h e =
     let m : ℕ = (n - 1) * 70 - i * 70 in
     let f : List ℕ = drop (i * 70 + 70) r in
     let lf : length f ≡ length r - (i * 70 + 70) = length-drop (i * 70 + 70) r in
+    let lx : length x ≡ length r = ap length e ∙ length-paste r (i * 70) f m (omega arith) (omega arith) in
     let a : (n - 1) * 70 ≡ i * 70 + m = omega arith in
     let b : (n - 1) * 70 + 70 ≡ (i * 70 + m) + 70 = omega arith in
     let tk : take ((n - 1) * 70) x ≡ take (i * 70) r ++ take m f =
@@ -45,7 +36,8 @@ cut-is r x n i p q h e =
     let zs : List ℕ = replicate 70 0 in
     let c₁ : m ≡ (n - 1 - i) * 70 = omega arith in
     let c₂ : i * 70 + 70 ≡ suc i * 70 = omega arith in
-    (λ j. tk j ++ zs ++ dr j)
+    sets-eq zs x ((n - 1) * 70) (omega arith)
+    ∙ (λ j. tk j ++ zs ++ dr j)
     ∙ append-assoc (take (i * 70) r ++ take m f) zs (drop (n * 70) r)
     ∙ append-assoc (take (i * 70) r) (take m f) (zs ++ drop (n * 70) r)
     ∙ (λ j. take (i * 70) r ++ (take (c₁ j) (drop (c₂ j) r) ++ (zs ++ drop (n * 70) r)))
@@ -57,5 +49,5 @@ length-cut r n i p q h =
     let lf : length (drop (i * 70 + 70) r) ≡ length r - (i * 70 + 70) = length-drop (i * 70 + 70) r in
     let lx : length x ≡ length r = length-paste r (i * 70) (drop (i * 70 + 70) r) ((n - 1) * 70 - i * 70) (omega arith) (omega arith) in
     ap length (sym (cut-is r x n i p q h refl))
-    ∙ length-paste x ((n - 1) * 70) (replicate 70 0) 70 (omega arith) (omega (arith, length-replicate {A = ℕ} 70 0))
+    ∙ length-sets x ((n - 1) * 70) (replicate 70 0)
     ∙ lx

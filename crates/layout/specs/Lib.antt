@@ -3,4 +3,5 @@ pub mod Setups
 pub mod Rows
 pub mod RowLaws
 pub mod Cut
+pub mod Searched
 pub mod SetupLaws

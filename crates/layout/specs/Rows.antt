@@ -4,7 +4,7 @@ use Prim.Native.Nat.{ℕ, _+_, _-_, _*_, _/_, _%_}
 use mathlib.Core.Bool.{Bool, cond}
 use mathlib.Core.List.{List, [], _∷_, _++_}
 use lib.Dec.{eqb, leb}
-use lib.ListN.{getD}
+use lib.ListN.{getD, take, drop}
 use Rattle.cells.specs.Numbers.{le}
 use Rattle.cells.specs.Records.{encFields, decFields, toBool, ofBool}
 use Rattle.rules.specs.declared.Kind.{Kind}
@@ -15,6 +15,10 @@ use Rattle.rules.specs.declared.Due.{Due}
 use Rattle.rules.specs.declared.Due.the-variants.{Never, At}
 use Rattle.rules.specs.declared.Sent.{Sent}
 use Rattle.rules.specs.declared.Conn.{Conn}
+
+-- the row at a place of the table's region
+abbrev pub rowAt : List ℕ → ℕ → List ℕ
+rowAt r i = take 70 (drop (i * 70) r)
 
 -- ---- sent: due time 8 at 0, sequence 4 at 8, CIP sequence 2 at 12
 

@@ -12,9 +12,26 @@ use rules::Sent;
 use rules::Socket;
 ghost use mathlib.Core.Path.{_≡_};
 ghost use Prim.Native.Nat.{ℕ, _*_, _≤_, _<_};
-ghost use lib.ListN.{length, take, drop};
+ghost use lib.ListN.{length};
+ghost use Rattle.rules.specs.State.{isOwner};
 ghost use Rattle.layout.specs.Setups.{kindNamed, shapeIn};
-ghost use Rattle.layout.specs.Rows.{toDue, toKind, kindIn, multicastIn, anyIn, anycipIn, decSent, decHeard, decFixed};
+ghost use Rattle.layout.specs.Rows.{rowAt, toDue, toKind, kindIn, multicastIn, anyIn, anycipIn, decSent, decHeard, decFixed};
+
+// Where a search along the rows, or along the shapes, found the first that it looks for.
+pub enum Found {
+    At(usize),
+    Nowhere,
+}
+
+pub fn is_owner(k: Kind) -> bool
+    ensures { λ r. ⌜ r ≡ isOwner k ⌝ }
+{
+    match k {
+        Kind::Owner => true,
+        Kind::InputOnly => false,
+        Kind::ListenOnly => false,
+    }
+}
 
 // ---- numbers for what is no number
 
@@ -140,7 +157,7 @@ fn sent_of(row: &[u8]) -> Sent
 
 pub fn fixed_at(r: &[u8], i: usize) -> Fixed
     requires { ⌜ (i < 32) × (2304 ≤ length (now r)) ⌝ }
-    ensures { λ x. ⌜ x ≡ decFixed (take 70 (drop (i * 70) (now (r .entry)))) ⌝ }
+    ensures { λ x. ⌜ x ≡ decFixed (rowAt (now (r .entry)) i) ⌝ }
 {
     let a = i * 70;
     let e = a + 70;
@@ -149,7 +166,7 @@ pub fn fixed_at(r: &[u8], i: usize) -> Fixed
 
 pub fn heard_at(r: &[u8], i: usize) -> Heard
     requires { ⌜ (i < 32) × (2304 ≤ length (now r)) ⌝ }
-    ensures { λ x. ⌜ x ≡ decHeard (take 70 (drop (i * 70) (now (r .entry)))) ⌝ }
+    ensures { λ x. ⌜ x ≡ decHeard (rowAt (now (r .entry)) i) ⌝ }
 {
     let a = i * 70;
     let e = a + 70;
@@ -158,7 +175,7 @@ pub fn heard_at(r: &[u8], i: usize) -> Heard
 
 pub fn sent_at(r: &[u8], i: usize) -> Sent
     requires { ⌜ (i < 32) × (2304 ≤ length (now r)) ⌝ }
-    ensures { λ x. ⌜ x ≡ decSent (take 70 (drop (i * 70) (now (r .entry)))) ⌝ }
+    ensures { λ x. ⌜ x ≡ decSent (rowAt (now (r .entry)) i) ⌝ }
 {
     let a = i * 70;
     let e = a + 70;
@@ -168,28 +185,28 @@ pub fn sent_at(r: &[u8], i: usize) -> Sent
 // What a search along the table compares, without the rest of the row.
 pub fn otid_at(r: &[u8], i: usize) -> OtId
     requires { ⌜ (i < 32) × (2304 ≤ length (now r)) ⌝ }
-    ensures { λ x. ⌜ x ≡ decFixed (take 70 (drop (i * 70) (now (r .entry)))) .otid ⌝ }
+    ensures { λ x. ⌜ x ≡ decFixed (rowAt (now (r .entry)) i) .otid ⌝ }
 {
     OtId(cells::u32_at(r, i * 70 + 33))
 }
 
 pub fn originator_at(r: &[u8], i: usize) -> u32
     requires { ⌜ (i < 32) × (2304 ≤ length (now r)) ⌝ }
-    ensures { λ x. ⌜ x ≡ decFixed (take 70 (drop (i * 70) (now (r .entry)))) .originator ⌝ }
+    ensures { λ x. ⌜ x ≡ decFixed (rowAt (now (r .entry)) i) .originator ⌝ }
 {
     cells::u32_at(r, i * 70 + 37)
 }
 
 pub fn until_at(r: &[u8], i: usize) -> u64
     requires { ⌜ (i < 32) × (2304 ≤ length (now r)) ⌝ }
-    ensures { λ x. ⌜ x ≡ decHeard (take 70 (drop (i * 70) (now (r .entry)))) .until ⌝ }
+    ensures { λ x. ⌜ x ≡ decHeard (rowAt (now (r .entry)) i) .until ⌝ }
 {
     cells::u64_at(r, i * 70 + 16)
 }
 
 pub fn due_at(r: &[u8], i: usize) -> Due
     requires { ⌜ (i < 32) × (2304 ≤ length (now r)) ⌝ }
-    ensures { λ x. ⌜ x ≡ decSent (take 70 (drop (i * 70) (now (r .entry)))) .due ⌝ }
+    ensures { λ x. ⌜ x ≡ decSent (rowAt (now (r .entry)) i) .due ⌝ }
 {
     due_of(cells::u64_at(r, i * 70))
 }

@@ -1,32 +1,26 @@
 -- The tests of a connection's row, on the numbers that code reads from it; and what a search along the rows answers.
-use Prim.Native.Nat.{ℕ, zero, suc, _+_, _*_, _/_, _%_, _≤_, _<_}
-use mathlib.Core.Bool.{Bool, true, false, cond, not, _&&_, _||_}
+use Prim.Native.Nat.{ℕ, zero, suc, _+_, _*_, _/_, _%_}
+use mathlib.Core.Bool.{Bool, true, false, cond, not, _&&_}
 use mathlib.Core.List.{List, [], _∷_}
 use mathlib.Core.Option.{Option, none, some}
 use mathlib.Core.Path.{_≡_, refl, ap, sym, _∙_}
 use native.Mathlib.Omega.{arith}
 use lib.Dec.{eqb, ltb}
-use lib.ListN.{getD, take, drop}
+use lib.ListN.{getD}
 use borrow.Author.Tests.{eq-eqb, ne-eqb, le-ltb}
 use Rattle.cells.specs.Numbers.{le}
 use Rattle.rules_laws.specs.ListLaws.{by-cases, find-any, none-found, none-is}
 use Rattle.rules.specs.Lists.{maybe, find, place, any}
 use Rattle.rules.specs.State.{isListener}
-use Rattle.rules.specs.Removal.{inStream, feeds, expired, connTriad}
-use Rattle.rules.specs.declared.Conn.{Conn}
+use Rattle.rules.specs.Removal.{inStream, feeds, connTriad}
 use Rattle.rules.specs.declared.Kind.the-variants.{Owner, InputOnly, ListenOnly}
 use Rattle.ids.specs.declared.ToId.{ToId}
 use Rattle.ids.specs.declared.Triad.{Triad}
-use Rattle.layout.specs.Rows.{toKind, decFixed, decHeard, decConn}
+use Rattle.layout.specs.Rows.{rowAt, toKind, decFixed, decConn}
 use Rattle.layout.specs.RowLaws.{in-row}
 use Rattle.image.specs.Searches.{find-at, place-passes}
-use Rattle.lookup.specs.declared.Found.{Found}
-use Rattle.lookup.specs.declared.Found.the-variants.{At, Nothing}
-
--- ---- the row at a place
-
-abbrev pub rowAt : List ℕ → ℕ → List ℕ
-rowAt r i = take 70 (drop (i * 70) r)
+use Rattle.layout.specs.declared.Found.{Found}
+use Rattle.layout.specs.declared.Found.the-variants.{At, Nowhere}
 
 listener-last : (n : ℕ) → ltb n 2 ≡ not (isListener (toKind n))
 listener-last zero = refl
@@ -92,14 +86,14 @@ module _ (r : List ℕ) (i : ℕ) where
 -- ---- what a search answers
 
 abbrev pub foundOf : Option ℕ → Found
-foundOf none = Nothing
+foundOf none = Nowhere
 foundOf (some i) = At i
 
 pub found-at : (o : Option ℕ) (i : ℕ) → foundOf o ≡ At i → o ≡ some i
 found-at none i e = absurd (let z : _≡_ {A = ℕ} 0 1 = cc in omega arith)
 found-at (some j) i e = cc
 
-pub found-none : (o : Option ℕ) → foundOf o ≡ Nothing → o ≡ none
+pub found-none : (o : Option ℕ) → foundOf o ≡ Nowhere → o ≡ none
 found-none none e = refl
 found-none (some j) e = absurd (let z : _≡_ {A = ℕ} 0 1 = cc in omega arith)
 

@@ -1,20 +1,15 @@
 // Tests of a connection's row on the numbers that they need, and searches along the rows in use.
 use ids::ToId;
 use ids::Triad;
+use layout::Found;
 ghost use mathlib.Core.Path.{_≡_};
 ghost use Prim.Native.Nat.{_≤_, _<_};
 ghost use lib.ListN.{length};
 ghost use Rattle.tables.specs.Tables.{rows};
 ghost use Rattle.rules.specs.Lists.{place};
 ghost use Rattle.rules.specs.Removal.{inStream, feeds, expired, connTriad};
-ghost use Rattle.layout.specs.Rows.{decConn};
-ghost use Rattle.lookup.specs.RowTests.{rowAt, foundOf};
-
-// The place of the first connection that a search looks for.
-pub enum Found {
-    At(usize),
-    Nothing,
-}
+ghost use Rattle.layout.specs.Rows.{rowAt, decConn};
+ghost use Rattle.lookup.specs.RowTests.{foundOf};
 
 // ---- tests of a row, on the numbers that they need
 
@@ -79,7 +74,7 @@ pub fn find_triad(r: &[u8], n: usize, t: Triad) -> Found
         }
         i += 1;
     }
-    Found::Nothing
+    Found::Nowhere
 }
 
 pub fn find_expired(r: &[u8], n: usize, time: u64) -> Found
@@ -93,7 +88,7 @@ pub fn find_expired(r: &[u8], n: usize, time: u64) -> Found
         }
         i += 1;
     }
-    Found::Nothing
+    Found::Nowhere
 }
 
 pub fn find_stream(r: &[u8], n: usize, id: ToId) -> Found
@@ -107,7 +102,7 @@ pub fn find_stream(r: &[u8], n: usize, id: ToId) -> Found
         }
         i += 1;
     }
-    Found::Nothing
+    Found::Nowhere
 }
 
 pub fn find_feeder(r: &[u8], n: usize, id: ToId) -> Found
@@ -121,5 +116,5 @@ pub fn find_feeder(r: &[u8], n: usize, id: ToId) -> Found
         }
         i += 1;
     }
-    Found::Nothing
+    Found::Nowhere
 }

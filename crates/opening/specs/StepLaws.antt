@@ -1,48 +1,32 @@
 -- Each step of an accepted open over a held state, and the steps together.
-use Prim.Native.Nat.{ℕ, _+_, _≤_, _<_}
+use Prim.Native.Nat.{ℕ, _+_, _<_}
 use mathlib.Core.Bool.{false}
 use mathlib.Core.List.{List, [], _∷_}
 use mathlib.Core.Path.{_≡_, refl, ap, sym, subst, _∙_}
 use native.Mathlib.Omega.{arith}
 use lib.ListN.{length}
-use Rattle.cells.specs.Numbers.{le, le-same}
+use Rattle.cells.specs.Numbers.{le}
 use Rattle.wire_opens.specs.declared.ForwardOpen.{ForwardOpen}
-use Rattle.rules.specs.Lists.{changeAt}
-use Rattle.rules.specs.State.{Setup, Content, State, noContent, contentAt, shapeAt, withFault, withNextId}
-use Rattle.rules.specs.Events.{infoOf, pushed, pushedAll}
+use Rattle.rules.specs.State.{Content, State, noContent, contentAt, shapeAt, withFault, withNextId}
+use Rattle.rules.specs.Events.{infoOf, pushed, pushedAll, eventRecord}
 use Rattle.rules.specs.Opening.{sideAt, newFixed, newConn, holding, stored, configEvent, opened}
 use Rattle.rules.specs.declared.Conn.{Conn}
 use Rattle.rules.specs.declared.Event.{Event}
 use Rattle.rules.specs.declared.Event.the-variants.{Opened, Configured}
-use Rattle.rules.specs.declared.Info.{Info}
 use Rattle.rules.specs.declared.Origin.{Origin}
 use Rattle.rules.specs.declared.Plan.{Plan}
 use Rattle.rules.specs.declared.Stores.{Stores}
 use Rattle.rules.specs.declared.Stores.the-variants.{Nothing, Into}
-use Rattle.layout.specs.Places.{setupIn}
-use Rattle.layout.specs.Setups.{shapeIn, setupFrom}
+use Rattle.layout.specs.Setups.{shapeIn}
 use Rattle.image.specs.Image.{store}
 use Rattle.image.specs.Fits.{Suits}
-use Rattle.image.specs.StoreLaws.{length-setupIn}
-use Rattle.image.specs.TestLaws.{assemblies-in}
 use Rattle.image.specs.Writes.{withBytes}
-use Rattle.image.specs.Holds.{Holds, Ready, Becomes, conns-held, setup-held, shape-held}
-use Rattle.image.specs.Kept.{Kept, suits-nextId, suits-appended, suits-content, suits-fault}
+use Rattle.image.specs.Holds.{Holds, Becomes, conns-held, shape-held}
+use Rattle.image.specs.Kept.{Kept, kept-few, suits-nextId, suits-appended, suits-content, suits-fault}
 use Rattle.image.specs.Changes.{rowAdded, bytesAs, BytesBecome}
 use Rattle.image.specs.Searches.{change-at-place}
-use Rattle.records.specs.Shapes.{info-in}
-use Rattle.events.specs.Pushes.{eventTold, suits-told}
-use Rattle.opening.specs.Steps.{placed, Places, configured, Configures, storedAs, StoresFit, Puts, Room, openedAs, Opens}
-
--- what the record's writer asks of the setup's region
-pub setup-ready : (s : List ℕ) → Ready s → (le 1 (setupIn s) 0 ≤ 16) × (192 ≤ length (setupIn s))
-setup-ready s r =
-    let e = assemblies-in s in let a = r .assemblies in let n = length-setupIn s (r .long) in
-    (omega arith, omega arith)
-
--- as many assemblies as before
-pub kept-few : (n : ℕ) (s s′ : List ℕ) → Kept n s s′ → le 1 s′ 0 ≡ le 1 s 0
-kept-few n s s′ k = le-same 1 s′ s 0 192 (omega arith) (k .setup)
+use Rattle.events.specs.Pushes.{eventTold, told, suits-told}
+use Rattle.opening.specs.Steps.{placed, Places, Configures, storedAs, Puts, Room, openedAs, Opens}
 
 -- ---- the connection
 
@@ -51,9 +35,9 @@ module _ (c : Conn) (next : ℕ) (s s₁ s₂ s₃ : List ℕ) where
   place-kept a b d =
       record { ready = d .ready; setup = d .setup ∙ b .setup ∙ a .setup; conns = d .conns ∙ b .conns ∙ ap (λ (n : ℕ). n + 1) (a .conns) }
 
-  pub place-done : le 2 s 224 < 32 → 0 < next → (i : Info) → i ≡ infoOf (setupFrom (setupIn s) []) (c .fixed)
-      → Becomes s s₁ (withNextId next) → Becomes s₁ s₂ (rowAdded c) → Becomes s₂ s₃ (eventTold (Opened i)) → Places c next s s₃
-  place-done p q i ei a b d st l h =
+  pub place-done : le 2 s 224 < 32 → 0 < next → Becomes s s₁ (withNextId next) → Becomes s₁ s₂ (rowAdded c) → Becomes s₂ s₃ (told 1 (c .fixed)) → Places c next s s₃
+  unfolding pushed eventRecord
+  place-done p q a b d st l h =
       let st₁ : State = withNextId next st in
       let w₁ : Suits st₁ l = suits-nextId st l (h .suits) next q in
       let h₁ : Holds s₁ st₁ l = record { is = a st l h; suits = w₁ } in
@@ -61,9 +45,7 @@ module _ (c : Conn) (next : ℕ) (s s₁ s₂ s₃ : List ℕ) where
       let st₂ : State = rowAdded c st₁ in
       let w₂ : Suits st₂ l = suits-appended st₁ l w₁ c (omega arith) in
       let h₂ : Holds s₂ st₂ l = record { is = b st₁ l h₁; suits = w₂ } in
-      let x : Info = infoOf (st .setup) (c .fixed) in
-      let e : i ≡ x = ei ∙ info-in s (c .fixed) ∙ ap (λ (u : Setup). infoOf u (c .fixed)) (setup-held s st l h) in
-      record { is = d st₂ l h₂ ∙ ap (λ (z : Info). store (eventTold (Opened z) st₂) l) e; suits = suits-told st₂ l (Opened x) w₂ }
+      record { is = d st₂ l h₂; suits = suits-told st₂ l (Opened (infoOf (st .setup) (c .fixed))) w₂ }
 
 -- ---- its configuration data
 

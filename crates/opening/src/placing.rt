@@ -3,7 +3,6 @@ use crate::making;
 use crate::making::Side;
 use ids::OtId;
 use rules::Conn;
-use rules::Event;
 use rules::Origin;
 use rules::Plan;
 use rules::Socket;
@@ -32,10 +31,9 @@ fn place(s: &mut [u8], c: Conn, next: u32)
     ensures { λ _. ⌜ Kept (le 2 (now (s .entry)) 224 + 1) (now (s .entry)) (now (s .exit)) × Places c next (now (s .entry)) (now (s .exit)) ⌝ }
 {
     let f = c.fixed;
-    let i = records::info_of(&s[0..192], f);
     changes::set_next_id(s, next);
     changes::add_row(s, c);
-    events::push(s, Event::Opened(i));
+    events::tell(s, 1, f);
 }
 
 // Configuration data in its assembly, and its event.
@@ -47,7 +45,7 @@ fn configure(s: &mut [u8], i: u8, config: &[u8])
     let length = config.len() as u16;
     changes::put_bytes(s, k, config);
     let instance = layout::instance_at(s, k);
-    events::push(s, Event::Configured { instance, length });
+    events::tell_assembly(s, 4, instance, length);
 }
 
 fn store(s: &mut [u8], stores: Stores, config: &[u8])

@@ -1,31 +1,28 @@
 -- Outputs and any assembly's data, as code reads them, and an output's mark as code leaves it.
-use Prim.Native.Nat.{ℕ, zero, suc, _+_, _*_, _-_, _%_, _^_, _≤_, _<_}
-use mathlib.Core.Bool.{Bool, true, false, cond}
-use mathlib.Core.List.{List, [], _∷_, _++_}
+use Prim.Native.Nat.{ℕ, _+_, _*_, _-_, _%_, _^_, _≤_, _<_}
+use mathlib.Core.Bool.{true, false}
+use mathlib.Core.List.{List, [], _∷_}
 use mathlib.Core.Option.{Option, none, some}
-use mathlib.Core.Path.{_≡_, refl, ap, sym, _∙_}
+use mathlib.Core.Path.{_≡_, ap, sym, _∙_}
 use native.Mathlib.Omega.{arith}
-use lib.ListN.{length, getD, take, drop, set, replicate, length-append, length-replicate, getD-replicate}
-use lib.Seq.{sets, take-all}
-use borrow.Author.Tests.{le-leb, lt-leb}
-use Rattle.cells.specs.Numbers.{le, put, bytesLe, le-1, sets-append}
+use lib.ListN.{length, take, drop}
+use lib.Seq.{sets}
+use Rattle.cells.specs.Numbers.{le, put, bytesLe, sets-append}
 use Rattle.cells.specs.Records.{ofBool}
-use Rattle.cells.specs.Writes.{copied-more}
 use Rattle.cells.specs.Back.{Bytes}
-use Rattle.rules.specs.Lists.{changeAt}
-use Rattle.rules.specs.State.{Shape, Content, noContent, shapeAt, contentAt, withContents}
-use Rattle.rules.specs.Answers.{Answer, Done, Wrote, Refused, NoAssembly, TooLong, NoRoom, settled}
+use Rattle.rules.specs.State.{Content, noContent, contentAt, withContents}
+use Rattle.rules.specs.Answers.{Answer, Wrote, Refused, NoAssembly, NoRoom, settled}
 use Rattle.rules.specs.Checks.{placeOf}
-use Rattle.rules.specs.Host.{filled, setInputAt, inputSet, setInputAnswer, setInputEffect, setInputCall, read, outputBytes, outputAt, outputRead, outputAnswer, outputEffect, outputCall, kindTest, assemblyAt, assemblyAnswer}
+use Rattle.rules.specs.Host.{read, outputBytes, outputAt, outputRead, outputAnswer, outputEffect, outputCall, kindTest, assemblyAt, assemblyAnswer}
 use Rattle.layout.specs.Setups.{shapeIn, setupOf}
-use Rattle.layout.specs.RowLaws.{bit-small}
-use Rattle.image.specs.Image.{view, store, tested, markOf}
-use Rattle.image.specs.Holds.{Holds, holds-tested, slotted-tested, assemblies-held, shape-held, mark-held, bytes-held}
-use Rattle.image.specs.Changes.{bytesAs, markAs, bytes-put, mark-put}
-use Rattle.image.specs.Lift.{lifted, liftedOut, liftedRead}
-use Rattle.application.specs.Places.{assemblyReadAt, outputReadAt, inputSetAt}
-use Rattle.application.specs.Ways.{fits-in, fits-not, read-wrote, read-no, read-same, out-wrote, out-no, out-same, left-done, left-no, left-same}
-use Rattle.application.specs.Assemblies.{change-set, in-contents, size-is, setup-size, data-is, run-is}
+use Rattle.image.specs.Image.{view, store, tested}
+use Rattle.image.specs.Holds.{Holds, holds-tested}
+use Rattle.image.specs.Changes.{markAs, mark-put}
+use Rattle.image.specs.Lift.{liftedOut, liftedRead}
+use Rattle.application.specs.Places.{assemblyReadAt, outputReadAt}
+use Rattle.application.specs.Ways.{fits-in, fits-not, read-wrote, read-no, read-same, out-wrote, out-no, out-same}
+use Rattle.image.specs.Searches.{change-at-place}
+use Rattle.application.specs.Assemblies.{in-contents, size-is, data-is, run-is}
 
 module _ (s : List ℕ) (t : tested s ≡ true) (b : Bytes s) (i : ℕ) (p : i < le 1 s 0) where
   abbrev h : Holds s (view s) s
@@ -69,7 +66,7 @@ module _ (s : List ℕ) (t : tested s ≡ true) (b : Bytes s) (i : ℕ) (p : i <
         let r : run ≡ ofBool (c .run) = er ∙ (run-is s t b i p) in
         let bs : d ≡ c .bytes = ed ∙ ap (λ (k : ℕ). take k (drop (35328 + i * 512) s)) en ∙ (data-is s t b i p) in
         let left : store (markAs i (c .run) false (view s)) s ≡ store (outputRead (view s) (some i)) s =
-        ap (λ (z : List Content). store (withContents z (view s)) s) (sym (change-set (view s .contents) i read)) in
+        ap (λ (z : List Content). store (withContents z (view s)) s) (sym (change-at-place read noContent (view s .contents) i)) in
         out-wrote s out t (outputReadAt i) (n + 1) s₁ o₂ (outputBytes c) (outputRead (view s) (some i))
         (read-after (Wrote (outputBytes c)) (fits-in (length out) (outputBytes c) (Wrote (outputBytes c)) (omega arith)))
         (omega arith)

@@ -1,7 +1,6 @@
 // Outputs, and any assembly's data, handed to the application.
 use application::answers::Outcome;
-use application::places;
-use application::places::Found;
+use layout::Found;
 ghost use mathlib.Core.Path.{_≡_};
 ghost use Prim.Native.Nat.{_<_};
 ghost use Rattle.cells.specs.Numbers.{le};

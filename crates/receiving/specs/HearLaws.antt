@@ -31,9 +31,10 @@ use Rattle.image.specs.Holds.{Holds, Becomes, conns-held, conn-held, table-held
 use Rattle.image.specs.Kept.{suits-row}
 use Rattle.image.specs.Changes.{heardAs}
 use Rattle.image.specs.Searches.{place-in, find-at, change-at, change-at-place}
-use Rattle.hearing.specs.declared.Found.{Found}
-use Rattle.hearing.specs.declared.Found.the-variants.{At, Nowhere}
-use Rattle.receiving.specs.Steps.{placeOf, hears, heardAt, accepted, offered, Offers, Hears, HearsFrom}
+use Rattle.layout.specs.Searched.{placeIn}
+use Rattle.layout.specs.declared.Found.{Found}
+use Rattle.layout.specs.declared.Found.the-variants.{At, Nowhere}
+use Rattle.receiving.specs.Steps.{hears, heardAt, accepted, offered, Offers, Hears, HearsFrom}
 
 -- ---- states
 
@@ -224,21 +225,21 @@ module _ (t from : ℕ) (f : Frame) (st : State) where
       }
 
 module _ (s : List ℕ) (t from : ℕ) (id : OtId) (q : ℕ) (d : List ℕ) (n : ℕ) (en : n ≡ le 2 s 224)
-    (r : Found) (er : placeOf r ≡ place (hears id from) (rows 70 decConn n (tableIn s))) where
+    (r : Found) (er : placeIn r ≡ place (hears id from) (rows 70 decConn n (tableIn s))) where
   abbrev frame : Frame
   frame = record { id = id; sequence = q; payload = d }
 
-  place-is : (st : State) (l : List ℕ) → Holds s st l → place (hears id from) (st .table) ≡ placeOf r
+  place-is : (st : State) (l : List ℕ) → Holds s st l → place (hears id from) (st .table) ≡ placeIn r
   place-is st l h = ap (place (hears id from)) (sym (ap (λ (k : ℕ). rows 70 decConn k (tableIn s)) en ∙ table-held s st l h)) ∙ sym er
 
   pub found-inside : (i : ℕ) → r ≡ At i → i < le 2 s 224
   found-inside i e =
-      let z = place-in (hears id from) noConn (rows 70 decConn n (tableIn s)) i (sym er ∙ ap placeOf e) in
+      let z = place-in (hears id from) noConn (rows 70 decConn n (tableIn s)) i (sym er ∙ ap placeIn e) in
       let k = length-rows 70 decConn n (tableIn s) in omega arith
 
   pub from-found : (i : ℕ) → r ≡ At i → (s₂ : List ℕ) → Hears i t q d s s₂ → HearsFrom t from id q d s s₂
   from-found i e s₂ b st l h =
-      b frame refl refl st l h ∙ ap (λ (z : State). store z l) (sym (there-state t from frame st i (place-is st l h ∙ ap placeOf e)))
+      b frame refl refl st l h ∙ ap (λ (z : State). store z l) (sym (there-state t from frame st i (place-is st l h ∙ ap placeIn e)))
 
   pub from-nowhere : r ≡ Nowhere → HearsFrom t from id q d s s
-  from-nowhere e st l h = h .is ∙ ap (λ (z : State). store z l) (sym (nowhere-state t from frame st (place-is st l h ∙ ap placeOf e)))
+  from-nowhere e st l h = h .is ∙ ap (λ (z : State). store z l) (sym (nowhere-state t from frame st (place-is st l h ∙ ap placeIn e)))

@@ -19,7 +19,7 @@ use Rattle.image.specs.Image.{store}
 use Rattle.image.specs.Updates.{noConn}
 use Rattle.image.specs.Holds.{Holds, Becomes}
 use Rattle.image.specs.Changes.{bytesAs}
-pub use Rattle.hearing.specs.Decisions.{placeOf, hears}
+pub use Rattle.hearing.specs.Decisions.{hears}
 
 -- what a frame does at the connection of place i
 unfoldable pub heardAt : ℕ → Frame → ℕ → State → State

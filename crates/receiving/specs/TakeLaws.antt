@@ -1,33 +1,32 @@
 -- Data at an output: what code leaves is the store of what the rule says.
 use Prim.Native.Nat.{ℕ, _+_, _*_, _-_, _/_, _%_, _≤_, _<_}
-use mathlib.Core.Bool.{Bool, true, false, cond, not, _&&_, _||_, Bool·beq}
+use mathlib.Core.Bool.{Bool, true, false, not, _&&_, _||_, Bool·beq}
 use mathlib.Core.List.{List, [], _∷_}
 use mathlib.Core.Path.{_≡_, refl, ap, sym, _∙_, subst}
 use native.Mathlib.Omega.{arith}
-use borrow.Author.Tests.{le-leb, lt-leb, le-ltb, lt-ltb, eq-eqb, ne-eqb}
-use borrow.Rule.Slice.PartMut.{midOf, putMid}
+use borrow.Author.Tests.{le-ltb, lt-ltb, eq-eqb, ne-eqb}
+use borrow.Rule.Slice.PartMut.{putMid}
 use lib.Dec.{eqb, ltb}
 use lib.ListN.{length, getD, take, drop, set, length-drop}
 use lib.Seq.{sets, set-getD, set-set, getD-set-same, length-take-le}
-use Rattle.cells.specs.Numbers.{le, le-same, lent}
-use Rattle.cells.specs.Records.{ofBool, toBool}
+use Rattle.cells.specs.Numbers.{le, lent}
+use Rattle.cells.specs.Records.{toBool}
 use Rattle.tables.specs.Slots.{sets-whole}
 use Rattle.rules.specs.Lists.{same}
-use Rattle.rules.specs.State.{Shape, Setup, Content, State, contentAt, noContent, shapeAt, withContents}
-use Rattle.rules.specs.Events.{pushed, pushedAll}
-use Rattle.rules.specs.Receiving.{Frame, runBit, dataOf, changes, deliver, announces}
-use Rattle.rules.specs.declared.Event.{Event}
+use Rattle.rules.specs.State.{Shape, Content, State, contentAt, noContent, shapeAt, withContents}
+use Rattle.rules.specs.Events.{pushedAll}
+use Rattle.rules.specs.Receiving.{Frame, runBit, dataOf, changes, deliver}
 use Rattle.rules.specs.declared.Event.the-variants.{OutputChanged}
 use Rattle.layout.specs.Setups.{shapeIn}
 use Rattle.image.specs.Image.{runIn, notifiedIn, markOf, store}
 use Rattle.image.specs.Contents.{run-of-mark, notified-of-mark}
 use Rattle.image.specs.Fits.{Suits}
-use Rattle.image.specs.Holds.{Holds, Ready, Slotted, Becomes, assemblies-held, shape-held, mark-held, bytes-held}
+use Rattle.image.specs.Holds.{Holds, Ready, Becomes, assemblies-held, shape-held, mark-held, bytes-held}
 use Rattle.image.specs.Kept.{Kept, kept-sets, suits-content}
 use Rattle.image.specs.Changes.{bytesAs, markAs, marked, bytes-become}
 use Rattle.events.specs.Pushes.{eventTold}
 use Rattle.receiving.specs.DecisionLaws.{same-eq}
-use Rattle.receiving.specs.Steps.{Replaced, Replaces, TakesIn, Offers, told, accepted, offered}
+use Rattle.receiving.specs.Steps.{Replaces, TakesIn, Offers, told, accepted, offered}
 
 -- ---- put_data
 
@@ -58,9 +57,6 @@ module _ (s : List ℕ) (r : Ready s) (i : ℕ) (p : i < le 1 s 0) (d : List ℕ
       }
 
 -- ---- take_in
-
-pub kept-few : (n : ℕ) (s s′ : List ℕ) → Kept n s s′ → le 1 s′ 0 ≡ le 1 s 0
-kept-few n s s′ k = le-same 1 s′ s 0 192 (omega arith) (k .setup)
 
 not-and : (x y : Bool) → not x || not y ≡ not (x && y)
 not-and true y = refl

@@ -1,8 +1,7 @@
 // Frames in. A frame is for the first connection with its O→T id and its sender's address; document 01's order decides what is
 // recorded before what is looked at.
-use hearing::Found;
 use ids::OtId;
-use rules::Event;
+use layout::Found;
 use rules::Heard;
 use wire_items::IoFrame;
 ghost use mathlib.Core.Path.{_≡_};
@@ -82,7 +81,7 @@ fn take_in(s: &mut [u8], i: usize, d: &[u8])
     if mark / 2 % 2 != 0 {
         return;
     }
-    events::push(s, Event::OutputChanged(instance));
+    events::tell_assembly(s, 5, instance, 0);
 }
 
 // The data behind CIP sequence and header must be of the output's size.

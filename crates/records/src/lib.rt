@@ -18,8 +18,8 @@ ghost use Rattle.records.specs.Shapes.{shapeOf, ifOwner};
 // ---- what is told of a connection
 
 // The instance at a place of the setup's list; 0 past the list.
-fn instance_of(r: &[u8], i: u8) -> u16
-    requires { ⌜ (le 1 (now r) 0 ≤ 16) × (192 ≤ length (now r)) ⌝ }
+pub fn instance_of(r: &[u8], i: u8) -> u16
+    requires { ⌜ (192 ≤ length (now r)) × (le 1 (now r) 0 ≤ 16) ⌝ }
     ensures { λ x. ⌜ x ≡ shapeOf (now (r .entry)) i .instance ⌝ }
 {
     let n = cells::u8_at(r, 0);
@@ -30,7 +30,7 @@ fn instance_of(r: &[u8], i: u8) -> u16
 }
 
 fn size_of(r: &[u8], i: u8) -> u16
-    requires { ⌜ (le 1 (now r) 0 ≤ 16) × (192 ≤ length (now r)) ⌝ }
+    requires { ⌜ (192 ≤ length (now r)) × (le 1 (now r) 0 ≤ 16) ⌝ }
     ensures { λ x. ⌜ x ≡ shapeOf (now (r .entry)) i .size ⌝ }
 {
     let n = cells::u8_at(r, 0);
@@ -52,8 +52,8 @@ fn owned_number(k: Kind, n: u16) -> u16
 }
 
 // What the host is told of a connection, from its row and the setup's region.
-pub fn info_of(r: &[u8], f: Fixed) -> Info
-    requires { ⌜ (le 1 (now r) 0 ≤ 16) × (192 ≤ length (now r)) ⌝ }
+fn info_of(r: &[u8], f: Fixed) -> Info
+    requires { ⌜ (192 ≤ length (now r)) × (le 1 (now r) 0 ≤ 16) ⌝ }
     ensures { λ x. ⌜ x ≡ infoOf (setupFrom (now (r .entry)) []) f ⌝ }
 {
     let kind = f.kind;
@@ -130,7 +130,7 @@ fn put_high(
 }
 
 // The record at the start of what is lent.
-pub fn put_info(row: &mut [u8], what: u8, i: Info)
+fn put_info(row: &mut [u8], what: u8, i: Info)
     requires { ⌜ 32 ≤ length (now row) ⌝ }
     ensures { λ _. ⌜ now (row .exit) ≡ sets (now (row .entry)) 0 (infoRecord what i) ⌝ }
 {
@@ -157,7 +157,7 @@ pub fn put_info(row: &mut [u8], what: u8, i: Info)
 
 // The record of the connection whose row says f, told as `what`.
 pub fn put_record(row: &mut [u8], what: u8, r: &[u8], f: Fixed)
-    requires { ⌜ (32 ≤ length (now row)) × (le 1 (now r) 0 ≤ 16) × (192 ≤ length (now r)) ⌝ }
+    requires { ⌜ (32 ≤ length (now row)) × (192 ≤ length (now r)) × (le 1 (now r) 0 ≤ 16) ⌝ }
     ensures { λ _. ⌜ now (row .exit) ≡ sets (now (row .entry)) 0 (infoRecord what (infoOf (setupFrom (now (r .entry)) []) f)) ⌝ }
 {
     put_info(row, what, info_of(r, f));

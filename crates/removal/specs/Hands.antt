@@ -1,8 +1,8 @@
 -- Hand-over, and the run bit lost: what each leaves, one law for each return.
-use Prim.Native.Nat.{ℕ, zero, suc, _+_, _*_, _/_, _%_, _≤_, _<_}
-use mathlib.Core.Bool.{Bool, true, false, cond, not, _&&_}
+use Prim.Native.Nat.{ℕ, zero, suc, _+_, _*_, _≤_, _<_}
+use mathlib.Core.Bool.{Bool, true, false, cond, _&&_}
 use mathlib.Core.List.{List, [], _∷_}
-use mathlib.Core.Option.{Option, none, some}
+use mathlib.Core.Option.{none}
 use mathlib.Core.Path.{_≡_, refl, ap, sym, _∙_}
 use native.Mathlib.Omega.{arith}
 use lib.ListN.{length, getD, set, length-set}
@@ -18,19 +18,18 @@ use Rattle.rules.specs.declared.Kind.{Kind}
 use Rattle.rules.specs.declared.Sent.{Sent}
 use Rattle.ids.specs.declared.ToId.{ToId}
 use Rattle.layout.specs.Places.{tableIn}
-use Rattle.layout.specs.Rows.{ofDue, decSent, decConn}
+use Rattle.layout.specs.Rows.{rowAt, ofDue, decSent, decConn}
 use Rattle.layout.specs.RowLaws.{of-to-due, in-row}
 use Rattle.image.specs.Image.{notifiedIn}
 use Rattle.image.specs.Contents.{notified-of-mark}
 use Rattle.image.specs.Updates.{noConn}
-use Rattle.image.specs.Fits.{Suits}
-use Rattle.image.specs.Holds.{Held, Ready, Becomes, assemblies-held, mark-held}
+use Rattle.image.specs.Holds.{Becomes, assemblies-held, mark-held}
 use Rattle.image.specs.Kept.{suits-row, suits-content}
 use Rattle.image.specs.Changes.{sentAs, markAs}
 use Rattle.image.specs.Searches.{change-at, change-at-place}
-use Rattle.lookup.specs.declared.Found.{Found}
-use Rattle.lookup.specs.declared.Found.the-variants.{At, Nothing}
-use Rattle.lookup.specs.RowTests.{rowAt, foundOf, place-none}
+use Rattle.layout.specs.declared.Found.{Found}
+use Rattle.layout.specs.declared.Found.the-variants.{At, Nowhere}
+use Rattle.lookup.specs.RowTests.{foundOf, place-none}
 use Rattle.removal.specs.Turns.{Turns, turn, turn-as, turn-none, found-there, found-nowhere}
 
 -- ---- hand-over: the first remaining multicast connection of the id sends on
@@ -59,7 +58,7 @@ module _ (multicast : Bool) (id : ToId) (x : Sent) (s : List ℕ) where
       handing st = λ j. withTable (cond (sym em j && sym ep j) (changeFirst (inStream id) (withSent x) (st .table)) (st .table)) st
 
       module _ (n : ℕ) (y : Found) (en : n ≡ le 2 s 224) (ey : y ≡ foundOf (place (inStream id) (rows 70 decConn n (tableIn s)))) where
-        pub hands-nowhere : y ≡ Nothing → Turns s s (handed multicast id x)
+        pub hands-nowhere : y ≡ Nowhere → Turns s s (handed multicast id x)
         hands-nowhere e =
             turn-none s (handed multicast id x)
             (λ st l o.

@@ -1,36 +1,37 @@
 -- A stream that nobody feeds any more: its listeners close, the first and then the rest.
-use Prim.Native.Nat.{ℕ, _+_, _-_, _≤_, _<_}
+use Prim.Native.Nat.{ℕ, _+_, _-_, _<_}
 use mathlib.Core.Bool.{Bool, true, false, cond, not, _&&_}
 use mathlib.Core.List.{List, [], _∷_}
 use mathlib.Core.Option.{Option, none, some}
 use mathlib.Core.Path.{_≡_, refl, ap, sym, subst, _∙_}
 use native.Mathlib.Omega.{arith}
 use lib.Dec.{eqb}
-use lib.ListN.{length, getD}
+use lib.ListN.{getD}
 use borrow.Author.Tests.{eq-eqb}
 use Rattle.cells.specs.Numbers.{le}
 use Rattle.cells.specs.Records.{ofBool}
-use Rattle.tables.specs.Tables.{rows, without}
+use Rattle.tables.specs.Tables.{rows}
 use Rattle.rules.specs.Lists.{maybe, find, place, any, keep, withoutFirst}
 use Rattle.rules_laws.specs.ListLaws.{by-cases, clash, find-passes, keep-all, all-to, none-found, without-keep-out}
-use Rattle.rules.specs.State.{Events, State, withTable, isListener}
-use Rattle.rules.specs.Events.{infoOf, infoRecord, eventRecord, appended, pushed, pushedAll}
+use Rattle.rules.specs.State.{State, withTable, isListener}
+use Rattle.rules.specs.Events.{eventRecord, appended, pushed, pushedAll}
 use Rattle.rules.specs.Removal.{inStream, feeds, closedEvents}
 use Rattle.rules.specs.declared.Conn.{Conn}
 use Rattle.rules.specs.declared.Fixed.{Fixed}
 use Rattle.rules.specs.declared.Kind.{Kind}
 use Rattle.ids.specs.declared.ToId.{ToId}
 use Rattle.layout.specs.Places.{tableIn}
-use Rattle.layout.specs.Rows.{decConn, decFixed}
+use Rattle.layout.specs.Rows.{rowAt, decConn, decFixed}
 use Rattle.image.specs.Updates.{noConn}
 use Rattle.image.specs.Holds.{Held, Ready}
 use Rattle.image.specs.Kept.{Kept}
 use Rattle.image.specs.Changes.{rowGone}
 use Rattle.image.specs.Searches.{find-at, without-at}
-use Rattle.lookup.specs.declared.Found.{Found}
-use Rattle.lookup.specs.declared.Found.the-variants.{At, Nothing}
-use Rattle.lookup.specs.RowTests.{rowAt, foundOf, place-any, place-none, place-never}
-use Rattle.removal.specs.Turns.{Turns, Fewer, fewer-none, turn-as, turn-none, told, found-in, found-there, found-nowhere, row-held}
+use Rattle.layout.specs.declared.Found.{Found}
+use Rattle.layout.specs.declared.Found.the-variants.{At, Nowhere}
+use Rattle.lookup.specs.RowTests.{foundOf, place-any, place-none, place-never}
+use Rattle.events.specs.Pushes.{told}
+use Rattle.removal.specs.Turns.{Turns, Fewer, turn-as, turn-none, found-in, found-there, found-nowhere, row-held}
 
 -- the first multicast connection of the id closed; all of them
 abbrev pub oneClosed : ToId → State → State
@@ -121,7 +122,7 @@ pub dropped-none : (s : List ℕ) → Ready s → Dropped false s s
 dropped-none s r = record { ready = r; count = omega arith }
 
 module _ (id : ToId) (s : List ℕ) (n : ℕ) (x : Found) (en : n ≡ le 2 s 224) (ex : x ≡ foundOf (place (inStream id) (rows 70 decConn n (tableIn s)))) where
-  pub closes-none : x ≡ Nothing → Closes id false s s
+  pub closes-none : x ≡ Nowhere → Closes id false s s
   closes-none e st l o =
       let q : find (inStream id) (st .table) ≡ none = place-none (inStream id) (st .table) (found-nowhere (inStream id) s n x en ex e st l o) in
       let w : st ≡ oneClosed id st = ap (maybe st (λ c. told 2 (c .fixed) (withTable (withoutFirst (inStream id) (st .table)) st))) (sym q) in
@@ -255,7 +256,7 @@ module _ (k : Kind) (multicast : Bool) (id : ToId) (s : List ℕ) where
         (λ st l o. ended-when k multicast id st false
         (ends-is (st .table) true true (sym er ∙ e) (place-any (feeds id) noConn (st .table) i (found-there (feeds id) s n x en ex i ei st l o))))
 
-    pub ends-all : x ≡ Nothing → (s′ : List ℕ) → Turns s s′ (allClosed id) → Turns s s′ (ended k multicast id)
+    pub ends-all : x ≡ Nowhere → (s′ : List ℕ) → Turns s s′ (allClosed id) → Turns s s′ (ended k multicast id)
     ends-all ei s′ d =
         turn-as s s′ (allClosed id) (ended k multicast id) d
         (λ st l o. ended-when k multicast id st true

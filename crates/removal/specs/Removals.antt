@@ -1,35 +1,36 @@
 -- A connection removed: the steps together are document 01's removal.
-use Prim.Native.Nat.{ℕ, _+_, _-_, _≤_, _<_}
+use Prim.Native.Nat.{ℕ, _-_, _<_}
 use mathlib.Core.Bool.{Bool, true, false}
-use mathlib.Core.List.{List, [], _∷_}
-use mathlib.Core.Option.{Option, none, some}
-use mathlib.Core.Path.{_≡_, refl, ap, sym, subst, _∙_}
+use mathlib.Core.List.{List}
+use mathlib.Core.Option.{some}
+use mathlib.Core.Path.{_≡_, ap, sym, subst, _∙_}
 use native.Mathlib.Omega.{arith}
-use lib.ListN.{length, getD}
+use lib.ListN.{getD}
 use Rattle.cells.specs.Numbers.{le}
-use Rattle.tables.specs.Tables.{rows, without}
-use Rattle.rules.specs.Lists.{find, place, withoutFirst}
-use Rattle.rules.specs.State.{State, withTable, withFault}
+use Rattle.tables.specs.Tables.{rows}
+use Rattle.rules.specs.Lists.{place, withoutFirst}
+use Rattle.rules.specs.State.{State, withFault}
 use Rattle.rules.specs.declared.Event.{Event}
 use Rattle.rules.specs.declared.Event.the-variants.{Closed, TimedOut}
 use Rattle.ids.specs.declared.Triad.{Triad}
-use Rattle.rules.specs.Events.{infoOf, infoRecord, eventRecord, pushed, pushedAll}
+use Rattle.rules.specs.Events.{infoOf, eventRecord, pushed, pushedAll}
 use Rattle.rules.specs.Removal.{afterRemoval, handedOver, listenersOf, runLost, closedEvents, removed, connTriad, expired, closed, expiredFirst}
 use Rattle.rules_laws.specs.RemovalLaws.{removedIf}
 use Rattle.rules.specs.declared.Conn.{Conn}
 use Rattle.rules.specs.declared.Fixed.{Fixed}
 use Rattle.rules.specs.declared.Sent.{Sent}
 use Rattle.layout.specs.Places.{tableIn}
-use Rattle.layout.specs.Rows.{decConn, decFixed, decSent}
+use Rattle.layout.specs.Rows.{rowAt, decConn, decFixed, decSent}
 use Rattle.image.specs.Updates.{noConn}
 use Rattle.image.specs.Holds.{Held}
 use Rattle.image.specs.Kept.{Kept}
 use Rattle.image.specs.Changes.{rowGone}
 use Rattle.image.specs.Searches.{find-at, without-at}
-use Rattle.lookup.specs.declared.Found.{Found}
-use Rattle.lookup.specs.declared.Found.the-variants.{At, Nothing}
-use Rattle.lookup.specs.RowTests.{rowAt, foundOf, place-none}
-use Rattle.removal.specs.Turns.{Turns, Fewer, told, turn-as, turn-none, found-there, found-nowhere, row-held}
+use Rattle.layout.specs.declared.Found.{Found}
+use Rattle.layout.specs.declared.Found.the-variants.{At, Nowhere}
+use Rattle.lookup.specs.RowTests.{foundOf, place-none}
+use Rattle.events.specs.Pushes.{told}
+use Rattle.removal.specs.Turns.{Turns, Fewer, found-there, found-nowhere, row-held}
 use Rattle.removal.specs.Hands.{handed, idled}
 use Rattle.removal.specs.Listeners.{ended}
 
@@ -109,7 +110,7 @@ abbrev pub Ends : ℕ → Bool → List ℕ → List ℕ → Type 0
 Ends t r s s′ = (st : State) (l : List ℕ) → Held s st l → Ended t r s′ st l
 
 module _ (t : ℕ) (s : List ℕ) (n : ℕ) (x : Found) (en : n ≡ le 2 s 224) (ex : x ≡ foundOf (place (expired t) (rows 70 decConn n (tableIn s)))) where
-  pub ends-none : x ≡ Nothing → Ends t false s s
+  pub ends-none : x ≡ Nowhere → Ends t false s s
   unfolding expiredFirst
   ends-none e st l o =
       let q : st ≡ expiredFirst t st = ap (removedIf true TimedOut (expired t) st) (sym (place-none (expired t) (st .table) (found-nowhere (expired t) s n x en ex e st l o))) in

@@ -1,37 +1,31 @@
 -- Steps of a removal over a held state: what code must know of the buffer after each, and what the buffer then holds.
-use Prim.Native.Nat.{ℕ, _+_, _≤_, _<_}
-use mathlib.Core.Bool.{Bool, true, false, cond, not, _&&_}
-use mathlib.Core.List.{List, [], _++_, append-nil}
-use mathlib.Core.Option.{Option, none, some}
-use mathlib.Core.Path.{_≡_, refl, ap, sym, subst, _∙_}
+use Prim.Native.Nat.{ℕ, _≤_, _<_}
+use mathlib.Core.Bool.{Bool}
+use mathlib.Core.List.{List}
+use mathlib.Core.Option.{none, some}
+use mathlib.Core.Path.{_≡_, ap, sym, subst, _∙_}
 use native.Mathlib.Omega.{arith}
-use lib.ListN.{length, getD, drop, drop-of-length-le}
-use lib.Seq.{sets, sets-eq}
+use lib.ListN.{length, getD}
 use Rattle.cells.specs.Numbers.{le}
 use Rattle.tables.specs.Tables.{rows, length-rows}
 use Rattle.rules.specs.Lists.{place}
-use Rattle.rules.specs.State.{Setup, State}
+use Rattle.rules.specs.State.{State}
 use Rattle.rules.specs.Events.{infoOf, infoRecord}
 use Rattle.rules.specs.declared.Conn.{Conn}
 use Rattle.rules.specs.declared.Fixed.{Fixed}
-use Rattle.rules.specs.declared.Info.{Info}
-use Rattle.layout.specs.Places.{setupIn, tableIn}
-use Rattle.layout.specs.Setups.{setupFrom}
-use Rattle.layout.specs.Rows.{decConn}
-use Rattle.image.specs.Image.{store}
+use Rattle.layout.specs.Places.{tableIn}
+use Rattle.layout.specs.Rows.{rowAt, decConn}
 use Rattle.image.specs.Fits.{Suits}
-use Rattle.image.specs.StoreLaws.{length-setupIn}
-use Rattle.image.specs.TestLaws.{assemblies-in}
 use Rattle.image.specs.Updates.{noConn}
-use Rattle.image.specs.Holds.{Holds, Held, Ready, Becomes, BecomesHeld, conns-held, setup-held, table-held, conn-held}
+use Rattle.image.specs.Holds.{Held, Ready, Becomes, BecomesHeld, conns-held, table-held, conn-held}
 use Rattle.image.specs.Kept.{Kept, length-without, suits-removed}
-use Rattle.image.specs.Changes.{rowGone, eventPushed, suits-pushed}
+use Rattle.image.specs.Changes.{rowGone, suits-pushed}
 use Rattle.image.specs.Searches.{place-in}
 use Rattle.records.specs.Fields.{length-info}
-use Rattle.records.specs.Shapes.{info-in}
-use Rattle.lookup.specs.declared.Found.{Found}
-use Rattle.lookup.specs.declared.Found.the-variants.{At, Nothing}
-use Rattle.lookup.specs.RowTests.{rowAt, foundOf, found-at, found-none}
+use Rattle.events.specs.Pushes.{told}
+use Rattle.layout.specs.declared.Found.{Found}
+use Rattle.layout.specs.declared.Found.the-variants.{At, Nowhere}
+use Rattle.lookup.specs.RowTests.{foundOf, found-at, found-none}
 
 -- s′ holds what f makes of the state that s holds
 abbrev pub Turns : List ℕ → List ℕ → (State → State) → Type 0
@@ -67,9 +61,6 @@ turn-as s s′ f g d e st l o = subst (λ (z : State). Held s′ z l) (e st l o)
 pub turn-none : (s : List ℕ) (g : State → State) → ((st : State) (l : List ℕ) → Held s st l → st ≡ g st) → Turns s s g
 turn-none s g e st l o = subst (λ (z : State). Held s z l) (e st l o) o
 
-pub turn-both : (s s₁ s₂ : List ℕ) (f g : State → State) → Turns s s₁ f → Turns s₁ s₂ g → Turns s s₂ (λ st. g (f st))
-turn-both s s₁ s₂ f g a b st l o = b (f st) l (a st l o)
-
 -- ---- a row gone
 
 pub turn-gone : (s s′ : List ℕ) (i : ℕ) → BecomesHeld s s′ (rowGone i) → Turns s s′ (rowGone i)
@@ -81,30 +72,9 @@ turn-gone s s′ i b st l o =
 
 -- ---- an event told
 
-abbrev pub told : ℕ → Fixed → State → State
-told what f st = eventPushed (infoRecord what (infoOf (st .setup) f)) st
-
-pub sets-whole : (l bs : List ℕ) → length l ≡ length bs → sets l 0 bs ≡ bs
-sets-whole l bs e =
-    sets-eq bs l 0 (omega arith)
-    ∙ ap (λ (z : List ℕ). bs ++ z) (drop-of-length-le l {i = 0 + length bs} (omega arith))
-    ∙ append-nil bs
-
--- what the record's writer asks of the setup's region
-pub setup-ready : (s : List ℕ) → Ready s → (le 1 (setupIn s) 0 ≤ 16) × (192 ≤ length (setupIn s))
-setup-ready s r =
-    let e = assemblies-in s in let a = r .assemblies in let n = length-setupIn s (r .long) in
-    (omega arith, omega arith)
-
-pub turn-told : (s s′ e : List ℕ) (what : ℕ) (f : Fixed) (i : Info) → i ≡ infoOf (setupFrom (setupIn s) []) f → e ≡ infoRecord what i
-    → Becomes s s′ (eventPushed e) → Turns s s′ (told what f)
-turn-told s s′ e what f i ei ee b =
-    turn s s′ (told what f) become (λ st l w. suits-pushed st l w (infoRecord what (infoOf (st .setup) f)) (length-info what (infoOf (st .setup) f))) (λ st. omega arith)
-  where
-    become : Becomes s s′ (told what f)
-    become st l h =
-        b st l h
-        ∙ ap (λ (z : List ℕ). store (eventPushed z st) l) (ee ∙ ap (infoRecord what) (ei ∙ info-in s f ∙ ap (λ (u : Setup). infoOf u f) (setup-held s st l h)))
+pub turn-told : (s s′ : List ℕ) (what : ℕ) (f : Fixed) → Becomes s s′ (told what f) → Turns s s′ (told what f)
+turn-told s s′ what f b =
+    turn s s′ (told what f) b (λ st l w. suits-pushed st l w (infoRecord what (infoOf (st .setup) f)) (length-info what (infoOf (st .setup) f))) (λ st. omega arith)
 
 -- ---- what a search along a held state's rows found
 
@@ -121,7 +91,7 @@ module _ (p : Conn → Bool) (s : List ℕ) (n : ℕ) (x : Found) (en : n ≡ le
   pub found-there : (i : ℕ) → x ≡ At i → (st : State) (l : List ℕ) → Held s st l → place p (st .table) ≡ some i
   found-there i e st l o = found-at (place p (st .table)) i (held-place st l o ∙ e)
 
-  pub found-nowhere : x ≡ Nothing → (st : State) (l : List ℕ) → Held s st l → place p (st .table) ≡ none
+  pub found-nowhere : x ≡ Nowhere → (st : State) (l : List ℕ) → Held s st l → place p (st .table) ≡ none
   found-nowhere e st l o = found-none (place p (st .table)) (held-place st l o ∙ e)
 
 -- a row that is read is the connection's

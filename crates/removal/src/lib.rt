@@ -1,7 +1,7 @@
 // Removal of a connection from a lent state in place: hand-over of its stream, the listeners of a stream that ends, the output's run bit,
 // and the event.
 use ids::ToId;
-use lookup::Found;
+use layout::Found;
 use rules::Due;
 use rules::Fixed;
 use rules::Kind;
@@ -9,26 +9,14 @@ use rules::Sent;
 ghost use mathlib.Core.Path.{_≡_};
 ghost use Prim.Native.Nat.{_<_};
 ghost use Rattle.cells.specs.Numbers.{le};
-ghost use Rattle.rules.specs.State.{isOwner, produces};
+ghost use Rattle.rules.specs.State.{produces};
 ghost use Rattle.layout.specs.Rows.{ofDue};
 ghost use Rattle.image.specs.Holds.{Ready};
 ghost use Rattle.image.specs.Kept.{Kept};
-ghost use Rattle.removal.specs.Turns.{Turns, Fewer, told};
+ghost use Rattle.removal.specs.Turns.{Turns, Fewer};
 ghost use Rattle.removal.specs.Hands.{handed, idled};
 ghost use Rattle.removal.specs.Listeners.{Dropped, Closes, allClosed, feeder, ended};
 ghost use Rattle.removal.specs.Removals.{without-it, goneAt};
-
-// ---- what the host is told
-
-fn tell(s: &mut [u8], what: u8, f: Fixed)
-    requires { ⌜ Ready (now s) ⌝ }
-    ensures { λ _. ⌜ Kept (le 2 (now (s .entry)) 224) (now (s .entry)) (now (s .exit)) × Turns (now (s .entry)) (now (s .exit)) (told what f) ⌝ }
-{
-    let i = records::info_of(&s[0..192], f);
-    let mut e: [u8; 32] = [0; 32];
-    records::put_info(&mut e, what, i);
-    changes::push_event(s, &e);
-}
 
 // ---- hand-over
 
@@ -55,7 +43,7 @@ fn hand_over(s: &mut [u8], multicast: bool, id: ToId, x: Sent)
     }
     let n = cells::u16_at(s, 224) as usize;
     match lookup::find_stream(&s[256..2560], n, id) {
-        Found::Nothing => {}
+        Found::Nowhere => {}
         Found::At(j) => {
             changes::put_sent(s, j, x);
         }
@@ -71,11 +59,11 @@ fn close_first(s: &mut [u8], id: ToId) -> bool
 {
     let n = cells::u16_at(s, 224) as usize;
     match lookup::find_stream(&s[256..2560], n, id) {
-        Found::Nothing => false,
+        Found::Nowhere => false,
         Found::At(j) => {
             let f = layout::fixed_at(&s[256..2560], j);
             changes::remove_row(s, j);
-            tell(s, 2, f);
+            events::tell(s, 2, f);
             true
         }
     }
@@ -114,7 +102,7 @@ fn end_stream(s: &mut [u8], k: Kind, multicast: bool, id: ToId)
     }
     let n = cells::u16_at(s, 224) as usize;
     match lookup::find_feeder(&s[256..2560], n, id) {
-        Found::Nothing => {
+        Found::Nowhere => {
             close_stream(s, id);
         }
         Found::At(_) => {}
@@ -123,22 +111,12 @@ fn end_stream(s: &mut [u8], k: Kind, multicast: bool, id: ToId)
 
 // ---- the output of an owner that went
 
-fn is_owner(k: Kind) -> bool
-    ensures { λ r. ⌜ r ≡ isOwner k ⌝ }
-{
-    match k {
-        Kind::Owner => true,
-        Kind::InputOnly => false,
-        Kind::ListenOnly => false,
-    }
-}
-
 // It loses run; its bytes stay.
 fn lose_run(s: &mut [u8], k: Kind, output: u8)
     requires { ⌜ Ready (now s) ⌝ }
     ensures { λ _. ⌜ Kept (le 2 (now (s .entry)) 224) (now (s .entry)) (now (s .exit)) × Turns (now (s .entry)) (now (s .exit)) (idled k output) ⌝ }
 {
-    if !is_owner(k) {
+    if !layout::is_owner(k) {
         return;
     }
     let n = cells::u8_at(s, 0);
@@ -162,7 +140,7 @@ fn finish(s: &mut [u8], what: u8, f: Fixed, x: Sent)
     hand_over(s, f.multicast, id, x);
     end_stream(s, k, f.multicast, id);
     lose_run(s, k, f.output);
-    tell(s, what, f);
+    events::tell(s, what, f);
 }
 
 // The connection at a place removed, and told as 2 (closed) or 3 (timed out).

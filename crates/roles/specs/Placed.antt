@@ -11,13 +11,13 @@ use Rattle.tables.specs.Tables.{length-rows}
 use Rattle.tables.specs.Ring.{by-cases}
 use Rattle.wire_paths.specs.declared.ConnectionPath.{ConnectionPath}
 use Rattle.rules.specs.declared.AssemblyKind.{AssemblyKind}
-use Rattle.rules.specs.State.{Setup, isInput, isOutput, isConfig, isOwner}
+use Rattle.rules.specs.State.{Setup, noShape, isInput, isOutput, isConfig, isOwner}
 use Rattle.rules.specs.Lists.{isSome}
 use Rattle.rules_laws.specs.ListLaws.{clash}
 use Rattle.rules_laws.specs.CheckLaws.{must-none, then-none}
 use Rattle.rules.specs.Checks as checks
 use Rattle.layout.specs.Setups.{decShape, setupFrom}
-use Rattle.checking.specs.PlaceLaws.{place-in}
+use Rattle.image.specs.Searches.{place-in}
 use Rattle.roles.specs.declared.Roles.{Roles}
 use Rattle.roles.specs.Roles.{placeIn, rolesIn}
 
@@ -27,7 +27,7 @@ some-of (some i) e = refl
 
 place-within : (is : AssemblyKind → Bool) (u : Setup) (n i : ℕ) → checks.placeOf is u n ≡ some i → i < length (u .assemblies)
 unfolding checks.placeOf
-place-within is u n i e = place-in (checks.isAt is n) (u .assemblies) i e
+place-within is u n i e = place-in (checks.isAt is n) noShape (u .assemblies) i e
 
 found-within : (is : AssemblyKind → Bool) (u : Setup) (n : ℕ) → isSome (checks.placeOf is u n) ≡ true → checks.placeOr0 (checks.placeOf is u n) < length (u .assemblies)
 found-within is u n e = place-within is u n (checks.placeOr0 (checks.placeOf is u n)) (some-of (checks.placeOf is u n) e)

@@ -17,15 +17,15 @@ use Rattle.rules.specs.declared.Stop.{Stop}
 use Rattle.rules.specs.declared.Stop.the-variants.{ClassNotFour, NumberCount, NoOutputPoint, NoInputPoint}
 use Rattle.rules.specs.declared.Stores.{Stores}
 use Rattle.rules.specs.declared.Stores.the-variants.{Nothing, Into}
-use Rattle.rules.specs.State.{Shape, Setup, isInput, isOutput, isOwner}
+use Rattle.rules.specs.State.{Shape, Setup, noShape, isInput, isOutput, isOwner}
 use Rattle.rules.specs.Lists.{place, isSome}
 use Rattle.rules.specs.Host.{kindTest}
 use Rattle.rules.specs.Checks as checks
 use Rattle.layout.specs.Setups.{decShape, setupFrom}
-use Rattle.checking.specs.declared.places.Found.{Found}
-use Rattle.checking.specs.declared.places.Found.the-variants.{At, Nowhere}
-use Rattle.checking.specs.Places as places
-use Rattle.checking.specs.PlaceLaws.{place-in}
+use Rattle.layout.specs.declared.Found.{Found}
+use Rattle.layout.specs.declared.Found.the-variants.{At, Nowhere}
+use Rattle.layout.specs.Searched as ends
+use Rattle.image.specs.Searches.{place-in}
 use Rattle.checking.specs.SaysLaws.{must-yes, must-no, then-on, then-no}
 use Rattle.roles.specs.declared.Roles.{Roles}
 use Rattle.roles.specs.declared.Points.{Points}
@@ -80,9 +80,9 @@ module _ (r : List ℕ) (kind point : ℕ) where
   abbrev searched : Option ℕ
   searched = place (checks.isAt (kindTest kind) point) shapes
 
-  module _ (f : Found) (e : places.placeIn f ≡ searched) where
+  module _ (f : Found) (e : ends.placeIn f ≡ searched) where
     found : (i : ℕ) → f ≡ At i → some i ≡ searched
-    found i h = sym (ap places.placeIn h) ∙ e
+    found i h = sym (ap ends.placeIn h) ∙ e
 
     pub place-found : (i : ℕ) → f ≡ At i → some i ≡ checks.placeOf (kindTest kind) (setupFrom r []) point
     unfolding checks.placeOf
@@ -90,11 +90,11 @@ module _ (r : List ℕ) (kind point : ℕ) where
 
     pub place-nowhere : f ≡ Nowhere → none ≡ checks.placeOf (kindTest kind) (setupFrom r []) point
     unfolding checks.placeOf
-    place-nowhere h = sym (ap places.placeIn h) ∙ e
+    place-nowhere h = sym (ap ends.placeIn h) ∙ e
 
     pub place-small : (i : ℕ) → f ≡ At i → i < le 1 r 0
     place-small i h =
-        let a = place-in (checks.isAt (kindTest kind) point) shapes i (sym (found i h)) in
+        let a = place-in (checks.isAt (kindTest kind) point) noShape shapes i (sym (found i h)) in
         let n = length-rows 5 decShape (le 1 r 0) (drop 110 r) in omega arith
 
 -- ---- the output: for an owner that of its point

@@ -2,7 +2,7 @@
 // places in the setup's list. The points are looked up once; sizes.rt has the checks that need what they came to.
 pub mod sizes;
 
-use checking::places::Found;
+use layout::Found;
 use rules::Kind;
 use rules::Stop;
 use rules::Stores;
@@ -90,7 +90,7 @@ fn place(r: &[u8], kind: u8, point: u32) -> Stores
     requires { ⌜ (192 ≤ length (now r)) × (le 1 (now r) 0 ≤ 16) ⌝ }
     ensures { λ x. ⌜ placeIn x ≡ placeOf (kindTest kind) (setupFrom (now (r .entry)) []) point ⌝ }
 {
-    match checking::places::find(r, kind, point) {
+    match places::find(r, kind, point) {
         Found::At(i) => Stores::Into(i as u8),
         Found::Nowhere => Stores::Nothing,
     }

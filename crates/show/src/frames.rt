@@ -18,7 +18,7 @@ fn say_items(frame: &[u8], first: Cursor) {
     let mut turns: usize = 65536;
     while 0 < turns {
         let at = c.at;
-        match wire_items::advance(frame, c) {
+        match wire_reader::read_at(frame, c) {
             Step::Item {
                 kind,
                 start: _,

@@ -1,11 +1,10 @@
 -- The fresh state, as code writes it: zeros, then the block, the EDS mark, the next id and the EDS.
-use Prim.Native.Nat.{ℕ, zero, suc, _+_, _-_, _≤_, _<_}
-use mathlib.Core.List.{List, [], _∷_, _++_, append-nil, append-assoc}
+use Prim.Native.Nat.{ℕ, zero, suc, _+_, _-_, _≤_}
+use mathlib.Core.List.{List, [], _∷_, _++_, append-nil}
 use mathlib.Core.Path.{_≡_, refl, ap, ap₂, sym, _∙_}
 use native.Mathlib.Omega.{arith}
-use native.Mathlib.Numerals.{add-one}
-use lib.ListN.{length, getD, drop, set, replicate, drop-of-length-le}
-use lib.Seq.{sets, sets-eq, length-sets, drop-cons, set-at}
+use lib.ListN.{length, set, replicate, length-replicate}
+use lib.Seq.{sets, sets-eq, length-sets}
 use Rattle.cells.specs.Numbers.{le, put, bytesLe, length-bytesLe}
 use Rattle.cells.specs.Records.{encFields}
 use Rattle.tables.specs.Slots.{sets-whole}
@@ -89,21 +88,7 @@ module _ (block eds : List ℕ) (seed mark : ℕ) (long : length block ≡ 192) 
       ∙ region-sets 6 0 eds z₃ (omega arith) (omega arith)
       ∙ (λ j. joined (sets block 4 (bytesLe 4 (em j)) ∷ head-begun seed j ∷ zeros 16 ∷ zeros 2304 ∷ zeros 32768 ∷ zeros 8192 ∷ eds-begun eds (omega arith) j ∷ []))
 
--- ---- one more byte made zero, and all of them
-
-pub cleared-more : (s₀ s : List ℕ) (k : ℕ) → k < length s₀ → s ≡ zeros k ++ drop k s₀ → set s k 0 ≡ zeros (k + 1) ++ drop (k + 1) s₀
+-- every byte made zero
+pub all-zero : (s x : List ℕ) → x ≡ sets s 0 (replicate (length s) 0) → x ≡ zeros (length s)
 unfolding zeros
-cleared-more s₀ s k h e =
-    ap (λ (x : List ℕ). set x k 0) (e ∙ ap (λ (x : List ℕ). zeros k ++ x) (drop-cons s₀ k 0 h))
-    ∙ set-at (zeros k) (getD s₀ k 0) (drop (suc k) s₀) 0 k (length-zeros k)
-    ∙ ap (λ (x : List ℕ). zeros k ++ x) (ap (λ (n : ℕ). 0 ∷ drop n s₀) (sym (add-one k)))
-    ∙ sym (append-assoc (zeros k) (zeros 1) (drop (k + 1) s₀))
-    ∙ ap (λ (x : List ℕ). x ++ drop (k + 1) s₀) (sym (zeros-add k 1))
-
-pub cleared-all : (s₀ s : List ℕ) (k : ℕ) → length s₀ ≤ k → k ≤ length s₀ → s ≡ zeros k ++ drop k s₀ → s ≡ zeros (length s₀)
-cleared-all s₀ s k h g e =
-    e ∙ ap (λ (x : List ℕ). zeros k ++ x) (drop-of-length-le s₀ {i = k} h) ∙ append-nil (zeros k) ∙ ap zeros (let q : k ≡ length s₀ = omega arith in q)
-
-pub cleared-none : (s₀ : List ℕ) → s₀ ≡ zeros 0 ++ drop 0 s₀
-unfolding zeros
-cleared-none s₀ = refl
+all-zero s x e = e ∙ sets-whole s (replicate (length s) 0) (sym (length-replicate {A = ℕ} (length s) 0))

@@ -2,10 +2,6 @@
 use crate::shapes::once_each;
 use crate::shapes::shapes_given;
 ghost use mathlib.Core.Path.{_≡_};
-ghost use Prim.Native.Nat.{_≤_};
-ghost use lib.ListN.{length};
-ghost use Rattle.cells.specs.Numbers.{le};
-ghost use Rattle.layout.specs.Setups.{goodSetup};
 ghost use Rattle.starting.specs.Block.{accepted};
 ghost use Rattle.starting.specs.Accept.{edsFits};
 
@@ -17,26 +13,6 @@ fn eds_fits(flag: u32, n: usize) -> bool
         return n == 0;
     }
     n <= 65535
-}
-
-// At most 16 assemblies, a transfer limit of at least 1, names of at most 32 bytes.
-fn numbers_fit(block: &[u8]) -> bool
-    requires { ⌜ (length (now block) ≡ 192) × (le 4 (now block) 4 ≤ 1) ⌝ }
-    ensures { λ x. ⌜ x ≡ goodSetup (now (block .entry)) ⌝ }
-{
-    if cells::u8_at(block, 0) > 16 {
-        return false;
-    }
-    if cells::u8_at(block, 1) < 1 {
-        return false;
-    }
-    if cells::u8_at(block, 2) > 32 {
-        return false;
-    }
-    if cells::u8_at(block, 3) > 32 {
-        return false;
-    }
-    true
 }
 
 pub fn accept(block: &[u8], eds: &[u8]) -> bool
@@ -52,7 +28,7 @@ pub fn accept(block: &[u8], eds: &[u8]) -> bool
     if !eds_fits(flag, eds.len()) {
         return false;
     }
-    if !numbers_fit(block) {
+    if !image::setup_good(block) {
         return false;
     }
     let n = cells::u8_at(block, 0) as usize;

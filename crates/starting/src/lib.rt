@@ -8,17 +8,7 @@ ghost use Prim.Native.Nat.{ℕ, _+_, _≤_};
 ghost use lib.Dec.{eqb};
 ghost use lib.ListN.{length};
 ghost use Rattle.rules.specs.Setup.{firstId};
-ghost use Rattle.starting.specs.Block.{zeros, started};
-
-fn clear(s: &mut [u8])
-    ensures { λ _. ⌜ now (s .exit) ≡ zeros (length (now (s .entry))) ⌝ }
-{
-    let mut k = 0;
-    while k < s.len() {
-        s[k] = 0;
-        k += 1;
-    }
-}
+ghost use Rattle.starting.specs.Block.{started};
 
 // The EDS mark: 0 for no EDS, else its length and one.
 fn eds_mark(flag: u32, n: usize) -> u32
@@ -48,7 +38,8 @@ pub fn begin(s: &mut [u8], block: &[u8], eds: &[u8], seed: u32)
 {
     let mark = eds_mark(cells::u32_at(block, 4), eds.len());
     let id = first_id(seed);
-    clear(s);
+    let n = s.len();
+    cells::zero(s, 0, n);
     cells::copy_in(s, 0, block);
     cells::put_u32(s, 4, mark);
     cells::put_u32(s, 216, id);

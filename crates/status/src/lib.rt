@@ -1,29 +1,17 @@
 // The identity status: whether an exclusive owner is in the table, and the extended device status.
-use rules::Kind;
 ghost use mathlib.Core.Path.{_≡_};
 ghost use Prim.Native.Nat.{ℕ, _≤_, _<_};
 ghost use lib.ListN.{length};
 ghost use Rattle.cells.specs.Numbers.{le};
 ghost use Rattle.tables.specs.Tables.{rows};
 ghost use Rattle.rules.specs.Lists.{any};
-ghost use Rattle.rules.specs.State.{isOwner, contentAt};
+ghost use Rattle.rules.specs.State.{contentAt};
 ghost use Rattle.rules.specs.Objects.{owned, running, extendedStatus, identityStatus};
-ghost use Rattle.layout.specs.Rows.{decConn};
+ghost use Rattle.layout.specs.Rows.{rowAt, decConn};
 ghost use Rattle.layout.specs.Places.{tableIn};
 ghost use Rattle.image.specs.Image.{view};
-ghost use Rattle.streams.specs.TableLaws.{rowAt};
 ghost use Rattle.application.specs.Outcomes.{Passed};
 ghost use Rattle.status.specs.Status.{ownerIn, runsIn};
-
-fn is_owner(k: Kind) -> bool
-    ensures { λ x. ⌜ x ≡ isOwner k ⌝ }
-{
-    match k {
-        Kind::Owner => true,
-        Kind::InputOnly => false,
-        Kind::ListenOnly => false,
-    }
-}
 
 fn owner_at(r: &[u8], i: usize) -> bool
     requires { ⌜ (i < 32) × (2304 ≤ length (now r)) ⌝ }
@@ -31,7 +19,7 @@ fn owner_at(r: &[u8], i: usize) -> bool
 {
     let f = layout::fixed_at(r, i);
     let k = f.kind;
-    is_owner(k)
+    layout::is_owner(k)
 }
 
 fn any_owner(r: &[u8], n: usize) -> bool
@@ -74,7 +62,7 @@ fn running_at(s: &[u8], i: usize) -> bool
 {
     let f = layout::fixed_at(&s[256..2560], i);
     let k = f.kind;
-    if !is_owner(k) {
+    if !layout::is_owner(k) {
         return false;
     }
     runs(s, f.output as usize)

@@ -18,10 +18,9 @@ use Rattle.rules.specs.declared.Stream.the-variants.{Own}
 use Rattle.rules.specs.Lists.{find}
 use Rattle.rules.specs.State.{isListener}
 use Rattle.rules.specs.Checks.{Roles, must, asksMulticast, carries, streamFound, streamOf, joins, streamCheck}
-use Rattle.layout.specs.Rows.{toKind, decFixed}
+use Rattle.layout.specs.Rows.{rowAt, toKind, decFixed}
 use Rattle.layout.specs.RowLaws.{in-row}
 use Rattle.checking.specs.SaysLaws.{must-yes, must-no}
-use Rattle.streams.specs.TableLaws.{rowAt}
 use Rattle.streams.specs.Owning.{rolesWith}
 
 -- a row carries an input for an open that listens only, or for one of an RPI

@@ -1,26 +1,22 @@
 -- Check 11, one law for each way through; and the part of the roles that the checks of the table read.
-use Prim.Native.Nat.{ℕ, zero, suc, _+_, _*_, _/_, _%_, _≤_, _<_}
+use Prim.Native.Nat.{ℕ, zero, suc, _+_, _*_, _/_, _%_}
 use mathlib.Core.Bool.{Bool, true, false, not, _&&_}
-use mathlib.Core.List.{List, []}
+use mathlib.Core.List.{List}
 use mathlib.Core.Option.{none, some}
 use mathlib.Core.Path.{_≡_, refl, ap, sym, _∙_}
 use native.Mathlib.Omega.{arith}
 use lib.Dec.{eqb}
-use lib.ListN.{drop, List·getD-eq-default}
 use borrow.Author.Tests.{eq-eqb, ne-eqb}
 use Rattle.cells.specs.Numbers.{le}
-use Rattle.tables.specs.Tables.{rows, length-rows, row-at}
 use Rattle.rules.specs.declared.Fixed.{Fixed}
 use Rattle.rules.specs.declared.Kind.{Kind}
 use Rattle.rules.specs.declared.Stop.the-variants.{Owned}
 use Rattle.rules.specs.Lists.{any}
-use Rattle.rules.specs.State.{Setup, noShape, shapeAt, isOwner}
+use Rattle.rules.specs.State.{Setup, shapeAt, isOwner}
 use Rattle.rules.specs.Checks.{Roles, must, owns, ownerCheck}
-use Rattle.layout.specs.Rows.{toKind, decFixed}
+use Rattle.layout.specs.Rows.{rowAt, toKind, decFixed}
 use Rattle.layout.specs.RowLaws.{in-row}
-use Rattle.layout.specs.Setups.{decShape, shapeIn, setupFrom}
 use Rattle.checking.specs.SaysLaws.{must-yes, must-no}
-use Rattle.streams.specs.TableLaws.{rowAt}
 
 -- the roles, as far as the table's checks read them
 abbrev pub rolesWith : Kind → ℕ → ℕ → Roles
@@ -47,16 +43,6 @@ module _ (r : List ℕ) (i output flags found : ℕ) (ef : flags ≡ le 1 r (i *
 
   pub owns-same : flags / 4 % 3 ≡ 0 → eqb found output ≡ owns output (decFixed (rowAt r i))
   owns-same h = sym (owns-is ∙ ap (λ (b : Bool). b && eqb found output) (eq-eqb (flags / 4 % 3) 0 h))
-
--- ---- the instance at a place of the setup's list
-
-module _ (r : List ℕ) (i n : ℕ) (en : n ≡ le 1 r 0) where
-  pub instance-within : i < n → shapeIn r i .instance ≡ shapeAt (setupFrom r []) i .instance
-  instance-within p = sym (ap (λ a. a .instance) (row-at 5 decShape (le 1 r 0) (drop 110 r) i noShape (omega arith)))
-
-  pub instance-past : n ≤ i → 0 ≡ shapeAt (setupFrom r []) i .instance
-  instance-past p =
-      sym (ap (λ a. a .instance) (List·getD-eq-default (rows 5 decShape (le 1 r 0) (drop 110 r)) noShape {n = i} (let e = length-rows 5 decShape (le 1 r 0) (drop 110 r) in omega arith)))
 
 -- ---- check 11
 

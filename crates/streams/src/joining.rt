@@ -12,9 +12,8 @@ ghost use Rattle.tables.specs.Tables.{rows};
 ghost use Rattle.rules.specs.Lists.{find};
 ghost use Rattle.rules.specs.State.{isListener};
 ghost use Rattle.rules.specs.Checks.{streamFound, streamOf, joins};
-ghost use Rattle.layout.specs.Rows.{decFixed};
+ghost use Rattle.layout.specs.Rows.{rowAt, decFixed};
 ghost use Rattle.checking.specs.Says.{stopIn};
-ghost use Rattle.streams.specs.TableLaws.{rowAt};
 ghost use Rattle.streams.specs.Owning.{rolesWith};
 ghost use Rattle.streams.specs.Joining.{carriesFor, streamStop};
 

@@ -9,23 +9,11 @@ ghost use lib.ListN.{length};
 ghost use Rattle.cells.specs.Numbers.{le};
 ghost use Rattle.tables.specs.Tables.{rows};
 ghost use Rattle.rules.specs.Lists.{any};
-ghost use Rattle.rules.specs.State.{isOwner, shapeAt};
 ghost use Rattle.rules.specs.Checks.{owns, ownerCheck};
-ghost use Rattle.layout.specs.Rows.{decFixed};
+ghost use Rattle.layout.specs.Rows.{rowAt, decFixed};
 ghost use Rattle.layout.specs.Setups.{setupFrom};
 ghost use Rattle.checking.specs.Says.{stopIn};
-ghost use Rattle.streams.specs.TableLaws.{rowAt};
 ghost use Rattle.streams.specs.Owning.{rolesWith};
-
-fn is_owner(k: Kind) -> bool
-    ensures { λ x. ⌜ x ≡ isOwner k ⌝ }
-{
-    match k {
-        Kind::Owner => true,
-        Kind::InputOnly => false,
-        Kind::ListenOnly => false,
-    }
-}
 
 // The kind is `flags / 4 % 3`: 0 for an owner.
 fn owns_at(t: &[u8], i: usize, output: u8) -> bool
@@ -54,28 +42,16 @@ fn owned(t: &[u8], n: usize, output: u8) -> bool
     false
 }
 
-// The instance at a place of the setup's list; 0 past the list.
-fn instance_of(r: &[u8], i: u8) -> u16
-    requires { ⌜ (le 1 (now r) 0 ≤ 16) × (192 ≤ length (now r)) ⌝ }
-    ensures { λ x. ⌜ x ≡ shapeAt (setupFrom (now (r .entry)) []) i .instance ⌝ }
-{
-    let n = cells::u8_at(r, 0);
-    if i < n {
-        return layout::instance_at(r, i as usize);
-    }
-    0
-}
-
 // Check 11, from the setup's region and the table's.
 pub fn owner(r: &[u8], t: &[u8], n: usize, kind: Kind, output: u8) -> Check
-    requires { ⌜ (le 1 (now r) 0 ≤ 16) × (192 ≤ length (now r)) × (n ≤ 32) × (2304 ≤ length (now t)) ⌝ }
+    requires { ⌜ (192 ≤ length (now r)) × (le 1 (now r) 0 ≤ 16) × (n ≤ 32) × (2304 ≤ length (now t)) ⌝ }
     ensures { λ x. ⌜ stopIn x ≡ ownerCheck (setupFrom (now (r .entry)) []) (rolesWith kind 0 output) (rows 70 decFixed n (now (t .entry))) ⌝ }
 {
-    if !is_owner(kind) {
+    if !layout::is_owner(kind) {
         return Check::Holds;
     }
     if !owned(t, n, output) {
         return Check::Holds;
     }
-    Check::Stops(Stop::Owned(instance_of(r, output)))
+    Check::Stops(Stop::Owned(records::instance_of(r, output)))
 }

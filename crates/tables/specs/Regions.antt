@@ -5,7 +5,7 @@ use mathlib.Core.List.{List, [], _∷_, _++_, append-assoc}
 use mathlib.Core.Path.{_≡_, refl, ap, ap₂, sym, _∙_}
 use native.Mathlib.Omega.{arith}
 use lib.ListN.{length, take, drop, getD, set, length-append, length-drop, take-append-drop}
-use lib.Seq.{drop-at, take-at, take-append-add, drop-drop, length-take-le}
+use lib.Seq.{drop-at, take-at, take-append-add, drop-drop}
 use borrow.Rule.Slice.PartMut.{midOf, putMid}
 use Rattle.cells.specs.Records.{sum}
 
@@ -73,11 +73,6 @@ joined-regions [] [] e = refl
 joined-regions [] (x ∷ l) e = absurd (omega arith)
 joined-regions (w ∷ ws) l e =
     ap (λ (z : List ℕ). take w l ++ z) (joined-regions ws (drop w l) (length-drop w l ∙ omega arith)) ∙ take-append-drop w l
-
-pub sized-regions : (ws l : List ℕ) → length l ≡ sum ws → Sized ws (regions ws l)
-unfolding regions sum
-sized-regions [] l e = none
-sized-regions (w ∷ ws) l e = one (length-take-le w l (omega arith)) (sized-regions ws (drop w l) (length-drop w l ∙ omega arith))
 
 -- the same region, from the buffer and from the list of regions
 pub regions-at : (ws l : List ℕ) (i : ℕ) → i < length ws → getD (regions ws l) i [] ≡ midOf (start ws i) (getD ws i 0) l

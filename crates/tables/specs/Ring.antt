@@ -2,14 +2,13 @@
 use Prim.Native.Nat.{ℕ, zero, suc, _+_, _*_, _%_, _-_, _≤_, _<_}
 use mathlib.Core.Bool.{Bool, true, false}
 use mathlib.Core.List.{List, [], _∷_, _++_, append-assoc}
-use mathlib.Core.Path.{_≡_, refl, ap, ap₂, sym, _∙_}
+use mathlib.Core.Path.{_≡_, refl, ap, sym, _∙_}
 use native.Mathlib.Omega.{arith}
 use native.Mathlib.Nat.{mul-le-mul-right, suc-mul}
 use lib.ListN.{length, take, drop, set, length-drop, take-append-drop}
 use lib.Seq.{sets, sets-eq, length-sets, set-comm, set-set, length-take-le, drop-drop}
 use lib.Dec.{ltb, eqb}
 use borrow.Author.Tests.{ltb-true, ltb-false, eqb-true, eqb-false}
-use Rattle.cells.specs.Numbers.{take-sets, drop-sets, slice-sets, drop-take}
 
 pub by-cases {ℓ} : {P : Type ℓ} (b : Bool) → (b ≡ true → P) → (b ≡ false → P) → P
 by-cases true t f = t refl
@@ -19,10 +18,6 @@ by-cases false t f = f refl
 pub set-sets : (l : List ℕ) (i a j : ℕ) (bs : List ℕ) → i < j → sets (set l i a) j bs ≡ set (sets l j bs) i a
 set-sets l i a j [] h = refl
 set-sets l i a j (b ∷ bs) h = ap (λ (z : List ℕ). sets z (suc j) bs) (set-comm l i j a b (λ e. omega arith)) ∙ set-sets (set l j b) i a (suc j) bs (omega arith)
-
-pub set-sets-over : (l : List ℕ) (i a j : ℕ) (bs : List ℕ) → j + length bs ≤ i → sets (set l i a) j bs ≡ set (sets l j bs) i a
-set-sets-over l i a j [] h = refl
-set-sets-over l i a j (b ∷ bs) h = ap (λ (z : List ℕ). sets z (suc j) bs) (set-comm l i j a b (λ e. omega arith)) ∙ set-sets-over (set l j b) i a (suc j) bs (omega arith)
 
 pub sets-before : (l : List ℕ) (i : ℕ) (vs : List ℕ) (j : ℕ) (bs : List ℕ) → i + length vs ≤ j → sets (sets l i vs) j bs ≡ sets (sets l j bs) i vs
 sets-before l i [] j bs h = refl
@@ -130,39 +125,3 @@ module _ {A : Type 0} (size : ℕ) (enc : A → List ℕ) where
         ap (sets r (f * size)) (q f h) ∙ sets-same r (f * size) size m′ in
         ap (storeRing ((f + 1) % 1024) (ringOf ((f + 1) % 1024) n r)) s
         ∙ store-ring ((f + 1) % 1024) n r (omega arith) g q
-
-  -- what is stored is read back
-  module _ (whole : (x : A) → length (enc x) ≡ size) (dec : List ℕ → A) (de : (x : A) → dec (enc x) ≡ x) where
-    slot-apart : (r : List ℕ) (i j : ℕ) (x : A) → (i ≡ j → ⊥) → take size (drop (j * size) (sets r (i * size) (enc x))) ≡ take size (drop (j * size) r)
-    slot-apart r i j x ne =
-        by-cases (ltb i j)
-        (λ t. let a = rows-apart whole i j (ltb-true i j t) in ap (take size) (drop-sets (j * size) r (i * size) (enc x) (omega (arith, whole x))))
-        (λ f. let h : j ≤ i = ltb-false i j f in
-        let h′ : j < i = by-cases (eqb i j) (λ t. absurd (ne (eqb-true i j t))) (λ n. let z = eqb-false i j n in omega arith) in
-        let a = rows-apart whole j i h′ in
-        sym (drop-take (j * size) size (sets r (i * size) (enc x)))
-        ∙ ap (drop (j * size)) (take-sets (j * size + size) r (i * size) (enc x) a)
-        ∙ drop-take (j * size) size r)
-
-    untouched : (f : ℕ) (es : List A) (r : List ℕ) (j : ℕ) → ((k : ℕ) → k < length es → (f + k) % 1024 ≡ j → ⊥) → f < 1024
-        → take size (drop (j * size) (storeRing f es r)) ≡ take size (drop (j * size) r)
-    unfolding storeRing
-    untouched f [] r j n h = refl
-    untouched f (e ∷ es) r j n h =
-        untouched ((f + 1) % 1024) es (sets r (f * size) (enc e)) j (λ k g q. n (suc k) (omega arith) (omega arith)) (omega arith)
-        ∙ slot-apart r f j e (λ q. n 0 (omega arith) (omega arith))
-
-    pub ring-stored : (f : ℕ) (es : List A) (r : List ℕ) → f < 1024 → length es ≤ 1024 → 1024 * size ≤ length r
-        → ringOf dec f (length es) (storeRing f es r) ≡ es
-    unfolding storeRing ringOf
-    ring-stored f [] r h n g = refl
-    ring-stored f (e ∷ es) r h n g =
-        let f′ : ℕ = (f + 1) % 1024 in
-        let m : suc f * size ≤ 1024 * size = mul-le-mul-right size h in
-        let m′ : f * size + size ≤ length r = let q = suc-mul f size in omega arith in
-        let s : List ℕ = sets r (f * size) (enc e) in
-        ap₂ _∷_
-        (ap dec (untouched f′ es s f (λ k p q. omega arith) (omega arith)
-        ∙ ap (λ (k : ℕ). take k (drop (f * size) s)) (sym (whole e))
-        ∙ slice-sets r (f * size) (enc e) (omega (arith, whole e))) ∙ de e)
-        (ring-stored f′ es s (omega arith) (omega arith) (rw length-sets g))

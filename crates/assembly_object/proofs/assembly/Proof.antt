@@ -1,8 +1,10 @@
+-- The class answers for instance 0; else the place that was found is the rules' place, and what stands there answers.
 use mathlib.Core.Path.{ap, _∙_}
-use Rattle.application.specs.Places.{placeIn}
-use Rattle.application.specs.PlaceLaws.{setup-ready}
+use Rattle.layout.specs.Searched.{placeIn}
+use Rattle.image.specs.Holds.{setup-ready}
+use Rattle.places.specs.PlaceLaws.{found-in}
 use Rattle.attributes.specs.Values.{fails}
-use Rattle.assembly_object.specs.Instances.{assembly-class, assembly-place, found-is, found-in}
+use Rattle.assembly_object.specs.Instances.{assembly-class, assembly-place, hasInstance, found-is}
 use native.Mathlib.Omega.{arith}
 use borrow.Author.Needs.{needs}
 use Rattle.assembly_object.proofs.assembly.Statement.{statement}
@@ -45,7 +47,7 @@ enum-known-i : tie.Need-enum-known-i
 enum-known-i c = search needs
 
 here-requires : tie.Need-here-requires
-here-requires c κs = let k = c .before .before .before .before .before .before .before .before .before in (k .pre .0, found-in (k .args .s .now) (k .args .instance) _ (c .before .before .before .before .find .ensures) _ (c .before .before .i .given .1), omega arith)
+here-requires c κs = let k = c .before .before .before .before .before .before .before .before .before in (k .pre .0, found-in (k .args .s .now) (hasInstance (k .args .instance)) _ (c .before .before .before .before .find .ensures) _ (c .before .before .i .given .1), omega arith)
 
 returns-2 : tie.Need-returns-2
 returns-2 c =
@@ -57,8 +59,14 @@ same-length-2 c = search needs
 
 returns-3 : tie.Need-returns-3
 returns-3 c =
-    let k = c .before .before .before .before .before .before .before .before .before .before .before .before in
-    assembly-place (k .args .s .now) _ _ _ _ _ (c .before .before .before .before .before .before .before .before .before .if1 .left) _ (found-is (k .args .s .now) (k .args .instance) (c .before .before .before .before .before .before .before .find .result) (c .before .before .before .before .before .before .before .find .ensures) ∙ ap placeIn (c .before .before .before .before .before .i .given .1)) (c .before .before .here .ensures)
+    let at-here = c .before .before in
+    let at-i = at-here .before .before .before in
+    let at-find = at-i .before .before in
+    let at-if1 = at-find .before .before in
+    let at-before = at-if1 .before .before in
+    let k = at-before .before in
+    assembly-place (k .args .s .now) _ _ _ _ _ (at-if1 .if1 .left) _ (found-is (k .args .s .now) (k .args .instance) (at-find .find .result) (at-find .find .ensures) ∙ ap placeIn
+    (at-i .i .given .1)) (at-here .here .ensures)
 
 pub assembly-spec : {M : Type 1} → statement M
 assembly-spec =

@@ -1,8 +1,9 @@
+-- The attribute of the identity object's instance, from the setup's region and the status.
 use mathlib.Core.Path.{ap, _∙_}
 use Rattle.rules.specs.Attributes.{Attributes, valueOf}
 use Rattle.rules.specs.Objects.{identityAttributes}
 use Rattle.image.specs.Image.{view}
-use Rattle.application.specs.PlaceLaws.{setup-ready}
+use Rattle.image.specs.Holds.{setup-ready}
 use Rattle.attributes.specs.Told.{told}
 use Rattle.attributes.specs.Values.{told-wanted, fails}
 use Rattle.identity_object.specs.Table.{identity-table, name-ready}
@@ -30,7 +31,9 @@ part-value-end : tie.Need-part-value-end
 part-value-end c = search needs
 
 value-requires : tie.Need-value-requires
-value-requires c κs = (setup-ready (c .before .before .before .before .before .before .before .before .before .args .s .now) (c .before .before .before .before .before .before .before .before .before .pre .0 .ready) .0, name-ready (c .before .before .before .before .before .before .before .before .before .args .s .now) (c .before .before .before .before .before .before .before .before .before .pre .0 .test), omega arith)
+value-requires c κs =
+    let at-entry = c .before .before .before .before .before .before .before .before .before in
+    (setup-ready (at-entry .args .s .now) (at-entry .pre .0 .ready) .0, name-ready (at-entry .args .s .now) (at-entry .pre .0 .test), omega arith)
 
 enum-known-f : tie.Need-enum-known-f
 enum-known-f c = search needs

@@ -1,6 +1,7 @@
+-- The record of one row stands where the list has it.
 use native.Mathlib.Omega.{arith}
 use lib.ListN.{length-take, length-drop}
-use Rattle.application.specs.PlaceLaws.{setup-ready}
+use Rattle.image.specs.Holds.{setup-ready}
 use Rattle.listing.specs.Listing.{told}
 use borrow.Author.Needs.{needs}
 use Rattle.listing.proofs.tell.Statement.{statement}
@@ -43,13 +44,21 @@ part-put-record-end-2 : tie.Need-part-put-record-end-2
 part-put-record-end-2 c = search needs
 
 put-record-requires : tie.Need-put-record-requires
-put-record-requires c κs = let r = setup-ready (c .before .before .before .before .before .before .args .s .now) (c .before .before .before .before .before .before .pre .0) in let h = c .before .before .before .before .before .before .pre .2 in (simp (length-take, length-drop) (omega arith), r .1, r .0)
+put-record-requires c κs =
+    let at-entry = c .before .before .before .before .before .before in
+    let r = setup-ready (at-entry .args .s .now) (at-entry .pre .0) in
+    let h = at-entry .pre .2 in
+    (simp (length-take, length-drop) (omega arith), r .0, r .1)
 
 same-length : tie.Need-same-length
 same-length c = search needs
 
 returns : tie.Need-returns
-returns c = told (c .before .before .before .before .before .before .before .before .before .args .s .now) (c .before .before .before .before .before .before .before .before .before .args .out .now) _ (c .before .before .before .before .before .before .before .before .before .args .i) _ (c .before .before .before .before .before .before .before .before .before .pre .2) (c .before .before .before .before .before .fixed-at .ensures) (c .before .before .put-record .ensures)
+returns c =
+    let at-put-record = c .before .before in
+    let at-fixed-at = at-put-record .before .before .before in
+    let at-entry = at-fixed-at .before .before .before .before in
+    told (at-entry .args .s .now) (at-entry .args .out .now) _ (at-entry .args .i) _ (at-entry .pre .2) (at-fixed-at .fixed-at .ensures) (at-put-record .put-record .ensures)
 
 pub tell-spec : {M : Type 1} → statement M
 tell-spec =

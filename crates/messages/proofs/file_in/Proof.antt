@@ -1,9 +1,10 @@
+-- The EDS and its name are lent from the state to the File object.
 use Prim.Native.Nat.{ℕ, _+_, _-_}
 use mathlib.Core.Path.{ap, sym, _∙_}
 use native.Mathlib.Nat.{add-sub-cancel-left}
 use lib.ListN.{take, drop, length-take}
 use Rattle.image.specs.Fits.{is-long}
-use Rattle.application.specs.PlaceLaws.{setup-ready}
+use Rattle.image.specs.Holds.{setup-ready}
 use Rattle.attributes.specs.Values.{fails}
 use Rattle.uploads.specs.Positions.{decUpload}
 use Rattle.file_object.specs.Files.{kept}
@@ -56,7 +57,13 @@ part-file-start-2 : tie.Need-part-file-start-2
 part-file-start-2 c = search needs
 
 part-file-end-2 : tie.Need-part-file-end-2
-part-file-end-2 c = let e = c .before .before .u32-at .ensures in let h = mark-small (c .before .before .before .before .before .before .before .before .args .s .now) (c .before .before .before .before .before .before .before .before .pre .0 .test) in let n = is-long (c .before .before .before .before .before .before .before .before .args .s .now) (c .before .before .before .before .before .before .before .before .pre .0 .test) in omega arith
+part-file-end-2 c =
+    let at-u32-at = c .before .before in
+    let at-entry = at-u32-at .before .before .before .before .before .before in
+    let e = at-u32-at .u32-at .ensures in
+    let h = mark-small (at-entry .args .s .now) (at-entry .pre .0 .test) in
+    let n = is-long (at-entry .args .s .now) (at-entry .pre .0 .test) in
+    omega arith
 
 file-requires : tie.Need-file-requires
 file-requires c κs =
@@ -73,9 +80,14 @@ same-length-2 c = search needs
 
 returns-2 : tie.Need-returns-2
 returns-2 c =
-    let a = c .before .before .before .before .before .before .before .before .before .before .before .before .before .before .before .before .args in
-    the-file (a .s .now) (a .service) (a .instance) (a .a) (a .given .now) (decUpload (a .position .now)) (a .out .now) _ (c .before .before .before .before .before .before .before .before .before .before .before .before .before .before .before .before .pre .0 .test) (λ q. c .before .before .before .before .before .before .before .before .before .if1 .left (c .before .before .before .before .before .before .before .before .before .before .u32-at .ensures ∙ q)) _
-    (ap (λ (k : ℕ). take k (drop 43520 (a .s .now))) (add-sub-cancel-left 43520 (c .before .before .before .before .before .before .before .before .before .before .u32-at .result - 1) ∙ ap (λ (n : ℕ). n - 1) (c .before .before .before .before .before .before .before .before .before .before .u32-at .ensures))) (c .before .before .before .before .file .ensures)
+    let at-file = c .before .before .before .before in
+    let at-if1 = at-file .before .before .before .before .before in
+    let at-u32-at = at-if1 .before in
+    let at-entry = at-u32-at .before .before .before .before .before .before in
+    let a = at-entry .args in
+    the-file (a .s .now) (a .service) (a .instance) (a .a) (a .given .now) (decUpload (a .position .now)) (a .out .now) _ (at-entry .pre .0 .test)
+    (λ q. at-if1 .if1 .left (at-u32-at .u32-at .ensures ∙ q)) _
+    (ap (λ (k : ℕ). take k (drop 43520 (a .s .now))) (add-sub-cancel-left 43520 (at-u32-at .u32-at .result - 1) ∙ ap (λ (n : ℕ). n - 1) (at-u32-at .u32-at .ensures))) (at-file .file .ensures)
 
 pub file-in-spec : {M : Type 1} → statement M
 file-in-spec =

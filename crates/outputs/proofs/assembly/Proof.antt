@@ -1,6 +1,10 @@
+-- The place that was found is the rules' place: none is No. 6, else its bytes are copied out.
 use mathlib.Core.Path.{ap}
-use Rattle.application.specs.Places.{placeIn}
-use Rattle.application.specs.PlaceLaws.{setup-ready, found-is, found-in}
+use Rattle.rules.specs.Checks.{isAt}
+use Rattle.rules.specs.Host.{kindTest}
+use Rattle.layout.specs.Searched.{placeIn}
+use Rattle.image.specs.Holds.{setup-ready}
+use Rattle.places.specs.PlaceLaws.{found-is, found-in}
 use Rattle.outputs.specs.Outputs.{assembly-none, assembly-some}
 use borrow.Author.Needs.{needs}
 use Rattle.outputs.proofs.assembly.Statement.{statement}
@@ -25,7 +29,12 @@ enum-known-f : tie.Need-enum-known-f
 enum-known-f c = search needs
 
 copy-assembly-requires : tie.Need-copy-assembly-requires
-copy-assembly-requires c κs = let a = c .before .before .before .before .before .before .before .before .args in (c .before .before .before .before .before .before .before .before .pre, found-in (a .s .now) (a .kind) (a .instance) (c .before .before .before .before .find .result) (c .before .before .before .before .find .ensures) _ (c .before .before .f .given .1))
+copy-assembly-requires c κs =
+    let at-f = c .before .before in
+    let at-find = at-f .before .before in
+    let at-entry = at-find .before .before .before .before in
+    let a = at-entry .args in
+    (at-entry .pre, found-in (a .s .now) (isAt (kindTest (a .kind)) (a .instance)) (at-find .find .result) (at-find .find .ensures) _ (at-f .f .given .1))
 
 returns : tie.Need-returns
 returns c =
@@ -37,8 +46,14 @@ same-length c = search needs
 
 returns-2 : tie.Need-returns-2
 returns-2 c =
-    let a = c .before .before .before .before .before .before .before .before .before .before .before .args in let r = c .before .before .before .before .before .before .before .find in
-    assembly-some (a .s .now) (a .out .now) (c .before .before .before .before .before .before .before .before .before .before .before .pre .test) (a .kind) (a .instance) (placeIn (r .result)) (found-is (a .s .now) (a .kind) (a .instance) (r .result) (r .ensures)) _ (ap placeIn (c .before .before .before .before .before .f .given .1)) _ (c .before .before .copy-assembly .ensures)
+    let at-copy-assembly = c .before .before in
+    let at-f = at-copy-assembly .before .before .before in
+    let at-find = at-f .before .before in
+    let at-entry = at-find .before .before .before .before in
+    let a = at-entry .args in
+    let r = at-find .find in
+    assembly-some (a .s .now) (a .out .now) (at-entry .pre .test) (a .kind) (a .instance) (placeIn (r .result)) (found-is (a .s .now) (a .kind) (a .instance) (r .result) (r .ensures)) _
+    (ap placeIn (at-f .f .given .1)) _ (at-copy-assembly .copy-assembly .ensures)
 
 pub assembly-spec : {M : Type 1} → statement M
 assembly-spec =

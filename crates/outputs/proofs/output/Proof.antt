@@ -1,7 +1,11 @@
+-- The place that was found is the rules' place: none is No. 6, else the output there is taken.
 use mathlib.Core.Path.{ap}
 use native.Mathlib.Omega.{arith}
-use Rattle.application.specs.Places.{placeIn}
-use Rattle.application.specs.PlaceLaws.{setup-ready, found-is, found-in}
+use Rattle.rules.specs.Checks.{isAt}
+use Rattle.rules.specs.Host.{kindTest}
+use Rattle.layout.specs.Searched.{placeIn}
+use Rattle.image.specs.Holds.{setup-ready}
+use Rattle.places.specs.PlaceLaws.{found-is, found-in}
 use Rattle.outputs.specs.Outputs.{output-none, output-some}
 use borrow.Author.Needs.{needs}
 use Rattle.outputs.proofs.output.Statement.{statement}
@@ -26,15 +30,25 @@ enum-known-f : tie.Need-enum-known-f
 enum-known-f c = search needs
 
 take-output-requires : tie.Need-take-output-requires
-take-output-requires c κs = let a = c .before .before .before .before .before .before .before .before .before .before .args in (c .before .before .before .before .before .before .before .before .before .before .pre, found-in (a .s .now) 2 (a .instance) (c .before .before .before .before .before .find .result) (c .before .before .before .before .before .find .ensures) _ (c .before .before .before .f .given .1))
+take-output-requires c κs =
+    let at-f = c .before .before .before in
+    let at-find = at-f .before .before in
+    let at-entry = at-find .before .before .before .before .before in
+    let a = at-entry .args in
+    (at-entry .pre, found-in (a .s .now) (isAt (kindTest 2) (a .instance)) (at-find .find .result) (at-find .find .ensures) _ (at-f .f .given .1))
 
 same-length : tie.Need-same-length
 same-length c = search needs
 
 returns : tie.Need-returns
 returns c =
-    let a = c .before .before .before .before .before .before .before .args in let r = c .before .before .find in
-    output-none (a .s .now) (a .out .now) (c .before .before .before .before .before .before .before .pre .test) (a .instance) (placeIn (r .result)) (found-is (a .s .now) 2 (a .instance) (r .result) (r .ensures)) (λ j. omega (arith, c .before .before .before .before .before .before .slice-known .given j)) (ap placeIn (c .enum-told .given .1))
+    let at-find = c .before .before in
+    let at-known = at-find .before .before .before .before in
+    let at-entry = at-known .before in
+    let a = at-entry .args in
+    let r = at-find .find in
+    output-none (a .s .now) (a .out .now) (at-entry .pre .test) (a .instance) (placeIn (r .result)) (found-is (a .s .now) 2 (a .instance) (r .result) (r .ensures))
+    (λ j. omega (arith, at-known .slice-known .given j)) (ap placeIn (c .enum-told .given .1))
 
 same-length-2 : tie.Need-same-length-2
 same-length-2 c = search needs
@@ -44,8 +58,14 @@ same-length-3 c = search needs
 
 returns-2 : tie.Need-returns-2
 returns-2 c =
-    let a = c .before .before .before .before .before .before .before .before .before .before .before .before .before .before .before .args in let r = c .before .before .before .before .before .before .before .before .before .before .find in
-    output-some (a .s .now) (a .out .now) (c .before .before .before .before .before .before .before .before .before .before .before .before .before .before .before .pre .test) (a .instance) (placeIn (r .result)) (found-is (a .s .now) 2 (a .instance) (r .result) (r .ensures)) _ (ap placeIn (c .before .before .before .before .before .before .before .before .f .given .1)) _ (c .before .before .before .before .take-output .ensures)
+    let at-take-output = c .before .before .before .before in
+    let at-f = at-take-output .before .before .before .before in
+    let at-find = at-f .before .before in
+    let at-entry = at-find .before .before .before .before .before in
+    let a = at-entry .args in
+    let r = at-find .find in
+    output-some (a .s .now) (a .out .now) (at-entry .pre .test) (a .instance) (placeIn (r .result)) (found-is (a .s .now) 2 (a .instance) (r .result) (r .ensures)) _
+    (ap placeIn (at-f .f .given .1)) _ (at-take-output .take-output .ensures)
 
 pub output-spec : {M : Type 1} → statement M
 output-spec =

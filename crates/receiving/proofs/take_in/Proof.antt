@@ -1,3 +1,4 @@
+-- Data that changes nothing, data of which an event waits already, and data that is told.
 use Prim.Native.Nat.{ℕ, _+_, _-_, _/_, _%_}
 use mathlib.Core.Bool.{Bool, not}
 use mathlib.Core.List.{List}
@@ -8,7 +9,11 @@ use lib.Dec.{eqb}
 use lib.ListN.{length, getD, take, drop, length-drop}
 use lib.Seq.{take-all}
 use Rattle.cells.specs.Numbers.{le}
-use Rattle.receiving.specs.TakeLaws.{kept-few, take-same, take-quiet, take-told}
+use Rattle.rules.specs.declared.Event.the-variants.{OutputChanged}
+use Rattle.image.specs.Kept.{kept-few}
+use Rattle.events.specs.Records.{output-is}
+use Rattle.events.specs.Pushes.{told-as}
+use Rattle.receiving.specs.TakeLaws.{take-same, take-quiet, take-told}
 use borrow.Author.Needs.{needs}
 use Rattle.receiving.proofs.take_in.Statement.{statement}
 use Rattle.receiving.proofs.take_in.Tie as tie
@@ -44,25 +49,74 @@ same-length : tie.Need-same-length
 same-length c = search needs
 
 returns : tie.Need-returns
-returns c = let a = c .before .before .before .before .before .before .before .before .before .before .before .before .before .args in let s = a .s .now in let d = a .d .now in let x : List ℕ = take (length d - 6) (drop 6 d) in let ex : x ≡ drop 6 d = take-all (length d - 6) (drop 6 d) (let k = length-drop 6 d in omega arith) in λ f ef st l h n. take-same s (a .i) (c .before .before .before .before .before .before .before .before .before .before .before .before .before .pre .1) d (getD s (240 + a .i) 0) refl (eqb (getD d 2 0 % 2) 1) refl (c .before .before .before .before .put-data .last .0) (c .before .before .before .before .put-data .result) x ex (c .before .before .before .before .put-data .ensures .1) (c .before .differs .result) (c .before .differs .ensures) f ef st l h n (not-true (c .before .differs .result) (c .if1 .taken))
+returns c =
+    let at-differs = c .before in
+    let at-put-data = at-differs .before .before .before in
+    let at-entry = at-put-data .before .before .before .before .before .before .before .before .before in
+    let a = at-entry .args in
+    let s = a .s .now in
+    let d = a .d .now in
+    let x : List ℕ = take (length d - 6) (drop 6 d) in
+    let ex : x ≡ drop 6 d = take-all (length d - 6) (drop 6 d) (let k = length-drop 6 d in omega arith) in
+    λ f ef st l h n. take-same s (a .i) (at-entry .pre .1) d (getD s (240 + a .i) 0) refl (eqb (getD d 2 0 % 2) 1) refl (at-put-data .put-data .last .0) (at-put-data .put-data .result) x ex
+    (at-put-data .put-data .ensures .1) (at-differs .differs .result) (at-differs .differs .ensures) f ef st l h n (not-true (at-differs .differs .result) (c .if1 .taken))
 
 put-mark-requires : tie.Need-put-mark-requires
-put-mark-requires c κs = let k = c .before .before .before .before .before .put-data .ensures .0 in let s = c .before .before .before .before .before .before .before .before .before .before .before .before .before .before .args .s .now in (k .ready, let e = kept-few (le 2 s 224) s (c .before .before .before .before .before .put-data .last .0) k in let p = c .before .before .before .before .before .before .before .before .before .before .before .before .before .before .pre .1 in omega (arith, e, p))
+put-mark-requires c κs =
+    let at-put-data = c .before .before .before .before .before in
+    let at-entry = at-put-data .before .before .before .before .before .before .before .before .before in
+    let k = at-put-data .put-data .ensures .0 in
+    let s = at-entry .args .s .now in
+    (k .ready, let e = kept-few (le 2 s 224) s (at-put-data .put-data .last .0) k in let p = at-entry .pre .1 in omega (arith, e, p))
 
 same-length-2 : tie.Need-same-length-2
 same-length-2 c = search needs
 
 returns-2 : tie.Need-returns-2
-returns-2 c = let a = c .before .before .before .before .before .before .before .before .before .before .before .before .before .before .before .before .before .before .args in let s = a .s .now in let d = a .d .now in let x : List ℕ = take (length d - 6) (drop 6 d) in let ex : x ≡ drop 6 d = take-all (length d - 6) (drop 6 d) (let k = length-drop 6 d in omega arith) in let m : ℕ = getD s (240 + a .i) 0 in λ f ef st l h n. take-quiet s (a .i) (c .before .before .before .before .before .before .before .before .before .before .before .before .before .before .before .before .before .before .pre .1) d m refl (eqb (getD d 2 0 % 2) 1) refl (c .before .before .before .before .before .before .before .before .before .put-data .last .0) (c .before .before .before .before .before .before .before .before .before .put-data .result) x ex (c .before .before .before .before .before .before .before .before .before .put-data .ensures .1) (c .before .before .before .before .before .before .differs .result) (c .before .before .before .before .before .before .differs .ensures) f ef st l h n (c .before .before .before .put-mark .last .0) (c .before .before .before .put-mark .ensures .1) (not-false (c .before .before .before .before .before .before .differs .result) (c .before .before .before .before .before .if1 .left)) (ap not (ne-eqb (m / 2 % 2) 0 (c .if2 .taken)))
+returns-2 c =
+    let at-put-mark = c .before .before .before in
+    let at-if1 = at-put-mark .before .before in
+    let at-differs = at-if1 .before in
+    let at-put-data = at-differs .before .before .before in
+    let at-entry = at-put-data .before .before .before .before .before .before .before .before .before in
+    let a = at-entry .args in
+    let s = a .s .now in
+    let d = a .d .now in
+    let x : List ℕ = take (length d - 6) (drop 6 d) in
+    let ex : x ≡ drop 6 d = take-all (length d - 6) (drop 6 d) (let k = length-drop 6 d in omega arith) in
+    let m : ℕ = getD s (240 + a .i) 0 in
+    λ f ef st l h n. take-quiet s (a .i) (at-entry .pre .1) d m refl (eqb (getD d 2 0 % 2) 1) refl (at-put-data .put-data .last .0) (at-put-data .put-data .result) x ex
+    (at-put-data .put-data .ensures .1) (at-differs .differs .result) (at-differs .differs .ensures) f ef st l h n (at-put-mark .put-mark .last .0) (at-put-mark .put-mark .ensures .1)
+    (not-false (at-differs .differs .result) (at-if1 .if1 .left)) (ap not (ne-eqb (m / 2 % 2) 0 (c .if2 .taken)))
 
-push-requires : tie.Need-push-requires
-push-requires c κs = search needs
+tell-assembly-requires : tie.Need-tell-assembly-requires
+tell-assembly-requires c κs = search needs
 
 same-length-3 : tie.Need-same-length-3
 same-length-3 c = search needs
 
 returns-3 : tie.Need-returns-3
-returns-3 c = let a = c .before .before .before .before .before .before .before .before .before .before .before .before .before .before .before .before .before .before .before .before .before .before .args in let s = a .s .now in let d = a .d .now in let x : List ℕ = take (length d - 6) (drop 6 d) in let ex : x ≡ drop 6 d = take-all (length d - 6) (drop 6 d) (let k = length-drop 6 d in omega arith) in let m : ℕ = getD s (240 + a .i) 0 in λ f ef st l h n. take-told s (a .i) (c .before .before .before .before .before .before .before .before .before .before .before .before .before .before .before .before .before .before .before .before .before .before .pre .1) d m refl (eqb (getD d 2 0 % 2) 1) refl (c .before .before .before .before .before .before .before .before .before .before .before .before .before .put-data .last .0) (c .before .before .before .before .before .before .before .before .before .before .before .before .before .put-data .result) x ex (c .before .before .before .before .before .before .before .before .before .before .before .before .before .put-data .ensures .1) (c .before .before .before .before .before .before .before .before .before .before .differs .result) (c .before .before .before .before .before .before .before .before .before .before .differs .ensures) f ef st l h n (c .before .before .before .before .before .before .before .put-mark .last .0) (c .before .before .before .before .before .before .before .put-mark .ensures .1) (not-false (c .before .before .before .before .before .before .before .before .before .before .differs .result) (c .before .before .before .before .before .before .before .before .before .if1 .left)) (ap not (eq-eqb (m / 2 % 2) 0 (c .before .before .before .before .if2 .left))) (c .before .before .before .before .before .before .before .before .before .before .before .before .before .before .before .before .instance-at .result) (c .before .before .before .before .before .before .before .before .before .before .before .before .before .before .before .before .instance-at .ensures) (c .before .before .push .last .0) (c .before .before .push .ensures .1)
+returns-3 c =
+    let at-tell-assembly = c .before .before in
+    let at-if2 = at-tell-assembly .before .before in
+    let at-put-mark = at-if2 .before .before .before in
+    let at-if1 = at-put-mark .before .before in
+    let at-differs = at-if1 .before in
+    let at-put-data = at-differs .before .before .before in
+    let at-instance-at = at-put-data .before .before .before in
+    let at-entry = at-instance-at .before .before .before .before .before .before in
+    let a = at-entry .args in
+    let s = a .s .now in
+    let d = a .d .now in
+    let x : List ℕ = take (length d - 6) (drop 6 d) in
+    let ex : x ≡ drop 6 d = take-all (length d - 6) (drop 6 d) (let k = length-drop 6 d in omega arith) in
+    let m : ℕ = getD s (240 + a .i) 0 in
+    λ f ef st l h n. take-told s (a .i) (at-entry .pre .1) d m refl (eqb (getD d 2 0 % 2) 1) refl (at-put-data .put-data .last .0) (at-put-data .put-data .result) x ex
+    (at-put-data .put-data .ensures .1) (at-differs .differs .result) (at-differs .differs .ensures) f ef st l h n (at-put-mark .put-mark .last .0) (at-put-mark .put-mark .ensures .1)
+    (not-false (at-differs .differs .result) (at-if1 .if1 .left)) (ap not (eq-eqb (m / 2 % 2) 0 (at-if2 .if2 .left))) (at-instance-at .instance-at .result)
+    (at-instance-at .instance-at .ensures) (at-tell-assembly .tell-assembly .last .0)
+    (let v = at-instance-at .instance-at .result in told-as (at-put-mark .put-mark .last .0) (at-tell-assembly .tell-assembly .last .0) 5 v 0 (OutputChanged v) (output-is v)
+    (at-tell-assembly .tell-assembly .ensures .1))
 
 pub take-in-spec : {M : Type 1} → statement M
 take-in-spec =
@@ -82,6 +136,6 @@ take-in-spec =
     put-mark-requires
     same-length-2
     returns-2
-    push-requires
+    tell-assembly-requires
     same-length-3
     returns-3)

@@ -1,6 +1,7 @@
+-- The first of the stream is found, its row goes, and it is told as closed.
 use native.Mathlib.Omega.{arith}
 use Rattle.rules.specs.Removal.{inStream}
-use Rattle.removal.specs.Turns.{found-in, turn-gone}
+use Rattle.removal.specs.Turns.{found-in, turn-gone, turn-told}
 use Rattle.removal.specs.Listeners.{dropped-none, dropped-one, closes-none, closes-one}
 use borrow.Author.Needs.{needs}
 use Rattle.removal.proofs.close_first.Statement.{statement}
@@ -41,14 +42,26 @@ part-fixed-at-end c = search needs
 
 fixed-at-requires : tie.Need-fixed-at-requires
 fixed-at-requires c κs =
-    let a = c .before .before .before .before .before .before .before .before .before .before .before .args in
-    let p = found-in (inStream (a .id)) (a .s .now) (c .before .before .before .before .before .before .before .before .u16-at .result) (c .before .before .before .before .before .find-stream .result) (c .before .before .before .before .before .before .before .before .u16-at .ensures) (c .before .before .before .before .before .find-stream .ensures) (c .before .before .before .j .given .0 .0) (c .before .before .before .j .given .1) in
-    let k = c .before .before .before .before .before .before .before .before .before .before .before .pre .conns in
+    let at-j = c .before .before .before in
+    let at-find-stream = at-j .before .before in
+    let at-u16-at = at-find-stream .before .before .before in
+    let at-entry = at-u16-at .before .before .before in
+    let a = at-entry .args in
+    let p = found-in (inStream (a .id)) (a .s .now) (at-u16-at .u16-at .result) (at-find-stream .find-stream .result) (at-u16-at .u16-at .ensures) (at-find-stream .find-stream .ensures) (at-j .j .given .0 .0) (at-j .j .given .1) in
+    let k = at-entry .pre .conns in
     (omega arith, search needs)
 
 remove-row-requires : tie.Need-remove-row-requires
 remove-row-requires c κs =
-    let a = c .before .before .before .before .before .before .before .before .before .before .before .before .before .args in (c .before .before .before .before .before .before .before .before .before .before .before .before .before .pre, found-in (inStream (a .id)) (a .s .now) (c .before .before .before .before .before .before .before .before .before .before .u16-at .result) (c .before .before .before .before .before .before .before .find-stream .result) (c .before .before .before .before .before .before .before .before .before .before .u16-at .ensures) (c .before .before .before .before .before .before .before .find-stream .ensures) (c .before .before .before .before .before .j .given .0 .0) (c .before .before .before .before .before .j .given .1))
+    let at-j = c .before .before .before .before .before in
+    let at-find-stream = at-j .before .before in
+    let at-u16-at = at-find-stream .before .before .before in
+    let at-entry = at-u16-at .before .before .before in
+    let a = at-entry .args in (
+      at-entry .pre,
+      found-in (inStream (a .id)) (a .s .now) (at-u16-at .u16-at .result) (at-find-stream .find-stream .result) (at-u16-at .u16-at .ensures) (at-find-stream .find-stream .ensures)
+          (at-j .j .given .0 .0) (at-j .j .given .1),
+    )
 
 tell-requires : tie.Need-tell-requires
 tell-requires c κs = search needs
@@ -58,18 +71,35 @@ same-length c = search needs
 
 returns : tie.Need-returns
 returns c =
-    let a = c .before .before .before .before .before .before .before .before .args in (dropped-none (a .s .now) (c .before .before .before .before .before .before .before .before .pre), closes-none (a .id) (a .s .now) (c .before .before .before .before .before .u16-at .result) (c .before .before .find-stream .result) (c .before .before .before .before .before .u16-at .ensures) (c .before .before .find-stream .ensures) (c .enum-told .given .1))
+    let at-find-stream = c .before .before in
+    let at-u16-at = at-find-stream .before .before .before in
+    let at-entry = at-u16-at .before .before .before in
+    let a = at-entry .args in (
+      dropped-none (a .s .now) (at-entry .pre),
+      closes-none (a .id) (a .s .now) (at-u16-at .u16-at .result) (at-find-stream .find-stream .result) (at-u16-at .u16-at .ensures)
+          (at-find-stream .find-stream .ensures) (c .enum-told .given .1),
+    )
 
 same-length-2 : tie.Need-same-length-2
 same-length-2 c = search needs
 
 returns-2 : tie.Need-returns-2
 returns-2 c =
-    let a = c .before .before .before .before .before .before .before .before .before .before .before .before .before .before .before .before .before .before .before .before .args in
-    let s₁ = c .before .before .before .before .before .before .remove-row .last .0 in
-    let s₂ = c .before .before .tell .last .0 in (
-      dropped-one (a .id) (a .s .now) (c .before .before .before .before .before .before .before .before .before .before .before .before .before .before .before .before .before .u16-at .result) (c .before .before .before .before .before .before .before .before .before .before .before .before .before .before .find-stream .result) (c .before .before .before .before .before .before .before .before .before .before .before .before .before .before .before .before .before .u16-at .ensures) (c .before .before .before .before .before .before .before .before .before .before .before .before .before .before .find-stream .ensures) (c .before .before .before .before .before .before .before .before .before .before .before .before .j .given .0 .0) (c .before .before .before .before .before .before .before .before .before .before .before .before .j .given .1) s₁ s₂ (c .before .before .before .before .before .before .remove-row .ensures .0) (c .before .before .tell .ensures .0),
-      closes-one (a .id) (a .s .now) (c .before .before .before .before .before .before .before .before .before .before .before .before .before .before .before .before .before .u16-at .result) (c .before .before .before .before .before .before .before .before .before .before .before .before .before .before .find-stream .result) (c .before .before .before .before .before .before .before .before .before .before .before .before .before .before .before .before .before .u16-at .ensures) (c .before .before .before .before .before .before .before .before .before .before .before .before .before .before .find-stream .ensures) (c .before .before .before .before .before .before .before .before .before .before .before .before .j .given .0 .0) (c .before .before .before .before .before .before .before .before .before .before .before .before .j .given .1) (c .before .before .before .before .before .before .before .before .fixed-at .result) (c .before .before .before .before .before .before .before .before .fixed-at .ensures) s₁ s₂ (turn-gone (a .s .now) s₁ (c .before .before .before .before .before .before .before .before .before .before .before .before .j .given .0 .0) (c .before .before .before .before .before .before .remove-row .ensures .1)) (c .before .before .tell .ensures .1),
+    let at-tell = c .before .before in
+    let at-remove-row = at-tell .before .before .before .before in
+    let at-fixed-at = at-remove-row .before .before in
+    let at-j = at-fixed-at .before .before .before .before in
+    let at-find-stream = at-j .before .before in
+    let at-u16-at = at-find-stream .before .before .before in
+    let at-entry = at-u16-at .before .before .before in
+    let a = at-entry .args in
+    let s₁ = at-remove-row .remove-row .last .0 in
+    let s₂ = at-tell .tell .last .0 in (
+      dropped-one (a .id) (a .s .now) (at-u16-at .u16-at .result) (at-find-stream .find-stream .result) (at-u16-at .u16-at .ensures) (at-find-stream .find-stream .ensures) (at-j .j .given .0 .0)
+          (at-j .j .given .1) s₁ s₂ (at-remove-row .remove-row .ensures .0) (at-tell .tell .ensures .0),
+      closes-one (a .id) (a .s .now) (at-u16-at .u16-at .result) (at-find-stream .find-stream .result) (at-u16-at .u16-at .ensures) (at-find-stream .find-stream .ensures) (at-j .j .given .0 .0)
+          (at-j .j .given .1) (at-fixed-at .fixed-at .result) (at-fixed-at .fixed-at .ensures) s₁ s₂ (turn-gone (a .s .now) s₁ (at-j .j .given .0 .0) (at-remove-row .remove-row .ensures .1))
+          (turn-told s₁ s₂ 2 (at-fixed-at .fixed-at .result) (at-tell .tell .ensures .1)),
     )
 
 pub close-first-spec : {M : Type 1} → statement M

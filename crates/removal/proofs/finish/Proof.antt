@@ -1,3 +1,5 @@
+-- Hand-over, the listeners, the run bit and the event, one after the other.
+use Rattle.removal.specs.Turns.{turn-told}
 use Rattle.removal.specs.Removals.{follows, fewer-follows}
 use borrow.Author.Needs.{needs}
 use Rattle.removal.proofs.finish.Statement.{statement}
@@ -20,9 +22,17 @@ same-length c = search needs
 
 returns : tie.Need-returns
 returns c =
-    let a = c .before .before .before .before .before .before .before .before .before .before .before .before .before .before .before .before .before .before .args in (
-      fewer-follows (a .s .now) (c .before .before .before .before .before .before .before .before .before .before .before .before .before .before .hand-over .last .0) (c .before .before .before .before .before .before .before .before .before .before .end-stream .last .0) (c .before .before .before .before .before .before .lose-run .last .0) (c .before .before .tell .last .0) (c .before .before .before .before .before .before .before .before .before .before .before .before .before .before .hand-over .ensures .0) (c .before .before .before .before .before .before .before .before .before .before .end-stream .ensures .0) (c .before .before .before .before .before .before .lose-run .ensures .0) (c .before .before .tell .ensures .0),
-      follows (a .s .now) (c .before .before .before .before .before .before .before .before .before .before .before .before .before .before .hand-over .last .0) (c .before .before .before .before .before .before .before .before .before .before .end-stream .last .0) (c .before .before .before .before .before .before .lose-run .last .0) (c .before .before .tell .last .0) (a .what) (a .f) (a .x) (c .before .before .before .before .before .before .before .before .before .before .before .before .before .before .hand-over .ensures .1) (c .before .before .before .before .before .before .before .before .before .before .end-stream .ensures .1) (c .before .before .before .before .before .before .lose-run .ensures .1) (c .before .before .tell .ensures .1),
+    let at-tell = c .before .before in
+    let at-lose-run = at-tell .before .before .before .before in
+    let at-end-stream = at-lose-run .before .before .before .before in
+    let at-hand-over = at-end-stream .before .before .before .before in
+    let at-entry = at-hand-over .before .before .before .before in
+    let a = at-entry .args in (
+      fewer-follows (a .s .now) (at-hand-over .hand-over .last .0) (at-end-stream .end-stream .last .0) (at-lose-run .lose-run .last .0) (at-tell .tell .last .0)
+          (at-hand-over .hand-over .ensures .0) (at-end-stream .end-stream .ensures .0) (at-lose-run .lose-run .ensures .0) (at-tell .tell .ensures .0),
+      follows (a .s .now) (at-hand-over .hand-over .last .0) (at-end-stream .end-stream .last .0) (at-lose-run .lose-run .last .0) (at-tell .tell .last .0) (a .what) (a .f) (a .x)
+          (at-hand-over .hand-over .ensures .1) (at-end-stream .end-stream .ensures .1) (at-lose-run .lose-run .ensures .1)
+          (turn-told (at-lose-run .lose-run .last .0) (at-tell .tell .last .0) (a .what) (a .f) (at-tell .tell .ensures .1)),
     )
 
 pub finish-spec : {M : Type 1} → statement M

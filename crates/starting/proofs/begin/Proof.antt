@@ -1,7 +1,8 @@
+-- Zeros, the block, the EDS mark, the next id and the EDS, one over the other, are the fresh state.
 use Prim.Native.Nat.{ℕ}
 use mathlib.Core.Path.{ap, _∙_}
 use Rattle.starting.specs.Block.{zeros, edsMark}
-use Rattle.starting.specs.Begin.{begun}
+use Rattle.starting.specs.Begin.{all-zero, begun}
 use borrow.Author.Needs.{needs}
 use Rattle.starting.proofs.begin.Statement.{statement}
 use Rattle.starting.proofs.begin.Tie as tie
@@ -15,8 +16,8 @@ eds-mark-requires c κs = search needs
 first-id-requires : tie.Need-first-id-requires
 first-id-requires c κs = search needs
 
-clear-requires : tie.Need-clear-requires
-clear-requires c κs = search needs
+zero-requires : tie.Need-zero-requires
+zero-requires c κs = search needs
 
 copy-in-requires : tie.Need-copy-in-requires
 copy-in-requires c κs = search needs
@@ -35,10 +36,21 @@ same-length c = search needs
 
 returns : tie.Need-returns
 returns c =
-    let a = c .before .before .before .before .before .before .before .before .before .before .before .before .before .before .before .before .before .before .before .before .before .before .before .before .before .before .args in let p = c .before .before .before .before .before .before .before .before .before .before .before .before .before .before .before .before .before .before .before .before .before .before .before .before .before .before .pre in
-    begun (a .block .now) (a .eds .now) (a .seed) (c .before .before .before .before .before .before .before .before .before .before .before .before .before .before .before .before .before .before .before .before .before .eds-mark .result) (p .1) (p .2)
-    (c .before .before .before .before .before .before .before .before .before .before .before .before .before .before .before .before .before .before .before .before .before .eds-mark .ensures ∙ ap (λ (f : ℕ). edsMark f (a .eds .now)) (c .before .before .before .before .before .before .before .before .before .before .before .before .before .before .before .before .before .before .before .before .before .before .u32-at .ensures))
-    _ _ _ _ _ _ (c .before .before .before .before .before .before .before .before .before .before .before .before .before .before .before .before .before .before .before .before .first-id .ensures) (c .before .before .before .before .before .before .before .before .before .before .before .before .before .before .before .before .before .before .clear .ensures ∙ ap zeros (p .0)) (c .before .before .before .before .before .before .before .before .before .before .before .before .before .before .copy-in .ensures) (c .before .before .before .before .before .before .before .before .before .before .put-u32 .ensures) (c .before .before .before .before .before .before .put-u322 .ensures) (c .before .before .copy-in2 .ensures)
+    let at-copy-in2 = c .before .before in
+    let at-put-u322 = at-copy-in2 .before .before .before .before in
+    let at-put-u32 = at-put-u322 .before .before .before .before in
+    let at-copy-in = at-put-u32 .before .before .before .before in
+    let at-zero = at-copy-in .before .before .before .before in
+    let at-first-id = at-zero .before .before in
+    let at-eds-mark = at-first-id .before in
+    let at-u32-at = at-eds-mark .before in
+    let at-entry = at-u32-at .before .before .before .before in
+    let a = at-entry .args in
+    let p = at-entry .pre in
+    begun (a .block .now) (a .eds .now) (a .seed) (at-eds-mark .eds-mark .result) (p .1) (p .2)
+    (at-eds-mark .eds-mark .ensures ∙ ap (λ (f : ℕ). edsMark f (a .eds .now)) (at-u32-at .u32-at .ensures))
+    _ _ _ _ _ _ (at-first-id .first-id .ensures) (all-zero (a .s .now) _ (at-zero .zero .ensures) ∙ ap zeros (p .0)) (at-copy-in .copy-in .ensures) (at-put-u32 .put-u32 .ensures)
+    (at-put-u322 .put-u322 .ensures) (at-copy-in2 .copy-in2 .ensures)
 
 pub begin-spec : {M : Type 1} → statement M
 begin-spec =
@@ -47,7 +59,7 @@ begin-spec =
     u32-at-requires
     eds-mark-requires
     first-id-requires
-    clear-requires
+    zero-requires
     copy-in-requires
     put-u32-requires
     put-u32-requires-2

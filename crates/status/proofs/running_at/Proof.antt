@@ -1,8 +1,8 @@
+-- A row of another kind does not run; an owner's row runs where its output does.
 use borrow.Author.Tests.{not-true, not-false}
 use Rattle.layout.specs.Places.{tableIn}
-use Rattle.layout.specs.Rows.{decConn}
+use Rattle.layout.specs.Rows.{rowAt, decConn}
 use Rattle.image.specs.Image.{view}
-use Rattle.streams.specs.TableLaws.{rowAt}
 use Rattle.status.specs.Status.{row-other, row-owner}
 use borrow.Author.Needs.{needs}
 use Rattle.status.proofs.running_at.Statement.{statement}
@@ -24,7 +24,12 @@ is-owner-requires : tie.Need-is-owner-requires
 is-owner-requires c κs = search needs
 
 returns : tie.Need-returns
-returns c = row-other (view (c .before .before .before .before .before .args .s .now)) (decConn (rowAt (tableIn (c .before .before .before .before .before .args .s .now)) (c .before .before .before .before .before .args .i))) _ (c .before .before .fixed-at .ensures) _ (c .before .is-owner .ensures) (not-true _ (c .if1 .taken))
+returns c =
+    let at-is-owner = c .before in
+    let at-fixed-at = at-is-owner .before in
+    let at-entry = at-fixed-at .before .before .before in
+    row-other (view (at-entry .args .s .now)) (decConn (rowAt (tableIn (at-entry .args .s .now)) (at-entry .args .i))) _ (at-fixed-at .fixed-at .ensures) _ (at-is-owner .is-owner .ensures)
+    (not-true _ (c .if1 .taken))
 
 cast-runs : tie.Need-cast-runs
 cast-runs c = search needs
@@ -33,7 +38,13 @@ runs-requires : tie.Need-runs-requires
 runs-requires c κs = search needs
 
 returns-2 : tie.Need-returns-2
-returns-2 c = row-owner (view (c .before .before .before .before .before .before .before .args .s .now)) (decConn (rowAt (tableIn (c .before .before .before .before .before .before .before .args .s .now)) (c .before .before .before .before .before .before .before .args .i))) _ (c .before .before .before .before .fixed-at .ensures) _ (c .before .before .before .is-owner .ensures) (not-false _ (c .before .before .if1 .left)) _ (c .runs .ensures)
+returns-2 c =
+    let at-if1 = c .before .before in
+    let at-is-owner = at-if1 .before in
+    let at-fixed-at = at-is-owner .before in
+    let at-entry = at-fixed-at .before .before .before in
+    row-owner (view (at-entry .args .s .now)) (decConn (rowAt (tableIn (at-entry .args .s .now)) (at-entry .args .i))) _ (at-fixed-at .fixed-at .ensures) _ (at-is-owner .is-owner .ensures)
+    (not-false _ (at-if1 .if1 .left)) _ (c .runs .ensures)
 
 pub running-at-spec : {M : Type 1} → statement M
 running-at-spec =

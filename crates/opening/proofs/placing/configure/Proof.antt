@@ -1,8 +1,13 @@
+-- The bytes are put, then the event of their assembly is told.
 use native.Mathlib.Omega.{arith}
 use mathlib.Core.Path.{refl}
 use lib.ListN.{length}
 use Rattle.cells.specs.Numbers.{le}
-use Rattle.opening.specs.StepLaws.{kept-few, config-kept, config-done}
+use Rattle.rules.specs.declared.Event.the-variants.{Configured}
+use Rattle.image.specs.Kept.{kept-few}
+use Rattle.events.specs.Records.{configured-is}
+use Rattle.events.specs.Pushes.{told-as}
+use Rattle.opening.specs.StepLaws.{config-kept, config-done}
 use borrow.Author.Needs.{needs}
 use Rattle.opening.proofs.placing.configure.Statement.{statement}
 use Rattle.opening.proofs.placing.configure.Tie as tie
@@ -16,20 +21,28 @@ put-bytes-requires c κs = search needs
 instance-at-requires : tie.Need-instance-at-requires
 instance-at-requires c κs = search needs
 
-push-requires : tie.Need-push-requires
-push-requires c κs = search needs
+tell-assembly-requires : tie.Need-tell-assembly-requires
+tell-assembly-requires c κs = search needs
 
 same-length : tie.Need-same-length
 same-length c = search needs
 
 returns : tie.Need-returns
-returns c = let a = c .before .before .before .before .before .before .before .before .before .before .before .before .args in
+returns c =
+    let at-tell-assembly = c .before .before in
+    let at-instance-at = at-tell-assembly .before .before in
+    let at-put-bytes = at-instance-at .before .before .before .before in
+    let at-entry = at-put-bytes .before .before .before .before in
+    let a = at-entry .args in
     let s = a .s .now in
-    let s₁ = c .before .before .before .before .before .before .before .before .put-bytes .last .0 in
-    let s₂ = c .before .before .push .last .0 in
-    let k = c .before .before .before .before .before .before .before .before .put-bytes .ensures .0 in (
-      config-kept (a .i) (a .config .now) s s₁ s₂ k (c .before .before .push .ensures .0),
-      config-done (a .i) (a .config .now) s s₁ s₂ (let e = kept-few (le 2 s 224) s s₁ k in let p = c .before .before .before .before .before .before .before .before .before .before .before .before .pre .1 in omega (arith, e, p)) (c .before .before .before .before .instance-at .result) _ (c .before .before .before .before .instance-at .ensures) refl (c .before .before .before .before .before .before .before .before .put-bytes .ensures .1) (c .before .before .push .ensures .1),
+    let s₁ = at-put-bytes .put-bytes .last .0 in
+    let s₂ = at-tell-assembly .tell-assembly .last .0 in
+    let v = at-instance-at .instance-at .result in
+    let m = length (a .config .now) in
+    let k = at-put-bytes .put-bytes .ensures .0 in (
+      config-kept (a .i) (a .config .now) s s₁ s₂ k (at-tell-assembly .tell-assembly .ensures .0),
+      config-done (a .i) (a .config .now) s s₁ s₂ (let e = kept-few (le 2 s 224) s s₁ k in let p = at-entry .pre .1 in omega (arith, e, p)) v m (at-instance-at .instance-at .ensures) refl
+          (at-put-bytes .put-bytes .ensures .1) (told-as s₁ s₂ 4 v m (Configured v m) (configured-is v m) (at-tell-assembly .tell-assembly .ensures .1)),
     )
 
 pub configure-spec : {M : Type 1} → statement M
@@ -39,6 +52,6 @@ configure-spec =
     cast-length
     put-bytes-requires
     instance-at-requires
-    push-requires
+    tell-assembly-requires
     same-length
     returns)

@@ -1,19 +1,8 @@
-use Rattle.opening.specs.StepLaws.{setup-ready, place-kept, place-done}
+-- The next id, the row and the event, one after the other, are the new connection placed.
+use Rattle.opening.specs.StepLaws.{place-kept, place-done}
 use borrow.Author.Needs.{needs}
 use Rattle.opening.proofs.placing.place.Statement.{statement}
 use Rattle.opening.proofs.placing.place.Tie as tie
-
-sub-info-of : tie.Need-sub-info-of
-sub-info-of c = search needs
-
-part-info-of-start : tie.Need-part-info-of-start
-part-info-of-start c = search needs
-
-part-info-of-end : tie.Need-part-info-of-end
-part-info-of-end c = search needs
-
-info-of-requires : tie.Need-info-of-requires
-info-of-requires c κs = setup-ready (c .before .before .before .before .args .s .now) (c .before .before .before .before .pre .0)
 
 set-next-id-requires : tie.Need-set-next-id-requires
 set-next-id-requires c κs = search needs
@@ -21,32 +10,33 @@ set-next-id-requires c κs = search needs
 add-row-requires : tie.Need-add-row-requires
 add-row-requires c κs = search needs
 
-push-requires : tie.Need-push-requires
-push-requires c κs = search needs
+tell-requires : tie.Need-tell-requires
+tell-requires c κs = search needs
 
 same-length : tie.Need-same-length
 same-length c = search needs
 
 returns : tie.Need-returns
-returns c = let a = c .before .before .before .before .before .before .before .before .before .before .before .before .before .before .before .before .before .args in
+returns c =
+    let at-tell = c .before .before in
+    let at-add-row = at-tell .before .before .before .before in
+    let at-set-next-id = at-add-row .before .before .before .before in
+    let at-entry = at-set-next-id .before .before .before .before in
+    let a = at-entry .args in
     let s = a .s .now in
-    let s₁ = c .before .before .before .before .before .before .before .before .before .before .set-next-id .last .0 in
-    let s₂ = c .before .before .before .before .before .before .add-row .last .0 in
-    let s₃ = c .before .before .push .last .0 in (
-      place-kept (a .c) (a .next) s s₁ s₂ s₃ (c .before .before .before .before .before .before .before .before .before .before .set-next-id .ensures .0) (c .before .before .before .before .before .before .add-row .ensures .0) (c .before .before .push .ensures .0),
-      place-done (a .c) (a .next) s s₁ s₂ s₃ (c .before .before .before .before .before .before .before .before .before .before .before .before .before .before .before .before .before .pre .1) (c .before .before .before .before .before .before .before .before .before .before .before .before .before .before .before .before .before .pre .3) (c .before .before .before .before .before .before .before .before .before .before .before .before .info-of .result) (c .before .before .before .before .before .before .before .before .before .before .before .before .info-of .ensures) (c .before .before .before .before .before .before .before .before .before .before .set-next-id .ensures .1) (c .before .before .before .before .before .before .add-row .ensures .1) (c .before .before .push .ensures .1),
+    let s₁ = at-set-next-id .set-next-id .last .0 in
+    let s₂ = at-add-row .add-row .last .0 in
+    let s₃ = at-tell .tell .last .0 in (
+      place-kept (a .c) (a .next) s s₁ s₂ s₃ (at-set-next-id .set-next-id .ensures .0) (at-add-row .add-row .ensures .0) (at-tell .tell .ensures .0),
+      place-done (a .c) (a .next) s s₁ s₂ s₃ (at-entry .pre .1) (at-entry .pre .3) (at-set-next-id .set-next-id .ensures .1) (at-add-row .add-row .ensures .1) (at-tell .tell .ensures .1),
     )
 
 pub place-spec : {M : Type 1} → statement M
 place-spec =
     tie.close
     (tie.spec
-    sub-info-of
-    part-info-of-start
-    part-info-of-end
-    info-of-requires
     set-next-id-requires
     add-row-requires
-    push-requires
+    tell-requires
     same-length
     returns)

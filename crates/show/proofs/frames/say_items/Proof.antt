@@ -1,3 +1,4 @@
+-- The loop ends because its turns are counted.
 use borrow.Author.Needs.{needs}
 use Rattle.show.proofs.frames.say_items.Statement.{statement}
 use Rattle.show.proofs.frames.say_items.Tie as tie
@@ -11,8 +12,8 @@ abbrev μ-loop : tie.MeasureT-loop
 loop-holds : tie.Need-loop-holds Inv-loop μ-loop
 loop-holds c = tt
 
-advance-requires : tie.Need-advance-requires Inv-loop μ-loop
-advance-requires c κs = search needs
+read-at-requires : tie.Need-read-at-requires Inv-loop μ-loop
+read-at-requires c κs = search needs
 
 enum-known-kind : tie.Need-enum-known-kind Inv-loop μ-loop
 enum-known-kind c = search needs
@@ -51,7 +52,7 @@ say-items-spec =
     Inv-loop
     μ-loop
     loop-holds
-    advance-requires
+    read-at-requires
     enum-known-kind
     say-item-requires
     enum-told

@@ -1,3 +1,4 @@
+-- One law for each refusal; what passes all of them is accepted.
 use Prim.Native.Nat.{ℕ}
 use mathlib.Core.Path.{ap, sym, _∙_}
 use native.Mathlib.Omega.{arith}
@@ -21,13 +22,17 @@ eds-fits-requires : tie.Need-eds-fits-requires
 eds-fits-requires c κs = search needs
 
 returns-3 : tie.Need-returns-3
-returns-3 c = wrong-eds (c .before .before .before .before .before .before .before .args .block .now) (c .before .before .before .before .before .before .before .args .eds .now) _ (c .before .before .before .u32-at .ensures) (sym (c .before .eds-fits .ensures) ∙ not-true (c .before .eds-fits .result) (c .if3 .taken))
+returns-3 c =
+    let at-eds-fits = c .before in
+    let at-u32-at = at-eds-fits .before .before in
+    let at-entry = at-u32-at .before .before .before .before in
+    wrong-eds (at-entry .args .block .now) (at-entry .args .eds .now) _ (at-u32-at .u32-at .ensures) (sym (at-eds-fits .eds-fits .ensures) ∙ not-true (at-eds-fits .eds-fits .result) (c .if3 .taken))
 
-numbers-fit-requires : tie.Need-numbers-fit-requires
-numbers-fit-requires c κs = search needs
+setup-good-requires : tie.Need-setup-good-requires
+setup-good-requires c κs = search needs
 
 returns-4 : tie.Need-returns-4
-returns-4 c = wrong-numbers (c .before .before .before .before .before .before .before .before .before .args .block .now) _ (sym (c .before .numbers-fit .ensures) ∙ not-true (c .before .numbers-fit .result) (c .if4 .taken))
+returns-4 c = wrong-numbers (c .before .before .before .before .before .before .before .before .before .args .block .now) _ (sym (c .before .setup-good .ensures) ∙ not-true (c .before .setup-good .result) (c .if4 .taken))
 
 u8-at-requires : tie.Need-u8-at-requires
 u8-at-requires c κs = search needs
@@ -36,13 +41,26 @@ cast-n : tie.Need-cast-n
 cast-n c = search needs
 
 shapes-given-requires : tie.Need-shapes-given-requires
-shapes-given-requires c κs = let e = c .u8-at .ensures in let n = few-given (c .before .before .before .before .before .before .before .before .before .before .args .block .now) (sym (c .before .before .numbers-fit .ensures) ∙ not-false (c .before .before .numbers-fit .result) (c .before .if4 .left)) in (omega arith, omega arith)
+shapes-given-requires c κs =
+    let at-if4 = c .before in
+    let at-setup-good = at-if4 .before in
+    let at-entry = at-setup-good .before .before .before .before .before .before .before .before in
+    let e = c .u8-at .ensures in
+    let n = few-given (at-entry .args .block .now) (sym (at-setup-good .setup-good .ensures) ∙ not-false (at-setup-good .setup-good .result) (at-if4 .if4 .left)) in
+    (omega arith, omega arith)
 
 returns-5 : tie.Need-returns-5
 returns-5 c = wrong-shapes (c .before .before .before .before .before .before .before .before .before .before .before .before .args .block .now) _ _ (c .before .before .u8-at .ensures) (sym (c .before .shapes-given .ensures) ∙ not-true (c .before .shapes-given .result) (c .if5 .taken))
 
 once-each-requires : tie.Need-once-each-requires
-once-each-requires c κs = let e = c .before .before .u8-at .ensures in let n = few-given (c .before .before .before .before .before .before .before .before .before .before .before .before .args .block .now) (sym (c .before .before .before .before .numbers-fit .ensures) ∙ not-false (c .before .before .before .before .numbers-fit .result) (c .before .before .before .if4 .left)) in (omega arith, omega arith)
+once-each-requires c κs =
+    let at-u8-at = c .before .before in
+    let at-if4 = at-u8-at .before in
+    let at-setup-good = at-if4 .before in
+    let at-entry = at-setup-good .before .before .before .before .before .before .before .before in
+    let e = at-u8-at .u8-at .ensures in
+    let n = few-given (at-entry .args .block .now) (sym (at-setup-good .setup-good .ensures) ∙ not-false (at-setup-good .setup-good .result) (at-if4 .if4 .left)) in
+    (omega arith, omega arith)
 
 returns-6 : tie.Need-returns-6
 returns-6 c =
@@ -51,7 +69,7 @@ returns-6 c =
     c .once-each .ensures
     ∙ given-once block eds (omega arith) (omega arith)
     (ap (λ (f : ℕ). edsFits f (length eds)) (sym flag) ∙ sym (c .before .before .before .before .before .before .before .eds-fits .ensures) ∙ not-false (c .before .before .before .before .before .before .before .eds-fits .result) (c .before .before .before .before .before .before .if3 .left))
-    (sym (c .before .before .before .before .before .numbers-fit .ensures) ∙ not-false (c .before .before .before .before .before .numbers-fit .result) (c .before .before .before .before .if4 .left))
+    (sym (c .before .before .before .before .before .setup-good .ensures) ∙ not-false (c .before .before .before .before .before .setup-good .result) (c .before .before .before .before .if4 .left))
     _ (c .before .before .before .u8-at .ensures) (omega (arith, c .before .before .before .before .before .before .before .before .before .before .before .before .shared-slice-known .given 1))
     (sym (c .before .before .shapes-given .ensures) ∙ not-false (c .before .before .shapes-given .result) (c .before .if5 .left))
 
@@ -64,7 +82,7 @@ accept-spec =
     returns-2
     eds-fits-requires
     returns-3
-    numbers-fit-requires
+    setup-good-requires
     returns-4
     u8-at-requires
     cast-n
