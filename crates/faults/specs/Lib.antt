@@ -1,4 +1,3 @@
-pub mod Names
 pub mod Bounds
 pub mod RunBit
 pub mod Streams

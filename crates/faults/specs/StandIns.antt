@@ -31,7 +31,7 @@ use Rattle.rules.specs.State.{State}
 use Rattle.rules.specs.Calls.{run}
 use Rattle.wire_opens.specs.Examples.{Example, _is_, Hold}
 use Rattle.rules.proofs.Examples.{start, owner, from, heard, opens, noon, output}
-use Rattle.faults.specs.Names.{Origin}
+use Rattle.steps.specs.Names.{Origin}
 
 -- what an open, a receive and a produce take and leave
 abbrev pub Opens : Type 0

@@ -31,7 +31,7 @@ use Rattle.rules.specs.Lists.{any, keep}
 use Rattle.rules.proofs.ListLaws.{any-map}
 use Rattle.rules.proofs.Examples.{setup, start, ask, from, points, ending}
 use Rattle.rules.specs.State.{State, triadIs}
-use Rattle.isolation.specs.Names.{Triad, Conn}
+use Rattle.steps.specs.Names.{Triad, Conn}
 use Rattle.isolation.specs.Survive.{triad-of, in-table}
 use Rattle.isolation.specs.Demand.{removes, Paired, end, both, second-only, Same-expiries, other, Independent, demand-3}
 
