@@ -1,4 +1,5 @@
 pub mod Bounds
+pub mod Rewinding
 pub mod RunBit
 pub mod Streams
 pub mod StandIns

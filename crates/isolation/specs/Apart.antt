@@ -61,8 +61,7 @@ module _ (r : Fixed → Fixed → Bool) where
   pub apart-append : (c : Conn) (l : List Conn) → any (λ x. r (x .fixed) (c .fixed)) l ≡ false → Apart l → Apart (l ++ (c ∷ []))
   apart-append c [] e d = (refl, tt)
   apart-append c (x ∷ xs) e d =
-      let a = ListLaws.none-passes (λ x. r (x .fixed) (c .fixed)) (x ∷ xs) e in
-      (
+      let a = ListLaws.none-passes (λ x. r (x .fixed) (c .fixed)) (x ∷ xs) e in (
         ListLaws.any-append (λ y. r (x .fixed) (y .fixed)) xs (c ∷ []) ∙ cc (d .0, a .0),
         apart-append c xs (ListLaws.none-is (λ x. r (x .fixed) (c .fixed)) xs (a .1)) (d .1),
       )
