@@ -37,10 +37,10 @@ pub record Sound (u : Setup) (s : State) : Type 0 where
 
 module _ (u : Conn → Conn) (same : (c : Conn) → (u c) .fixed ≡ c .fixed) where
   -- what is asked of the fixed part stays
-  fixed-map : (P : Fixed → Type 0) (l : List Conn) → All (λ c. P (c .fixed)) l → All (λ c. P (c .fixed)) (map u l)
+  pub fixed-map : (P : Fixed → Type 0) (l : List Conn) → All (λ c. P (c .fixed)) l → All (λ c. P (c .fixed)) (map u l)
   fixed-map P l a = ListLaws.all-mapped u (λ c. P (c .fixed)) (λ c. P (c .fixed)) (λ c h. subst P (sym (same c)) h) l a
 
-  fixed-change : (P : Fixed → Type 0) (p : Conn → Bool) (l : List Conn) → All (λ c. P (c .fixed)) l → All (λ c. P (c .fixed)) (changeFirst p u l)
+  pub fixed-change : (P : Fixed → Type 0) (p : Conn → Bool) (l : List Conn) → All (λ c. P (c .fixed)) l → All (λ c. P (c .fixed)) (changeFirst p u l)
   fixed-change P p l a = ListLaws.all-change (λ c. P (c .fixed)) p u (λ c h. subst P (sym (same c)) h) l a
 
 abbrev Feeds : Setup → Fixed → Type 0

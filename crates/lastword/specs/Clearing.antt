@@ -1,0 +1,144 @@
+-- WHAT CLEARS RUN, and what keeps it: the promise's consequences, one call further. A frame decides it, a removal clears it, silence clears it;
+-- and what is in run was heard.
+use mathlib.Core.Path.{_≡_, refl, sym, _∙_, ap, subst}
+use mathlib.Core.List.{List, [], _∷_, _++_}
+use mathlib.Core.Option.{Option, none, some}
+use mathlib.Core.Bool.{Bool, true, false, cond, not, _&&_, _||_}
+use Prim.Native.Nat.{ℕ, _+_, _-_, _^_, _≤_, _<_}
+use native.Mathlib.Omega.{arith}
+use lib.Dec.{eqb, ltb}
+use borrow.Author.Tests.{ltb-false, lt-ltb}
+use Rattle.wire_items.specs.Frames.{ioOf}
+use Rattle.wire_opens.specs.Requests.{closeOf}
+use Rattle.wire_opens.specs.declared.CloseAnswer.the-variants.{Close}
+use Rattle.rules.specs.Lists.{any, maybe, isSome}
+use Rattle.rules.proofs.ListLaws.{by-cases, clash, and-left}
+use Rattle.rules.proofs.ExpiryLaws.{same-test}
+use Rattle.rules.specs.State.{Setup, shapeAt, State, contentAt, triadIs, isOutput}
+use Rattle.rules.specs.Setup.{fresh}
+use Rattle.rules.specs.Answers.{Answer, isYes, timely}
+use Rattle.rules.specs.Checks.{placeOf}
+use Rattle.rules.specs.Receiving.{Frame, frameOf, receiveAnswer, receiveCall}
+use Rattle.rules.specs.Removal.{expireAnswer, expireCall}
+use Rattle.rules.specs.Calls
+use Rattle.rules.specs.Calls.{Call, answer, next, run}
+use Rattle.isolation.specs.Survive.{triad-is-refl}
+use Rattle.steps.specs.Names.{Triad}
+use Rattle.steps.specs.Steps.{log, news, learnt, history, history-next, run-next, Quiet, Follows, run-follows}
+use Rattle.lastword.specs.Words.{Contact, isFor, inOrder, isNews, speaks, noted, silent, Word, counts, fits, saysRun, takes, asksFor, wordOf, noWord, inRun, contactOf, opens, early}
+use Rattle.lastword.specs.Knows.{or-yes}
+use Rattle.lastword.specs.LastWord.{accepted, word, lane-obeys}
+
+-- ---- of a word alone
+
+-- what was taken from an owner was recorded
+abbrev spoken : Word → Bool
+spoken w = not (isSome (w .said)) || maybe true (λ m. isSome (m .last)) (w .owner)
+
+frame-spoken : (size t from : ℕ) (f : Frame) (o : Option Contact) (x : Option Frame) → not (isSome x) || maybe true (λ m. isSome (m .last)) o ≡ true →
+    not (isSome (cond (maybe false (counts size from f) o) (some f) x)) || maybe true (λ m. isSome (m .last)) (maybe none (λ m. some (cond (speaks from f m) (noted t f m) m)) o) ≡ true
+frame-spoken size t from f none x h = h
+frame-spoken size t from f (some m) x h =
+    by-cases (speaks from f m)
+    (λ y. rw y (or-yes (not (isSome (cond (isNews (m .cip) f && fits size f) (some f) x)))))
+    (λ n. rw n h)
+
+close-spoken : (k : Triad) (o : Option Contact) (x : Option Frame) → not (isSome x) || maybe true (λ m. isSome (m .last)) o ≡ true →
+    not (isSome x) || maybe true (λ m. isSome (m .last)) (maybe none (λ m. cond (triadIs k (m .triad)) none (some m)) o) ≡ true
+close-spoken k none x h = h
+close-spoken k (some m) x h = by-cases (triadIs k (m .triad)) (λ y. rw y (or-yes (not (isSome x)))) (λ n. rw n h)
+
+expire-spoken : (t : ℕ) (o : Option Contact) (x : Option Frame) → not (isSome x) || maybe true (λ m. isSome (m .last)) o ≡ true →
+    not (isSome x) || maybe true (λ m. isSome (m .last)) (maybe none (λ m. cond (silent t m) none (some m)) o) ≡ true
+expire-spoken t none x h = h
+expire-spoken t (some m) x h = by-cases (silent t m) (λ y. rw y (or-yes (not (isSome x)))) (λ n. rw n h)
+
+open-spoken : (b : Bool) (m : Contact) (o : Option Contact) (x : Option Frame) → not (isSome x) || maybe true (λ m. isSome (m .last)) o ≡ true →
+    not (isSome (cond b none x)) || maybe true (λ m. isSome (m .last)) (cond b (some m) o) ≡ true
+open-spoken true m o x h = refl
+open-spoken false m o x h = h
+
+always-spoken : (u : Setup) (n size : ℕ) (cs : List Call) (s : State) (w : Word) → spoken w ≡ true → spoken (history (wordOf u n size) (log cs s) w) ≡ true
+always-spoken u n size cs s w h =
+    run-follows (wordOf u n size) (λ w s. spoken w ≡ true)
+    (record {
+      quiet = λ w. record { producing = λ t s h. h; setting = λ m j bytes s e h. h; reading = λ m j s e h. h; noting = λ s h. h };
+      opening = λ t request q g p s w e h. open-spoken (asksFor u n request q) _ (w .owner) (w .said) h;
+      closing = λ k c s w e h. close-spoken k (w .owner) (w .said) h;
+      expiring = λ t s w h. expire-spoken t (w .owner) (w .said) h;
+      hearing = λ t from f s w h. frame-spoken size t from f (w .owner) (w .said) h;
+    }) cs s w h
+
+-- ---- after one call
+module _ (u : Setup) (n i : ℕ) (there : placeOf isOutput u n ≡ some i) (seed : ℕ) (small : seed < 2 ^ 32) (cs : List Call) (few : early (accepted u n i there seed small cs) ≡ true) where
+  abbrev before : State
+  before = run cs (fresh u seed)
+
+  abbrev told : Word
+  told = word u n i there seed small cs
+
+  abbrev toldBy : Call → Word
+  toldBy c = learnt (wordOf u n (shapeAt u i .size)) (news c (answer c before)) told
+
+  -- a call that opens nothing
+  abbrev Opens-none : Call → Type 0
+  Opens-none c = (d : ℕ) → learnt opens (news c (answer c (run cs (fresh u seed)))) d ≡ d
+
+  obeys-next : (c : Call) → Opens-none c → contentAt (next c before) i .run ≡ inRun (toldBy c)
+  obeys-next c none-open =
+      let few′ : early (accepted u n i there seed small (cs ++ (c ∷ []))) ≡ true = ap early (history-next opens cs c (fresh u seed) 0 ∙ none-open (accepted u n i there seed small cs)) ∙ few in
+      ap (λ (s : State). contentAt s i .run) (sym (run-next cs c (fresh u seed))) ∙ lane-obeys u n i there seed small (cs ++ (c ∷ [])) few′ .run ∙
+      ap inRun (history-next (wordOf u n (shapeAt u i .size)) cs c (fresh u seed) noWord)
+
+  -- A FRAME DECIDES: after a frame that is taken, run is bit 0 of its header
+  frame-says : (size t from : ℕ) (f : Frame) (o : Option Contact) (x : Option Frame) → maybe false (counts size from f) o ≡ true →
+      maybe false (λ m. maybe false saysRun (cond (maybe false (counts size from f) o) (some f) x)) (maybe none (λ m. some (cond (speaks from f m) (noted t f m) m)) o) ≡ saysRun f
+  frame-says size t from f none x y = clash true refl (sym y)
+  frame-says size t from f (some m) x y = ap (λ b. maybe false saysRun (cond b (some f) x)) y
+
+  frame-opens-none : (t from : ℕ) (frame : List ℕ) (f : Frame) → timely t ≡ true → frameOf frame (ioOf frame) ≡ some f → Opens-none (Calls.Receive t from frame)
+  unfolding receiveCall receiveAnswer
+  frame-opens-none t from frame f y e d = rw (y, e) refl
+
+  frame-told : (t from : ℕ) (frame : List ℕ) (f : Frame) → timely t ≡ true → frameOf frame (ioOf frame) ≡ some f →
+      toldBy (Calls.Receive t from frame) ≡ wordOf u n (shapeAt u i .size) .onFrame t from f told
+  unfolding receiveCall receiveAnswer
+  frame-told t from frame f y e = rw (y, e) refl
+
+  pub frame-decides : (t from : ℕ) (frame : List ℕ) (f : Frame) → timely t ≡ true → frameOf frame (ioOf frame) ≡ some f → takes (shapeAt u i .size) from f told ≡ true →
+      contentAt (next (Calls.Receive t from frame) before) i .run ≡ saysRun f
+  frame-decides t from frame f y e k =
+      obeys-next (Calls.Receive t from frame) (frame-opens-none t from frame f y e) ∙ ap inRun (frame-told t from frame f y e) ∙
+      frame-says (shapeAt u i .size) t from f (told .owner) (told .said) k
+
+  -- CLEARED BY A FRAME whose header bit is clear
+  pub cleared-by-a-frame : (t from : ℕ) (frame : List ℕ) (f : Frame) → timely t ≡ true → frameOf frame (ioOf frame) ≡ some f → takes (shapeAt u i .size) from f told ≡ true →
+      saysRun f ≡ false → contentAt (next (Calls.Receive t from frame) before) i .run ≡ false
+  cleared-by-a-frame t from frame f y e k z = frame-decides t from frame f y e k ∙ z
+
+  -- CLEARED BY ITS OWNER'S CLOSE
+  pub cleared-by-a-close : (request : List ℕ) (room : ℕ) (m : Contact) → isYes (answer (Calls.Close request room) before) ≡ true → told .owner ≡ some m →
+      closeOf request ≡ Close (m .triad) → contentAt (next (Calls.Close request room) before) i .run ≡ false
+  cleared-by-a-close request room m y o e =
+      obeys-next (Calls.Close request room) (λ d. rw (y, e) refl) ∙ ap inRun by-close
+    where
+      by-close : toldBy (Calls.Close request room) ≡ record { owner = none; said = told .said; taken = told .taken }
+      by-close = rw (y, e, o, triad-is-refl (m .triad)) refl
+
+  -- CLEARED BY SILENCE: after an expiry call later than its owner was heard last, plus the timeout
+  pub cleared-by-silence : (t : ℕ) (m : Contact) → timely t ≡ true → told .owner ≡ some m → m .at + m .timeout < t →
+      contentAt (next (Calls.Expire t) before) i .run ≡ false
+  unfolding expireCall expireAnswer
+  cleared-by-silence t m y o k =
+      let z : silent t m ≡ true = same-test (m .timeout) (m .at) t ∙ lt-ltb (m .at + m .timeout) t k in
+      obeys-next (Calls.Expire t) (λ d. rw y refl) ∙ ap inRun (by-silence z)
+    where
+      by-silence : silent t m ≡ true → toldBy (Calls.Expire t) ≡ record { owner = none; said = told .said; taken = told .taken }
+      by-silence z = rw (y, o, z) refl
+
+-- ---- WHAT IS IN RUN WAS HEARD
+pub record Heard-lately (t : ℕ) (w : Word) : Type 0 where
+  pub who : Contact
+  pub owner : w .owner ≡ some who
+  pub recorded : isSome (who .last) ≡ true
+  pub lately : t ≤ who .at + who .timeout
