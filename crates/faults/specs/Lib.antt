@@ -3,3 +3,4 @@ pub mod Rewinding
 pub mod RunBit
 pub mod Streams
 pub mod StandIns
+pub mod Examples

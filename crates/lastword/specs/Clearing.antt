@@ -142,3 +142,50 @@ pub record Heard-lately (t : ℕ) (w : Word) : Type 0 where
   pub owner : w .owner ≡ some who
   pub recorded : isSome (who .last) ≡ true
   pub lately : t ≤ who .at + who .timeout
+
+recorded-if : (m : Contact) (x : Option Frame) → maybe false saysRun x ≡ true → not (isSome x) || isSome (m .last) ≡ true → isSome (m .last) ≡ true
+recorded-if m none y h = clash true refl (sym y)
+recorded-if m (some f) y h = h
+
+-- an owner whose frame was recorded
+pub record Recorded (w : Word) : Type 0 where
+  pub who : Contact
+  pub owner : w .owner ≡ some who
+  pub recorded : isSome (who .last) ≡ true
+
+owner-recorded : (o : Option Contact) (x y : Option Frame) → not (isSome x) || maybe true (λ m. isSome (m .last)) o ≡ true → maybe false (λ m. maybe false saysRun x) o ≡ true →
+    Recorded (record { owner = o; said = x; taken = y })
+owner-recorded none x y h k = clash true refl (sym k)
+owner-recorded (some m) x y h k = record { who = m; owner = refl; recorded = recorded-if m x k h }
+
+not-silent : (t : ℕ) (m : Contact) → silent t m ≡ false → t ≤ m .at + m .timeout
+not-silent t m k = let h = ltb-false (m .timeout) (t - m .at) k in omega arith
+
+lately-heard : (t : ℕ) (o : Option Contact) (x y : Option Frame) → not (isSome x) || maybe true (λ m. isSome (m .last)) o ≡ true →
+    let o′ = maybe none (λ m. cond (silent t m) none (some m)) o in
+    maybe false (λ m. maybe false saysRun x) o′ ≡ true → Heard-lately t (record { owner = o′; said = x; taken = y })
+lately-heard t none x y h k = clash true refl (sym k)
+lately-heard t (some m) x y h k =
+    by-cases (silent t m)
+    (λ z. clash true refl (sym (sym (ap (λ b. maybe false (λ (m : Contact). maybe false saysRun x) (cond b none (some m))) z) ∙ k)))
+    (λ z. let run = sym (ap (λ b. maybe false (λ (m : Contact). maybe false saysRun x) (cond b none (some m))) z) ∙ k in
+    record { who = m; owner = ap (λ b. cond b none (some m)) z; recorded = recorded-if m x run h; lately = not-silent t m z })
+
+module _ (u : Setup) (n i : ℕ) (there : placeOf isOutput u n ≡ some i) (seed : ℕ) (small : seed < 2 ^ 32) (cs : List Call) (few : early (accepted u n i there seed small cs) ≡ true) where
+  -- IN RUN MEANS that the owner's frames were recorded
+  pub in-run-was-recorded : contentAt (run cs (fresh u seed)) i .run ≡ true → Recorded (word u n i there seed small cs)
+  in-run-was-recorded y =
+      let w = word u n i there seed small cs in
+      owner-recorded (w .owner) (w .said) (w .taken) (always-spoken u n (shapeAt u i .size) cs (fresh u seed) noWord refl) (sym (lane-obeys u n i there seed small cs few .run) ∙ y)
+
+  -- AFTER AN EXPIRY CALL at time t, what is in run has an owner with a recorded frame at most its timeout before t
+  pub in-run-was-heard : (t : ℕ) → timely t ≡ true → contentAt (next (Calls.Expire t) (run cs (fresh u seed))) i .run ≡ true →
+      Heard-lately t (word u n i there seed small (cs ++ (Calls.Expire t ∷ [])))
+  unfolding expireCall expireAnswer
+  in-run-was-heard t y k =
+      let w = word u n i there seed small cs in
+      let w′ : Word = wordOf u n (shapeAt u i .size) .onExpire t w in
+      let z : learnt (wordOf u n (shapeAt u i .size)) (news (Calls.Expire t) (answer (Calls.Expire t) (run cs (fresh u seed)))) w ≡ w′ = rw y refl in
+      let e : word u n i there seed small (cs ++ (Calls.Expire t ∷ [])) ≡ w′ = history-next (wordOf u n (shapeAt u i .size)) cs (Calls.Expire t) (fresh u seed) noWord ∙ z in
+      let r : inRun w′ ≡ true = sym (obeys-next u n i there seed small cs few (Calls.Expire t) (λ d. rw y refl) ∙ ap inRun z) ∙ k in
+      subst (Heard-lately t) (sym e) (lately-heard t (w .owner) (w .said) (w .taken) (always-spoken u n (shapeAt u i .size) cs (fresh u seed) noWord refl) r)

@@ -40,44 +40,7 @@ use Rattle.lastword.specs.Words.{Contact, met, isFor, inOrder, isNews, c
 use Rattle.lastword.specs.Ids.{Ground, ground-follows, fresh-ground, next-is-new, fewer-early}
 use Rattle.lastword.specs.Knows.{Ear, Known, meant-is, crowds, passes, Knows, gone, knows-removing, knows-closing, knows-expiring, knows-hearing, knows-opening, knows-producing, found-is-met}
 use Rattle.lastword.specs.Present.{any-left, present-closing, present-expiring}
-use Rattle.lastword.specs.Outputs.{at-place, admits, output-there, taken-is, as-said}
-
--- ---- lists
-change-there : (i : ℕ) (f : Content → Content) (l : List Content) → i < length l → getD (changeAt i f l) i noContent ≡ f (getD l i noContent)
-change-there i f [] h = absurd (omega (arith, h))
-change-there zero f (a ∷ l) h = refl
-change-there (suc i) f (a ∷ l) h = change-there i f l (omega (arith, h))
-
-length-at : (j : ℕ) (f : Content → Content) (l : List Content) → length (changeAt j f l) ≡ length l
-length-at j f [] = refl
-length-at zero f (a ∷ l) = refl
-length-at (suc j) f (a ∷ l) = ap suc (length-at j f l)
-
-config-no-output : (k : AssemblyKind) → isConfig k ≡ true → isOutput k ≡ false
-config-no-output Input e = refl
-config-no-output Output e = sym e
-config-no-output Config e = refl
-
--- where an owner comes nothing was taken from it
-opened-run : (r a o : Bool) (x : Option Frame) → r ≡ a && maybe false saysRun x → (o ≡ true → a ≡ false) → r ≡ (a || (o || false)) && maybe false saysRun (cond o none x)
-opened-run r true true x e k = clash true refl (k refl)
-opened-run r true false x e k = e
-opened-run r false true x e k = e
-opened-run r false false x e k = e
-
-opened-present : (x : Option Contact) (m : Contact) (a o : Bool) → isSome x ≡ a → isSome (cond o (some m) x) ≡ a || (o || false)
-opened-present x m true true e = refl
-opened-present x m true false e = e
-opened-present x m false true e = refl
-opened-present x m false false e = e
-
-not-taken : (size from : ℕ) (f : Frame) (o : Option Contact) → maybe false (isFor from f) o ≡ false → maybe false (counts size from f) o ≡ false
-not-taken size from f none h = refl
-not-taken size from f (some m) h = ap (λ b. b && inOrder (m .last) f && isNews (m .cip) f && fits size f) h
-
-in-run-is : (o : Option Contact) (b : Bool) → isSome o && b ≡ maybe false (λ m. b) o
-in-run-is none b = refl
-in-run-is (some m) b = refl
+use Rattle.lastword.specs.Outputs.{at-place, admits, output-there, taken-is, as-said, change-there, length-at, config-no-output, opened-run, opened-present, not-taken, in-run-is}
 
 -- ---- one output: of instance number n, at place i of the setup's list
 module _ (u : Setup) (n i : ℕ) (there : placeOf isOutput u n ≡ some i) where
@@ -347,7 +310,7 @@ module _ (u : Setup) (n i : ℕ) (there : placeOf isOutput u n ≡ some i) where
           opening = λ t request q g p s w e h. (
             k .opening t request q g p s (w .0) e (h .0),
             (λ y. let z = fewer-early (w .0) y in
-            opening t request q g p s (w .1) e (h .0 .sound .setup) (next-is-new _ (w .0) s (h .0 .ids z)) (h .1 z)),
+                opening t request q g p s (w .1) e (h .0 .sound .setup) (next-is-new _ (w .0) s (h .0 .ids z)) (h .1 z)),
           );
           closing = λ d c s w e h. (k .closing d c s (w .0) e (h .0), (λ y. closing d c s (w .1) (h .0 .sound .distinct) e (h .1 y)));
           expiring = λ t s w h. (k .expiring t s (w .0) (h .0), (λ y. expiring t s (w .1) (h .1 y)));

@@ -6,3 +6,4 @@ pub mod Outputs
 pub mod LastWord
 pub mod Heard
 pub mod Clearing
+pub mod Examples

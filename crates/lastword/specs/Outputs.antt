@@ -1,4 +1,4 @@
--- What an accepted open and a frame come to for an output: which open asks for it, and which frames are taken.
+-- What an accepted open and a frame come to for an output: which open asks for it, and which frames are taken; and small laws of words.
 use mathlib.Core.Path.{_≡_, refl, sym, _∙_, ap, ap₂, subst}
 use mathlib.Core.List.{List, [], _∷_, _++_}
 use mathlib.Core.Option.{Option, none, some}
@@ -23,7 +23,7 @@ use Rattle.rules.specs.Opening.{newFixed, askedPath, verdictOf}
 use Rattle.rules.specs.Receiving.{Frame, newer, taken, changes, deliver}
 use Rattle.faults.specs.RunBit.{ownerOf}
 use Rattle.steps.specs.Names.{AssemblyKind, ConnectionPath, ForwardOpen, Origin, Conn, Plan}
-use Rattle.lastword.specs.Words.{Contact, isFor, inOrder, isNews, speaks, asksFor, fits, saysRun, dataIn, counts}
+use Rattle.lastword.specs.Words.{Contact, isFor, inOrder, isNews, asksFor, fits, saysRun, dataIn, counts}
 use Rattle.lastword.specs.Knows.{Ear, newer-is, news-is, meant-is}
 
 -- ---- PLACES
@@ -163,8 +163,7 @@ not-false-is false e = sym e
 unchanged : (f : Frame) (a : Content) → changes f a ≡ false → (a .run ≡ saysRun f) × (a .bytes ≡ dataIn f)
 unfolding changes
 unchanged f a e =
-    let b = not-false-is (same (a .bytes) (dataIn f) && Bool·beq (a .run) (saysRun f)) e in
-    (
+    let b = not-false-is (same (a .bytes) (dataIn f) && Bool·beq (a .run) (saysRun f)) e in (
       beq-is (a .run) (saysRun f) (and-right (same (a .bytes) (dataIn f)) (Bool·beq (a .run) (saysRun f)) b),
       same-is (a .bytes) (dataIn f) (and-left (same (a .bytes) (dataIn f)) (Bool·beq (a .run) (saysRun f)) b),
     )
@@ -172,3 +171,40 @@ unchanged f a e =
 pub as-said : (f : Frame) (a : Content) → (deliver f a .run ≡ saysRun f) × (deliver f a .bytes ≡ dataIn f)
 unfolding deliver
 as-said f a = by-cases (changes f a) (λ y. rw y (refl, refl)) (λ n. rw n (unchanged f a n))
+
+-- ---- lists
+pub change-there : (i : ℕ) (f : Content → Content) (l : List Content) → i < length l → getD (changeAt i f l) i noContent ≡ f (getD l i noContent)
+change-there i f [] h = absurd (omega (arith, h))
+change-there zero f (a ∷ l) h = refl
+change-there (suc i) f (a ∷ l) h = change-there i f l (omega (arith, h))
+
+pub length-at : (j : ℕ) (f : Content → Content) (l : List Content) → length (changeAt j f l) ≡ length l
+length-at j f [] = refl
+length-at zero f (a ∷ l) = refl
+length-at (suc j) f (a ∷ l) = ap suc (length-at j f l)
+
+pub config-no-output : (k : AssemblyKind) → isConfig k ≡ true → isOutput k ≡ false
+config-no-output Input e = refl
+config-no-output Output e = sym e
+config-no-output Config e = refl
+
+-- where an owner comes nothing was taken from it
+pub opened-run : (r a o : Bool) (x : Option Frame) → r ≡ a && maybe false saysRun x → (o ≡ true → a ≡ false) → r ≡ (a || (o || false)) && maybe false saysRun (cond o none x)
+opened-run r true true x e k = clash true refl (k refl)
+opened-run r true false x e k = e
+opened-run r false true x e k = e
+opened-run r false false x e k = e
+
+pub opened-present : (x : Option Contact) (m : Contact) (a o : Bool) → isSome x ≡ a → isSome (cond o (some m) x) ≡ a || (o || false)
+opened-present x m true true e = refl
+opened-present x m true false e = e
+opened-present x m false true e = refl
+opened-present x m false false e = e
+
+pub not-taken : (size from : ℕ) (f : Frame) (o : Option Contact) → maybe false (isFor from f) o ≡ false → maybe false (counts size from f) o ≡ false
+not-taken size from f none h = refl
+not-taken size from f (some m) h = ap (λ b. b && inOrder (m .last) f && isNews (m .cip) f && fits size f) h
+
+pub in-run-is : (o : Option Contact) (b : Bool) → isSome o && b ≡ maybe false (λ m. b) o
+in-run-is none b = refl
+in-run-is (some m) b = refl
