@@ -7,7 +7,7 @@ fn main() {
     let copies = [
         Copy::unchanged("reference"),
         Copy::unchanged("again"),
-        // D1 as document 01 says it, in the text itself: shows that the runner's own way with D1 is exact
+        // D1 as the rules say it, in the text itself: shows that the runner's own way with D1 is exact
         Copy {
             name: "documented".into(),
             edits: vec![

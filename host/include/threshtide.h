@@ -1,8 +1,8 @@
 /* The C functions of Threshtide, as its Rattle source declares them. Made by host/generate: do not edit.
  *
  * A slice is a pointer and a length. Slices of one call must not overlap where one of them is written to. An
- * answer's low byte is 0 for yes, or document 01's number for no; its value stands in bits 8 and up. The pointer
- * of an empty slice is not read, but must not be null. */
+ * answer's low byte is 0 for yes, or a number for no; its value stands in bits 8 and up. The pointer of an empty
+ * slice is not read, but must not be null. docs/INTERFACE.md is the page for hosts. */
 #ifndef THRESHTIDE_H
 #define THRESHTIDE_H
 

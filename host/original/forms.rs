@@ -18,7 +18,7 @@ fn text(bytes: &[u8]) -> String {
     unsafe { String::from_utf8_unchecked(bytes.to_vec()) }
 }
 
-/// The setup of a block and an EDS; None where document 01 says No. 2.
+/// The setup of a block and an EDS; None where setup answers No. 2.
 pub(super) fn config(block: &[u8], eds: &[u8]) -> Option<AdapterConfig> {
     if block.len() != BLOCK {
         return None;

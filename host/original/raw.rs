@@ -13,7 +13,7 @@ pub struct Raw {
 }
 
 impl Raw {
-    /// None where document 01 says No. 2.
+    /// None where setup answers No. 2.
     pub fn new(block: &[u8], eds: &[u8], seed: u32) -> Option<Raw> {
         Some(Raw { state: State::new(config(block, eds)?, seed), base: Instant::now() })
     }

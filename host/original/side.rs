@@ -1,4 +1,4 @@
-//! ciplink behind the C interface's calls: its results as document 01's numbers and bytes. What document 01 has and
+//! ciplink behind the C interface's calls: its results as the interface's numbers and bytes. What the rules have and
 //! ciplink has not is done here and nowhere else: lent room and times (No. 1, 2, 3, 8), the sizes, D1 (`MEND_D1`),
 //! D2 (a Config event as instance and length), D3 (a copy is asked about the 33rd connection), and the three messages
 //! outside the domain.
@@ -130,7 +130,7 @@ fn expire(state: &mut State, now: Instant) {
     }
 }
 
-/// What document 01 answers to the messages outside the domain.
+/// What the rules answer to the messages outside the domain (docs/DIFFERENCES.md).
 fn outside_the_domain(message: &[u8]) -> Option<u8> {
     let request = wire::parse_request(message)?;
     match wire::class_instance(&request.path)? {

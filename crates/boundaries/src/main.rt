@@ -1,4 +1,4 @@
-// The limits of document 01 that concern the wire, run and compared: each line of stdout is one input and its answer.
+// The limits of the rules that concern the wire, run and compared: each line of stdout is one input and its answer.
 mod cuts;
 mod frames;
 mod opens;

@@ -1,4 +1,4 @@
-// The limits of document 01 that concern the calls, run and compared: each line of stdout is one call and its answer.
+// The limits of the rules that concern the calls, run and compared: each line of stdout is one call and its answer.
 mod chance;
 mod every;
 mod instances;

@@ -6,7 +6,7 @@ mod text;
 
 use libc::STDERR_FILENO;
 
-// One byte more than document 01's sizes, so that a file over size is seen to be.
+// One byte more than the greatest frame or message (rules 1), so that a file over size is seen to be.
 const ROOM: usize = 65537;
 
 fn usage() {

@@ -38,9 +38,9 @@ fn say_triad(t: Triad) {
 fn say_transport(t: u8) {
     text::hex(b"  transport ", t as u32, 2);
     if wire_opens::transport_ok(t) {
-        text::words(b" (class 1, passes check 1)\n");
+        text::words(b" (class 1, bit 7 clear: accepted)\n");
     } else {
-        text::words(b" (fails check 1: class 1 with bit 7 clear would pass)\n");
+        text::words(b" (refused with 0x0103: class 1 with bit 7 clear is accepted)\n");
     }
 }
 

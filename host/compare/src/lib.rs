@@ -1,7 +1,7 @@
 //! Threshtide and ciplink driven with the same calls on a fake clock, and compared after every one.
 //!
 //! A [`Call`] is a call of the C interface; a [`Side`] is one of the two that are compared; a [`Run`] is a list of
-//! calls that begins with a setup. [`Runner`] makes runs that aim at document 01's edges, compares every answer and
+//! calls that begins with a setup. [`Runner`] makes runs that aim at the rules' edges, compares every answer and
 //! every field of the state, and shrinks a run that shows a difference.
 
 // the copies of ciplink's files name this crate, here and in `plants`

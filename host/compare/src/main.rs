@@ -16,7 +16,7 @@ Drives ciplink and the library with the same calls and compares every answer and
   --run N           only the run of that number, as a difference names it
   --against SIDE    library     Threshtide's static library (default, if built in)
                     original    ciplink a second time: nothing may be found
-                    documented  ciplink with D1 in its text as document 01 has it: nothing may be found
+                    documented  ciplink with D1 in its text as the rules have it: nothing may be found
   --shrink SECONDS  for how long to shorten a run that shows a difference (default 20)
   --tally           print how often each call and answer came
   --record FILE     compare nothing: write calls and what ciplink answers to them, for crates/replay

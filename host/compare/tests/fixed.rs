@@ -1,5 +1,5 @@
-//! Document 01's limits and the known differences, each as its smallest run: the two sides agree, and the answers are
-//! the ones that document 01 names.
+//! The rules' limits and the known differences, each as its smallest run: the two sides agree, and the answers are the
+//! ones that the rules name.
 
 use compare::bytes::{self, MULTICAST, Open, POINT_TO_POINT, Params, Seg, Setup, Shape};
 use compare::{Call, MAX_PACKETS, Side, answers, ciplink, replay, show_run};

@@ -172,8 +172,7 @@ impl Application for Lane {
     }
 
     fn refused(&mut self, _: u64, peer: Ipv4Addr, refusal: &Refusal) {
-        let check = refusal.word.checks().unwrap_or("unknown");
-        self.timeline.say("adapter", format!("refuses {peer}: check {check} of document 01 does not hold"));
+        self.timeline.say("adapter", format!("refuses {peer}: {refusal}"));
         self.tell(Told::Refused(peer, *refusal));
     }
 

@@ -1,4 +1,4 @@
-//! The command `plants`: every planted wrong reading of document 01 must be noticed.
+//! The command `plants`: every planted wrong reading of the rules must be noticed.
 
 mod list;
 

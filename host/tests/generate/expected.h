@@ -1,8 +1,8 @@
 /* The C functions of Threshtide, as its Rattle source declares them. Made by host/generate: do not edit.
  *
  * A slice is a pointer and a length. Slices of one call must not overlap where one of them is written to. An
- * answer's low byte is 0 for yes, or document 01's number for no; its value stands in bits 8 and up. The pointer
- * of an empty slice is not read, but must not be null. */
+ * answer's low byte is 0 for yes, or a number for no; its value stands in bits 8 and up. The pointer of an empty
+ * slice is not read, but must not be null. docs/INTERFACE.md is the page for hosts. */
 #ifndef THRESHTIDE_H
 #define THRESHTIDE_H
 
@@ -48,7 +48,7 @@ uint64_t threshtide_assembly(
     uint8_t *out,
     size_t out_len);
 
-/* Opens a connection: the thirteen checks of document 01, then the effect.
+/* Opens a connection: thirteen checks, then the effect.
  * Yes: 26 reply bytes; multicast in bits 8 to 15, port in 16 to 31, address in 32 to 63. No: 1, 3, 4, 5, 8. */
 uint64_t threshtide_open(
     uint8_t *state,

@@ -1,7 +1,7 @@
 //! The C functions of Threshtide, as its Rattle source declares them. Made by host/generate: do not edit.
 //!
-//! A slice is a pointer and a length. An answer's low byte is 0 for yes, or document 01's number for no; its value
-//! stands in bits 8 and up.
+//! A slice is a pointer and a length. An answer's low byte is 0 for yes, or a number for no; its value stands in
+//! bits 8 and up (docs/INTERFACE.md).
 
 unsafe extern "C" {
     /// The size of a state in bytes.
@@ -47,7 +47,7 @@ unsafe extern "C" {
         out_len: usize,
     ) -> u64;
 
-    /// Opens a connection: the thirteen checks of document 01, then the effect.
+    /// Opens a connection: thirteen checks, then the effect.
     /// Yes: 26 reply bytes; multicast in bits 8 to 15, port in 16 to 31, address in 32 to 63. No: 1, 3, 4, 5, 8.
     pub fn threshtide_open(
         state: *mut u8,

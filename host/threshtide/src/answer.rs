@@ -1,4 +1,4 @@
-//! The library's answers: a number for yes or no, as document 01 counts the reasons for no.
+//! The library's answers: 0 for yes, or a number for the reason for no (docs/INTERFACE.md).
 
 use crate::Word;
 use std::error::Error;
@@ -26,7 +26,7 @@ pub enum No {
 }
 
 impl No {
-    /// The number that document 01 gives it.
+    /// Its number (docs/INTERFACE.md).
     pub fn number(self) -> u8 {
         match self {
             No::State => 1,
@@ -69,7 +69,7 @@ impl fmt::Display for No {
 
 impl Error for No {}
 
-/// An open that failed one of document 01's thirteen checks.
+/// An open that failed one of its thirteen checks (docs/RULES.md, chapter 6).
 ///
 /// [`general`](Refusal::general) and [`words`](Refusal::words) go into the reply to the originator, with the bytes of
 /// [`open_refusal`](crate::open_refusal) as its data.

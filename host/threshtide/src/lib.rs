@@ -75,7 +75,7 @@
 //!
 //! # Numbers for no
 //!
-//! [`No`] has document 01's numbers and their meaning, [`Refusal`] the words of a refused open, [`Word::meaning`] what
+//! [`No`] has the numbers and their meaning, [`Refusal`] the words of a refused open, [`Word::meaning`] what
 //! each word means.
 
 mod adapter;

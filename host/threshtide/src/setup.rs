@@ -128,7 +128,7 @@ impl Default for Setup {
     }
 }
 
-/// The size of document 01 that a setup is beyond (No. 2).
+/// The size that a setup is beyond (No. 2; docs/RULES.md, chapter 1).
 #[derive(Clone, Copy, Debug, PartialEq, Eq, Hash)]
 pub enum SetupError {
     /// More than 16 assemblies: so many.

@@ -1,7 +1,7 @@
 //! The C functions of Threshtide, as its Rattle source declares them. Made by host/generate: do not edit.
 //!
-//! A slice is a pointer and a length. An answer's low byte is 0 for yes, or document 01's number for no; its value
-//! stands in bits 8 and up.
+//! A slice is a pointer and a length. An answer's low byte is 0 for yes, or a number for no; its value stands in
+//! bits 8 and up (docs/INTERFACE.md).
 
 unsafe extern "C" {
     /// Closes a connection. Yes: 10 reply bytes. No: 1, 4, 9, 8.

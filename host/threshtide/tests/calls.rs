@@ -160,8 +160,8 @@ fn a_refused_open_has_its_word_and_meaning() {
     assert_eq!(size.to_string(), "0x0109 invalid connection size; the size that fits follows (fits: 8)");
     let path = refused(&mut a, &request(1, 8, false, &[0x20, 4, 0x2C, 150, 0x2C, 101]));
     assert_eq!((path.word, path.size), (Word(0x0117), None));
-    assert!(path.word.meaning().is_some() && path.word.checks() == Some("4"));
-    assert!(Word::all().all(|w| w.meaning().is_some() && w.checks().is_some()));
+    assert!(path.word.meaning().is_some() && path.word.rules() == Some("6.4"));
+    assert!(Word::all().all(|w| w.meaning().is_some() && w.rules().is_some()));
     assert_eq!(Word(0x0200).meaning(), None);
     assert_eq!(open_refusal(Service::ForwardOpen, &owner(9)), Ok([9, 0, 2, 0, 3, 0, 0, 0, 0, 0]));
     assert_eq!(a.open(0, Service::LargeForwardOpen, &[0; 39], &origin()), Err(OpenError::No(No::Parse)));

@@ -9,7 +9,7 @@ const USAGE: &str = "\
 usage: hammer [--seed N] [--calls N]
 
 Makes random calls of the library on states of random bytes, on states of random bytes that pass the state test, and on states
-that a few bytes of were changed; says how each was answered. An answer that document 01 has no number for, or a state that
+that a few bytes of were changed; says how each was answered. An answer that the interface has no number for, or a state that
 passes its test before a call and not after it, is a failure.
 
   --seed N   other calls (default 1)

@@ -1,4 +1,4 @@
-//! Opens and closes: good ones, and ones with one to three twists, each aimed at a check of document 01.
+//! Opens and closes: good ones, and ones with one to three twists, each aimed at a check (rules 6.1 to 6.13).
 
 use super::Generator;
 use super::drafts::Draft;

@@ -1,4 +1,4 @@
-//! Setups within document 01's sizes, and some beyond.
+//! Setups within the sizes of rules 1, and some beyond.
 
 use super::Generator;
 use crate::bytes::{Setup, Shape};
@@ -123,7 +123,7 @@ impl Generator {
         Call::Setup { block, eds: self.rng.bytes(self.eds), seed }
     }
 
-    /// A setup on a state in use: a good one, or one that document 01 refuses and that changes nothing.
+    /// A setup on a state in use: a good one, or one that is refused and that changes nothing.
     pub(super) fn setup_again(&mut self) -> Call {
         if self.rng.chance(20) {
             return self.good_setup();
