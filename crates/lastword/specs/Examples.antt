@@ -69,7 +69,7 @@ code (TimedOut i) = 3
 code (Configured n length) = 4
 code (OutputChanged n) = 5
 
--- a frame that says idle, a frame with the last CIP sequence again, a frame of another size
+-- a frame that says idle
 abbrev idle : List ℕ
 idle = heard 2 2 0 (0xCC ∷ 0xDD ∷ [])
 
@@ -93,13 +93,23 @@ day =
     (holds before (word (noon ++ (Call.Receive 3000 8 idle ∷ []))) is 0xCC ∷ 0xDD ∷ []) ∷
     (takes 2 8 (taken-apart (heard 2 1 0 (0xCC ∷ 0xDD ∷ []))) (word noon) is false) ∷
     (takes 2 8 (taken-apart (heard 2 2 0 (0xCC ∷ []))) (word noon) is false) ∷
+    (takes 2 8 (taken-apart (heard 2 2 0 (0xCC ∷ 0xDD ∷ 0xEE ∷ []))) (word noon) is false) ∷
     (takes 2 7 (taken-apart idle) (word noon) is false) ∷
+    -- nor is one that is out of order, nor half the sequences ahead; it is not heard either
+    (takes 2 8 (taken-apart (heard 1 2 0 (0xCC ∷ 0xDD ∷ []))) (word noon) is false) ∷
+    (takes 2 8 (taken-apart (heard 0x80000001 2 0 (0xCC ∷ 0xDD ∷ []))) (word noon) is false) ∷
+    (short (word (noon ++ (Call.Receive 3000 8 (heard 1 2 0 (0xCC ∷ 0xDD ∷ [])) ∷ [])) .owner) is 5 ∷ 8 ∷ 40000 ∷ 2000 ∷ []) ∷
+    -- of the header bit 0 alone counts
+    (inRun (word (noon ++ (Call.Receive 3000 8 (heard 2 2 3 (0xCC ∷ 0xDD ∷ [])) ∷ []))) is true) ∷
+    (inRun (word (noon ++ (Call.Receive 3000 8 (heard 2 2 2 (0xCC ∷ 0xDD ∷ [])) ∷ []))) is false) ∷
     -- a frame of another size is heard all the same
     (short (word (noon ++ (Call.Receive 3000 8 (heard 2 2 0 []) ∷ [])) .owner) is 5 ∷ 8 ∷ 40000 ∷ 3000 ∷ []) ∷
     -- a close by its owner is a yes, and clears run; the bytes stay
     (isYes (answer (Call.Close (ending 1) 10) (run noon start)) is true) ∷
     (isSome (word (noon ++ (Call.Close (ending 1) 10 ∷ [])) .owner) is false) ∷
     (holds before (word (noon ++ (Call.Close (ending 1) 10 ∷ []))) is 0xAA ∷ 0xBB ∷ []) ∷
+    -- another's close leaves it
+    (isSome (word (noon ++ (Call.Close (ending 2) 10 ∷ [])) .owner) is true) ∷
     -- silence: not at 42000, at 42001
     (isSome (word (noon ++ (Call.Expire 42000 ∷ [])) .owner) is true) ∷
     (isSome (word night .owner) is false) ∷
@@ -124,4 +134,4 @@ unfolding fresh setupOk answerNumber le leOf bytesLe bytesBe startOf stepAt item
     deadlineAnswer newer recorded hear taken changes deliver received receiveAnswer receiveEffect receiveCall sent frameSent packet packets counters
     produceAnswer produceEffect produceCall setInputAnswer setInputEffect setInputCall outputAnswer outputEffect outputCall nextEventAnswer
     nextEventEffect nextEventCall
-day-holds = (refl, (refl, (refl, (refl, (refl, (refl, (refl, (refl, (refl, (refl, (refl, (refl, (refl, (refl, (refl, (refl, (refl, (refl, (refl, (refl, (refl, (refl, (refl, (refl, (refl, (refl, (refl, tt)))))))))))))))))))))))))))
+day-holds = (refl, (refl, (refl, (refl, (refl, (refl, (refl, (refl, (refl, (refl, (refl, (refl, (refl, (refl, (refl, (refl, (refl, (refl, (refl, (refl, (refl, (refl, (refl, (refl, (refl, (refl, (refl, (refl, (refl, (refl, (refl, (refl, (refl, (refl, tt))))))))))))))))))))))))))))))))))

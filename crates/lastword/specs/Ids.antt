@@ -26,7 +26,7 @@ use Rattle.isolation.specs.Seen.{hear-fixed, send-fixed}
 use Rattle.steps.specs.Names.{ForwardOpen, Origin, Fixed, Conn, Info, Event, Plan, Stream}
 use Rattle.steps.specs.Steps.{Removing, Follows, expiry-keeps}
 use Rattle.isolation.specs.Sound.{Sound, sound-kept, fresh-sound, fixed-map, fixed-change}
-use Rattle.lastword.specs.Words.{opens, early}
+use Rattle.lastword.specs.Words.{opens, few, early}
 
 -- where an id stands on a line from the first, on which ids go on behind 2^32 - 1
 abbrev along : ℕ → ℕ → ℕ
@@ -68,14 +68,14 @@ one-or-two P q g n a b (Joins toid dest torpi) = a
 one-or-two P q g n a b Own = either-way (λ (y : Side). P (y .next)) (asksMulticast q) b a
 
 module _ (first : ℕ) (small : first < 2 ^ 32) where
-  drawn : (n d : ℕ) (q : ForwardOpen) (g : Origin) (x : Stream) → along first n ≤ first + 2 * d → suc d < 2 ^ 31 →
+  drawn : (n d : ℕ) (q : ForwardOpen) (g : Origin) (x : Stream) → along first n ≤ first + 2 * d → suc d < few →
       (along first (sideOf q g (afterId n) x .next) ≤ first + 2 * suc d) × (along first n < along first (sideOf q g (afterId n) x .next))
   drawn n d q g x h k =
       let a = along-next first n small (omega arith) in
       let b = along-next first (afterId n) small (omega arith) in
       one-or-two (λ m. (along first m ≤ first + 2 * suc d) × (along first n < along first m)) q g (afterId n) (omega arith, omega arith) (omega arith, omega arith) x
 
-  opening : (t : ℕ) (q : ForwardOpen) (g : Origin) (bytes : List ℕ) (p : Plan) (s : State) (d : ℕ) → suc d < 2 ^ 31 → Numbered first d s →
+  opening : (t : ℕ) (q : ForwardOpen) (g : Origin) (bytes : List ℕ) (p : Plan) (s : State) (d : ℕ) → suc d < few → Numbered first d s →
       Numbered first (suc d) (opened t q g bytes p s)
   unfolding opened newConn newFixed
   opening t q g bytes p s d k h =
@@ -100,7 +100,7 @@ pub record Ground (u : Setup) (seed d : ℕ) (s : State) : Type 0 where
   pub ids : early d ≡ true → Numbered (firstId seed) d s
 
 pub fewer-early : (d : ℕ) → early (suc d) ≡ true → early d ≡ true
-fewer-early d y = let k = ltb-true (suc d) (2 ^ 31) y in lt-ltb d (2 ^ 31) (omega arith)
+fewer-early d y = let k = ltb-true (suc d) few y in lt-ltb d few (omega arith)
 
 module _ (u : Setup) (seed : ℕ) (small : seed < 2 ^ 32) where
   ground-removing : (d : ℕ) → Removing (Ground u seed d)
@@ -144,7 +144,7 @@ module _ (u : Setup) (seed : ℕ) (small : seed < 2 ^ 32) where
   ground-opening t request q g p s d e h =
       record {
         sound = sound-kept u .opening t request q g p s e (h .sound);
-        ids = λ y. opening (firstId seed) (first-small seed small) t q g (configBytes request q) p s d (ltb-true (suc d) (2 ^ 31) y) (h .ids (fewer-early d y));
+        ids = λ y. opening (firstId seed) (first-small seed small) t q g (configBytes request q) p s d (ltb-true (suc d) few y) (h .ids (fewer-early d y));
       }
 
   pub ground-follows : Follows opens (Ground u seed)

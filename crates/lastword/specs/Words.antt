@@ -152,6 +152,9 @@ holds before w = maybe before dataIn (w .taken)
 abbrev pub opens : Reading ℕ
 opens = record { onOpen = λ t request q g a d. suc d; onClose = λ k d. d; onFrame = λ t from f d. d; onExpire = λ t d. d }
 
--- fewer than 2^31: no O→T id has come round again
+-- an open draws two ids at most: while fewer than half as many opens as there are ids were accepted, none has come round again
+abbrev pub few : ℕ
+few = 2 ^ 31
+
 abbrev pub early : ℕ → Bool
-early d = ltb d (2 ^ 31)
+early d = ltb d few
