@@ -1,9 +1,8 @@
 -- No rewinding on examples: a point-to-point connection (serial number 3) whose T→O id is a live stream's is closed, or times out.
-use mathlib.Core.Path.{_≡_, refl}
+use mathlib.Core.Path.{refl}
 use mathlib.Core.List.{List, [], _∷_, _++_, map}
 use mathlib.Core.Bool.{Bool, true, false}
-use Prim.Native.Nat.{ℕ, _+_, _*_, _%_, _^_}
-use lib.ListN.{length, getD}
+use Prim.Native.Nat.{ℕ, _+_}
 use Rattle.cells.specs.Numbers.{le, leOf, bytesLe}
 use Rattle.cells.specs.BigEndian.{bytesBe}
 use Rattle.cells.specs.Records.{encFields}

@@ -1,20 +1,20 @@
 -- NO REWINDING: a close of a point-to-point connection, and an expiry call that finds only such, leave every other connection equal in
 -- every field.
-use mathlib.Core.Path.{_≡_, refl, sym, _∙_, ap, subst}
-use mathlib.Core.List.{List, [], _∷_}
-use mathlib.Core.Option.{Option, none, some}
-use mathlib.Core.Bool.{Bool, true, false, cond, not}
+use mathlib.Core.Path.{_≡_, sym, _∙_, ap, subst}
+use mathlib.Core.List.{List}
+use mathlib.Core.Option.{some}
+use mathlib.Core.Bool.{Bool, true, false, not}
 use Prim.Native.Nat.{ℕ}
 use native.Mathlib.Omega.{arith}
 use lib.ListN.{length}
 use Rattle.wire_opens.specs.Requests.{closeOf}
 use Rattle.wire_opens.specs.declared.CloseAnswer.the-variants.{Close}
-use Rattle.rules.specs.Lists.{find, keep, withoutFirst, repeat}
+use Rattle.rules.specs.Lists.{find, keep, withoutFirst}
 use Rattle.rules.proofs.ListLaws
-use Rattle.rules.proofs.ListLaws.{by-cases, All}
+use Rattle.rules.proofs.ListLaws.{All}
 use Rattle.rules.specs.State.{State}
 use Rattle.rules.specs.Answers.{isYes, timely}
-use Rattle.rules.specs.Removal.{afterRemoval, removeFirst, connTriad, removed, closed, closeBy, closeAnswer, closeEffect, closeCall, expired, expireAnswer, expireEffect, expireCall}
+use Rattle.rules.specs.Removal.{afterRemoval, removeFirst, connTriad, removed, closed, closeEffect, closeCall, expired, expireAnswer, expireEffect, expireCall}
 use Rattle.rules.specs.Calls
 use Rattle.rules.specs.Calls.{answer, next}
 use Rattle.isolation.specs.Ends.{Ends, done, step, reaches}

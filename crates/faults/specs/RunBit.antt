@@ -13,7 +13,7 @@ use Rattle.rules.specs.declared.Stores.the-variants.{Nothing, Into}
 use Rattle.rules.specs.Lists.{find, any, changeFirst, withoutFirst, changeAt, maybe}
 use Rattle.rules.proofs.ListLaws
 use Rattle.rules.proofs.ListLaws.{by-cases, clash, either-way, All, and-left, and-right, eqb-true}
-use Rattle.rules.specs.State.{Setup, Shape, shapeAt, Content, noContent, State, isInput, isOutput, isOwner, isListener}
+use Rattle.rules.specs.State.{Setup, Shape, shapeAt, Content, noContent, State, isOutput, isOwner, isListener}
 use Rattle.rules.specs.Answers.{timely}
 use Rattle.rules.specs.Setup.{blank, fresh}
 use Rattle.rules.specs.Checks.{owns}

@@ -1,12 +1,11 @@
 -- Connections that stand apart: of no two in a table is the earlier so related to the later, by what is fixed of them. No step but an open
 -- can bring two together.
-use mathlib.Core.Path.{_≡_, refl, sym, _∙_, ap}
+use mathlib.Core.Path.{_≡_, refl, _∙_, ap}
 use mathlib.Core.List.{List, [], _∷_, _++_, map}
-use mathlib.Core.Option.{Option, none, some}
-use mathlib.Core.Bool.{Bool, true, false, not, _||_}
-use Rattle.rules.specs.Lists.{find, any, keep, changeFirst, withoutFirst}
+use mathlib.Core.Bool.{Bool, false, not}
+use Rattle.rules.specs.Lists.{any, keep, changeFirst, withoutFirst}
 use Rattle.rules.proofs.ListLaws
-use Rattle.rules.proofs.ListLaws.{by-cases, either-way, All}
+use Rattle.rules.proofs.ListLaws.{by-cases, either-way}
 use Rattle.rules.specs.State.{withSent}
 use Rattle.rules.specs.Removal.{inStream, handsOn, handedOver, endsStream, afterRemoval}
 use Rattle.steps.specs.Names.{Fixed, Conn}

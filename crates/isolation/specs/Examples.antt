@@ -1,7 +1,6 @@
 -- Demand 3 on examples: the premise is met in the subtle case, and without it the conclusion fails.
 use mathlib.Core.Path.{_≡_, refl, sym, _∙_, ap, ap₂}
 use mathlib.Core.List.{List, [], _∷_, _++_, map}
-use mathlib.Core.Option.{some}
 use mathlib.Core.Bool.{true, not, _&&_}
 use Prim.Native.Nat.{ℕ, _+_}
 use lib.ListN.{length, getD}

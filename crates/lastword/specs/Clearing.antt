@@ -6,17 +6,16 @@ use mathlib.Core.Option.{Option, none, some}
 use mathlib.Core.Bool.{Bool, true, false, cond, not, _&&_, _||_}
 use Prim.Native.Nat.{ℕ, _+_, _-_, _^_, _≤_, _<_}
 use native.Mathlib.Omega.{arith}
-use lib.Dec.{eqb, ltb}
 use borrow.Author.Tests.{ltb-false, lt-ltb}
 use Rattle.wire_items.specs.Frames.{ioOf}
 use Rattle.wire_opens.specs.Requests.{closeOf}
 use Rattle.wire_opens.specs.declared.CloseAnswer.the-variants.{Close}
-use Rattle.rules.specs.Lists.{any, maybe, isSome}
-use Rattle.rules.proofs.ListLaws.{by-cases, clash, and-left}
+use Rattle.rules.specs.Lists.{maybe, isSome}
+use Rattle.rules.proofs.ListLaws.{by-cases, clash}
 use Rattle.rules.proofs.ExpiryLaws.{same-test}
 use Rattle.rules.specs.State.{Setup, shapeAt, State, contentAt, triadIs, isOutput}
 use Rattle.rules.specs.Setup.{fresh}
-use Rattle.rules.specs.Answers.{Answer, isYes, timely}
+use Rattle.rules.specs.Answers.{isYes, timely}
 use Rattle.rules.specs.Checks.{placeOf}
 use Rattle.rules.specs.Receiving.{Frame, frameOf, receiveAnswer, receiveCall}
 use Rattle.rules.specs.Removal.{expireAnswer, expireCall}
@@ -24,8 +23,8 @@ use Rattle.rules.specs.Calls
 use Rattle.rules.specs.Calls.{Call, answer, next, run}
 use Rattle.isolation.specs.Survive.{triad-is-refl}
 use Rattle.steps.specs.Names.{Triad}
-use Rattle.steps.specs.Steps.{log, news, learnt, history, history-next, run-next, Quiet, Follows, run-follows}
-use Rattle.lastword.specs.Words.{Contact, isFor, inOrder, isNews, speaks, noted, silent, Word, counts, fits, saysRun, takes, asksFor, wordOf, noWord, inRun, contactOf, opens, early}
+use Rattle.steps.specs.Steps.{log, news, learnt, history, history-next, run-next, run-follows}
+use Rattle.lastword.specs.Words.{Contact, isNews, speaks, noted, silent, Word, counts, fits, saysRun, takes, asksFor, wordOf, noWord, inRun, opens, early}
 use Rattle.lastword.specs.Knows.{or-yes}
 use Rattle.lastword.specs.LastWord.{accepted, word, lane-obeys}
 

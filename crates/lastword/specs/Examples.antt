@@ -1,11 +1,10 @@
 -- The history on examples: a day's word, and that each premise of the theorems is met.
-use mathlib.Core.Path.{_≡_, refl}
+use mathlib.Core.Path.{refl}
 use mathlib.Core.List.{List, [], _∷_, _++_, map}
 use mathlib.Core.Option.{Option, none, some}
-use mathlib.Core.Bool.{Bool, true, false}
-use Prim.Native.Nat.{ℕ, _+_, _*_, _%_, _^_, _<_}
-use native.Mathlib.Omega.{arith}
-use lib.ListN.{length, getD}
+use mathlib.Core.Bool.{true, false}
+use Prim.Native.Nat.{ℕ, _+_}
+use lib.ListN.{length}
 use Rattle.cells.specs.Numbers.{le, leOf, bytesLe}
 use Rattle.cells.specs.BigEndian.{bytesBe}
 use Rattle.cells.specs.Records.{encFields}
@@ -22,23 +21,23 @@ use Rattle.rules.specs.Events.{infoOf, infoRecord, eventRecord, oldestGone, app
 use Rattle.wire_replies.specs.Replies.{openReply, triadReply}
 use Rattle.rules.specs.Checks.{must, andThen, transportCheck, pathCheck, revisionOk, keyStop, keyCheck, kindOf, placeOf, pointsCheck, rolesOf, configCheck, rpiCheck, typeCheck, otSizeCheck, toSizeCheck, triadCheck, ownerCheck, streamOf, streamCheck, roomCheck, planOf, verdict}
 use Rattle.rules.specs.Opening.{afterId, pointDest, groupDest, sideOf, newFixed, newHeard, newConn, opened, verdictOf, replyOf, openAnswer, openEffect, openCall}
-use Rattle.rules.specs.Removal.{removed, closed, closeAnswer, closeEffect, closeCall, expiredFirst, expireEffect, expireAnswer, expireCall, deadlineAnswer, connTriad}
+use Rattle.rules.specs.Removal.{removed, closed, closeAnswer, closeEffect, closeCall, expiredFirst, expireEffect, expireAnswer, expireCall, deadlineAnswer}
 use Rattle.rules.specs.Receiving.{newer, recorded, hear, taken, changes, deliver, received, receiveAnswer, receiveEffect, receiveCall}
 use Rattle.rules.specs.Producing.{sent, frameSent, packet, packets, counters, produceAnswer, produceEffect, produceCall}
 use Rattle.rules.specs.Host.{setInputAnswer, setInputEffect, setInputCall, outputAnswer, outputEffect, outputCall, nextEventAnswer, nextEventEffect, nextEventCall}
 use Rattle.wire_opens.specs.Examples.{Example, _is_, Hold}
 use Rattle.rules.specs.Answers.{answerNumber, isYes}
-use Rattle.rules.specs.Lists.{find, maybe, isSome}
-use Rattle.rules.specs.State.{State, contentAt, isOutput}
+use Rattle.rules.specs.Lists.{maybe, isSome}
+use Rattle.rules.specs.State.{isOutput}
 use Rattle.rules.specs.Receiving.{Frame, frameOf}
 use Rattle.rules.specs.declared.Event.the-variants.{Opened, Closed, TimedOut, Configured, OutputChanged}
-use Rattle.rules.specs.Calls.{Call, answer, next, run}
-use Rattle.rules.proofs.Examples.{setup, start, ask, from, heard, points, opens, noon, night, ending}
-use Rattle.steps.specs.Names.{Triad, Conn, Event}
+use Rattle.rules.specs.Calls.{Call, answer, run}
+use Rattle.rules.proofs.Examples.{setup, start, heard, opens, noon, night, ending}
+use Rattle.steps.specs.Names.{Triad, Event}
 use Rattle.steps.specs.Steps.{log, history}
 use Rattle.steps.specs.Told.{told}
 use Rattle.lastword.specs.Words
-use Rattle.lastword.specs.Words.{Contact, Word, wordOf, noWord, inRun, holds, takes, contactOf, silent, early}
+use Rattle.lastword.specs.Words.{Contact, Word, wordOf, noWord, inRun, holds, takes, contactOf, early}
 use Rattle.lastword.specs.Heard.{asksAs}
 
 -- output 150, at place 0, of 2 bytes: its word after a run from the start

@@ -1,14 +1,13 @@
 -- HEARD MEANS HEARD: a connection lives until the time of the last frame in order from it, of its open before any, plus its timeout; told
 -- from the calls and their answers alone.
-use mathlib.Core.Path.{_≡_, refl, sym, _∙_, ap, ap₂, subst}
+use mathlib.Core.Path.{_≡_, refl, sym, _∙_, ap, subst}
 use mathlib.Core.List.{List, [], _∷_}
 use mathlib.Core.Option.{Option, none, some}
 use mathlib.Core.Bool.{Bool, true, false}
 use Prim.Native.Nat.{ℕ, _+_, _^_, _<_}
 use lib.Dec.{eqb, ltb}
-use Rattle.rules.specs.declared.Event.the-variants.{Closed}
 use Rattle.rules.specs.declared.Verdict.the-variants.{Planned}
-use Rattle.rules.specs.Lists.{find, any, maybe}
+use Rattle.rules.specs.Lists.{any, maybe}
 use Rattle.rules.proofs.ListLaws
 use Rattle.rules.proofs.ListLaws.{All}
 use Rattle.rules.proofs.ExpiryLaws.{silentTooLong, same-test, timeout}

@@ -1,15 +1,14 @@
 -- O→T ids do not come round again while fewer than 2^31 opens have been accepted: each is new to the table.
-use mathlib.Core.Path.{_≡_, refl, sym, _∙_, ap, subst}
-use mathlib.Core.List.{List, [], _∷_, _++_, map}
-use mathlib.Core.Option.{some}
-use mathlib.Core.Bool.{Bool, true, false, cond}
+use mathlib.Core.Path.{_≡_, refl, ap}
+use mathlib.Core.List.{List}
+use mathlib.Core.Bool.{true, false, cond}
 use Prim.Native.Nat.{ℕ, suc, _+_, _*_, _-_, _%_, _^_, _≤_, _<_}
 use native.Mathlib.Omega.{arith}
-use lib.Dec.{eqb, leb, ltb}
-use borrow.Author.Tests.{eqb-false, leb-true, leb-false, le-leb, lt-leb, ltb-true, lt-ltb}
+use lib.Dec.{eqb, leb}
+use borrow.Author.Tests.{leb-true, leb-false, le-leb, lt-leb, ltb-true, lt-ltb}
 use Rattle.rules.specs.declared.Verdict.the-variants.{Planned}
 use Rattle.rules.specs.declared.Stream.the-variants.{Joins, Own}
-use Rattle.rules.specs.Lists.{find, any, changeFirst, withoutFirst}
+use Rattle.rules.specs.Lists.{any, withoutFirst}
 use Rattle.rules.proofs.ListLaws
 use Rattle.rules.proofs.ListLaws.{by-cases, either-way, All, eqb-true}
 use Rattle.rules.specs.State.{Setup, State}
@@ -23,7 +22,7 @@ use Rattle.rules.specs.Producing.{sends, produceEffect}
 use Rattle.rules.specs.Host.{nextEventEffect}
 use Rattle.isolation.specs.Ends.{all-removal}
 use Rattle.isolation.specs.Seen.{hear-fixed, send-fixed}
-use Rattle.steps.specs.Names.{ForwardOpen, Origin, Fixed, Conn, Info, Event, Plan, Stream}
+use Rattle.steps.specs.Names.{ForwardOpen, Origin, Fixed, Plan, Stream}
 use Rattle.steps.specs.Steps.{Removing, Follows, expiry-keeps}
 use Rattle.isolation.specs.Sound.{Sound, sound-kept, fresh-sound, fixed-map, fixed-change}
 use Rattle.lastword.specs.Words.{opens, few, early}

@@ -1,14 +1,14 @@
 -- WHAT THE STATE KEEPS of a connection is what the history knows of it: for the one connection that passes a test of its fixed part (an
 -- output's owner, a triad's), each step keeps that so.
 use mathlib.Core.Path.{_≡_, refl, sym, _∙_, ap, ap₂, subst}
-use mathlib.Core.List.{List, [], _∷_, _++_, map}
+use mathlib.Core.List.{List, [], _∷_}
 use mathlib.Core.Option.{Option, none, some}
 use mathlib.Core.Bool.{Bool, true, false, cond, not, _&&_, _||_}
 use Prim.Native.Nat.{ℕ, _+_, _-_, _%_, _^_}
 use lib.Dec.{eqb, leb, ltb}
-use lib.ListN.{length, getD}
+use lib.ListN.{length}
 use borrow.Author.Tests.{eq-eqb}
-use Rattle.cells.specs.Numbers.{le, bytesLe}
+use Rattle.cells.specs.Numbers.{le}
 use Rattle.cells.specs.Records.{encFields, le-mid}
 use Rattle.wire_opens.specs.Timeout.{timeoutOf}
 use Rattle.wire_replies.specs.Replies.{openReply}
@@ -17,19 +17,18 @@ use Rattle.rules.specs.Lists.{find, any, changeFirst, withoutFirst, maybe, isSo
 use Rattle.rules.proofs.ListLaws
 use Rattle.rules.proofs.ListLaws.{by-cases, clash, either-way, All, eqb-true, and-left, and-right}
 use Rattle.rules.proofs.ExpiryLaws.{same-test}
-use Rattle.rules.specs.State.{Setup, State, triadIs, withSent, isOwner, isListener}
+use Rattle.rules.specs.State.{State, triadIs, withSent, isOwner}
 use Rattle.rules.specs.Answers.{answerBytes}
 use Rattle.rules.specs.Opening.{newConn, newFixed, newHeard, replyOf, opened}
-use Rattle.rules.specs.Removal.{afterRemoval, removeFirst, connTriad, removed, expired, expireEffect}
+use Rattle.rules.specs.Removal.{afterRemoval, connTriad, removed, expired, expireEffect}
 use Rattle.rules.specs.Receiving.{Frame, meantFor, newer, recorded, hear, received}
 use Rattle.rules.specs.Producing.{due, sends, produceEffect}
-use Rattle.isolation.specs.Ends.{Ends, done, step, reaches, all-removal, all-ends, any-removal}
+use Rattle.isolation.specs.Ends.{all-removal}
 use Rattle.isolation.specs.Apart.{Apart, apart-without, apart-change, apart-map, apart-removal, apart-append}
 use Rattle.isolation.specs.Survive.{Distinct, triad-of, triad-is-true}
 use Rattle.isolation.specs.Seen.{hear-fixed, send-fixed}
-use Rattle.isolation.specs.Expiry.{expire-table}
 use Rattle.faults.specs.RunBit.{none-silent}
-use Rattle.steps.specs.Names.{Triad, ForwardOpen, Origin, Fixed, Sent, Conn, Info, Event, Plan}
+use Rattle.steps.specs.Names.{Triad, ForwardOpen, Origin, Fixed, Sent, Conn, Plan}
 use Rattle.steps.specs.Steps.{Removing, expiry-keeps, acceptance}
 use Rattle.lastword.specs.Words.{Contact, met, isFor, inOrder, isNews, speaks, noted, silent, contactOf}
 

@@ -3,18 +3,16 @@
 use mathlib.Core.Path.{_≡_, refl, sym, _∙_, ap, ap₂, subst}
 use mathlib.Core.List.{List, [], _∷_, _++_, map}
 use mathlib.Core.Option.{Option, none, some}
-use mathlib.Core.Bool.{Bool, true, false, cond, not, _&&_, _||_}
-use Prim.Native.Nat.{ℕ, zero, suc, _^_, _<_}
-use native.Mathlib.Omega.{arith}
-use lib.Dec.{eqb, ltb}
+use mathlib.Core.Bool.{Bool, true, false, cond, _&&_, _||_}
+use Prim.Native.Nat.{ℕ, _^_, _<_}
+use lib.Dec.{eqb}
 use lib.ListN.{length, length-map, getD, replicate, List·getD-map}
 use borrow.Author.Tests.{eq-eqb}
 use Rattle.cells.specs.Records.{ofBool}
-use Rattle.rules.specs.declared.AssemblyKind.the-variants.{Input, Output, Config}
 use Rattle.rules.specs.declared.Stores.the-variants.{Nothing, Into}
 use Rattle.rules.specs.declared.Event.the-variants.{Closed}
 use Rattle.rules.specs.declared.Verdict.the-variants.{Planned}
-use Rattle.rules.specs.Lists.{find, any, changeFirst, withoutFirst, changeAt, maybe, isSome}
+use Rattle.rules.specs.Lists.{find, any, withoutFirst, changeAt, maybe, isSome}
 use Rattle.rules.proofs.ListLaws
 use Rattle.rules.proofs.ListLaws.{by-cases, clash, either-way, All, and-left, and-right, eqb-true}
 use Rattle.rules.specs.State.{Setup, noShape, shapeAt, Content, noContent, contentAt, State, withContents, isInput, isOutput, isConfig, isOwner, isListener}
@@ -34,11 +32,11 @@ use Rattle.isolation.specs.Survive.{Distinct}
 use Rattle.isolation.specs.Seen.{hear-fixed, send-fixed, taken-owner, input-no-output}
 use Rattle.isolation.specs.Expiry.{owns-not}
 use Rattle.faults.specs.RunBit.{ownerOf, at-change}
-use Rattle.steps.specs.Names.{AssemblyKind, Triad, ForwardOpen, Origin, Stores, Fixed, Conn, Plan}
-use Rattle.steps.specs.Steps.{log, history, both, both-history, Removing, Quiet, Follows, run-follows, expiry-keeps, acceptance}
-use Rattle.lastword.specs.Words.{Contact, met, isFor, inOrder, isNews, counts, Word, asksFor, fits, saysRun, dataIn, takes, wordOf, noWord, inRun, holds, opens, early, contactOf}
+use Rattle.steps.specs.Names.{Triad, ForwardOpen, Origin, Stores, Fixed, Conn, Plan}
+use Rattle.steps.specs.Steps.{log, history, both, both-history, Removing, Follows, run-follows, expiry-keeps, acceptance}
+use Rattle.lastword.specs.Words.{Contact, met, isFor, counts, Word, asksFor, saysRun, dataIn, takes, wordOf, noWord, inRun, holds, opens, early, contactOf}
 use Rattle.lastword.specs.Ids.{Ground, ground-follows, fresh-ground, next-is-new, fewer-early}
-use Rattle.lastword.specs.Knows.{Ear, Known, meant-is, crowds, passes, Knows, gone, knows-removing, knows-closing, knows-expiring, knows-hearing, knows-opening, knows-producing, found-is-met}
+use Rattle.lastword.specs.Knows.{Known, meant-is, crowds, Knows, gone, knows-removing, knows-closing, knows-expiring, knows-hearing, knows-opening, knows-producing, found-is-met}
 use Rattle.lastword.specs.Present.{any-left, present-closing, present-expiring}
 use Rattle.lastword.specs.Outputs.{at-place, admits, output-there, taken-is, as-said, change-there, length-at, config-no-output, opened-run, opened-present, not-taken, in-run-is}
 

@@ -1,30 +1,29 @@
 -- What an accepted open and a frame come to for an output: which open asks for it, and which frames are taken; and small laws of words.
 use mathlib.Core.Path.{_≡_, refl, sym, _∙_, ap, ap₂, subst}
-use mathlib.Core.List.{List, [], _∷_, _++_}
+use mathlib.Core.List.{List, [], _∷_}
 use mathlib.Core.Option.{Option, none, some}
 use mathlib.Core.Bool.{Bool, true, false, cond, not, _&&_, _||_, Bool·beq}
-use Prim.Native.Nat.{ℕ, zero, suc, _+_, _%_, _^_, _≤_, _<_}
+use Prim.Native.Nat.{ℕ, zero, suc, _+_, _<_}
 use native.Mathlib.Omega.{arith}
 use lib.Dec.{eqb, leb, ltb}
-use lib.ListN.{length, drop, getD, List·getD-eq-default}
+use lib.ListN.{length, getD, List·getD-eq-default}
 use borrow.Author.Tests.{eq-eqb, le-leb, lt-ltb, ltb-true, ltb-false}
 use Rattle.cells.specs.Numbers.{le}
 use Rattle.rules.specs.declared.AssemblyKind.the-variants.{Input, Output, Config}
-use Rattle.rules.specs.declared.Kind.the-variants.{Owner, InputOnly, ListenOnly}
 use Rattle.rules.specs.declared.Verdict.the-variants.{Planned}
 use Rattle.rules.specs.declared.Stores.the-variants.{Nothing, Into}
-use Rattle.rules.specs.Lists.{find, place, any, changeAt, maybe, same, isSome}
+use Rattle.rules.specs.Lists.{any, changeAt, maybe, same, isSome}
 use Rattle.rules.proofs.ListLaws
-use Rattle.rules.proofs.ListLaws.{by-cases, clash, All, and-left, and-right, eqb-true, not-true}
-use Rattle.rules.specs.State.{Setup, Shape, noShape, shapeAt, Content, noContent, State, fixeds, isInput, isOutput, isConfig, isOwner}
+use Rattle.rules.proofs.ListLaws.{by-cases, clash, and-left, and-right, eqb-true, not-true}
+use Rattle.rules.specs.State.{Setup, Shape, noShape, shapeAt, Content, noContent, State, fixeds, isOutput, isConfig, isOwner}
 use Rattle.rules.specs.Checks.{owns, isAt, placeOf, placeOr0, kindOf, otPoint, pointsCheck, planOf, rolesOf, ownerCheck, storesInto, pathIn, hasConfig, configPoint, verdict}
 use Rattle.rules.proofs.CheckLaws
-use Rattle.rules.specs.Opening.{newFixed, askedPath, verdictOf}
+use Rattle.rules.specs.Opening.{askedPath, verdictOf}
 use Rattle.rules.specs.Receiving.{Frame, newer, taken, changes, deliver}
 use Rattle.faults.specs.RunBit.{ownerOf}
-use Rattle.steps.specs.Names.{AssemblyKind, ConnectionPath, ForwardOpen, Origin, Conn, Plan}
+use Rattle.steps.specs.Names.{AssemblyKind, ConnectionPath, ForwardOpen, Conn, Plan}
 use Rattle.lastword.specs.Words.{Contact, isFor, inOrder, isNews, asksFor, fits, saysRun, dataIn, counts}
-use Rattle.lastword.specs.Knows.{Ear, newer-is, news-is, meant-is}
+use Rattle.lastword.specs.Knows.{Ear, newer-is, news-is}
 
 -- ---- PLACES
 pub at-place : (is : AssemblyKind → Bool) (u : Setup) (m j : ℕ) → placeOf is u m ≡ some j → (is (shapeAt u j .kind) ≡ true) × (shapeAt u j .instance ≡ m)

@@ -1,9 +1,9 @@
 -- WHO IS KNOWN IS THERE: where no listener passes the test, a connection is known exactly where the table has one that passes. It leaves by a
 -- close of its own or by its own silence, not with another's stream.
 use mathlib.Core.Path.{_≡_, refl, sym, _∙_, ap, subst}
-use mathlib.Core.List.{List, [], _∷_, _++_}
+use mathlib.Core.List.{List}
 use mathlib.Core.Option.{Option, none, some}
-use mathlib.Core.Bool.{Bool, true, false, cond, not, _&&_, _||_}
+use mathlib.Core.Bool.{Bool, true, false, cond, _||_}
 use Prim.Native.Nat.{ℕ}
 use native.Mathlib.Omega.{arith}
 use lib.ListN.{length}
@@ -14,8 +14,8 @@ use Rattle.rules.specs.State.{State, triadIs, isListener}
 use Rattle.rules.specs.Removal.{afterRemoval, removeFirst, connTriad, expired, expireEffect}
 use Rattle.isolation.specs.Ends.{Ends, done, step, reaches, all-removal, any-removal}
 use Rattle.isolation.specs.Expiry.{expire-table}
-use Rattle.steps.specs.Names.{Triad, ForwardOpen, Fixed, Conn}
-use Rattle.lastword.specs.Words.{Contact, silent, contactOf}
+use Rattle.steps.specs.Names.{Triad, Fixed, Conn}
+use Rattle.lastword.specs.Words.{Contact, silent}
 use Rattle.lastword.specs.Knows.{Known, passes, silent-is, none-known}
 
 module _ (g : Fixed → Bool) (mute : (c : Conn) → isListener (c .fixed .kind) ≡ true → g (c .fixed) ≡ false) where

@@ -1,6 +1,6 @@
 -- THE HISTORY'S WORDS: what the calls and their answers alone tell of a connection, and of an output. Nothing here reads a state, and of the
 -- rules for frames in nothing is cited but the frame taken apart: the wording is this file's own.
-use mathlib.Core.List.{List, []}
+use mathlib.Core.List.{List}
 use mathlib.Core.Option.{Option, none, some}
 use mathlib.Core.Bool.{Bool, true, false, cond, not, _&&_}
 use Prim.Native.Nat.{ℕ, suc, _+_, _-_, _%_, _^_}
@@ -9,7 +9,7 @@ use lib.ListN.{length, drop, getD}
 use Rattle.cells.specs.Numbers.{le}
 use Rattle.wire_opens.specs.Timeout.{timeoutOf}
 use Rattle.rules.specs.Lists.{maybe}
-use Rattle.rules.specs.State.{Setup, shapeAt, triadIs}
+use Rattle.rules.specs.State.{Setup, triadIs}
 use Rattle.rules.specs.Answers.{Answer, answerBytes}
 use Rattle.rules.specs.Checks.{pathIn, otPoint}
 use Rattle.rules.specs.Opening.{askedPath}

@@ -18,7 +18,7 @@ use Rattle.rules.specs.Lists.{find, any, withoutFirst, changeAt, maybe, repeat}
 use Rattle.rules.proofs.ListLaws
 use Rattle.rules.proofs.ListLaws.{by-cases, either-way}
 use Rattle.rules.specs.State.{State, shapeAt, withContents, isInput, isOutput}
-use Rattle.rules.specs.Answers.{Answer, Accepted, Wrote, Refused, NoRoom, NothingThere, isYes, timely, fitting, settled}
+use Rattle.rules.specs.Answers.{Answer, Accepted, isYes, timely}
 use Rattle.rules.specs.Checks.{asksMulticast, placeOf}
 use Rattle.rules.specs.Opening.{opened, sideAt, verdictOf, replyOf, planAnswer, planEffect, askedAnswer, askedEffect, openAsked, configBytes, openAnswer, openEffect, openCall}
 use Rattle.rules.specs.Removal.{connTriad, removed, closed, closeFor, closeBy, closeAnswer, closeEffect, closeCall, expired, expiredFirst, expireAnswer, expireEffect, expireCall}

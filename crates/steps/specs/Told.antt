@@ -25,8 +25,8 @@ use Rattle.rules.specs.Receiving.{Frame, meantFor, outputEvents, received, fram
 use Rattle.rules.specs.Producing.{produceAnswer, produceEffect, produceCall}
 use Rattle.rules.specs.Host.{inputSet, setInputAnswer, setInputEffect, setInputCall, outputRead, outputAnswer, outputEffect, outputCall, nextEventAnswer, nextEventEffect, nextEventCall}
 use Rattle.rules.specs.Calls
-use Rattle.rules.specs.Calls.{Call, answer, next, run}
-use Rattle.steps.specs.Names.{ForwardOpen, OpenAnswer, CloseAnswer, Origin, Conn, Info, Event, Plan, Verdict}
+use Rattle.rules.specs.Calls.{Call, answer, next}
+use Rattle.steps.specs.Names.{ForwardOpen, OpenAnswer, CloseAnswer, Origin, Conn, Info, Event, Verdict}
 
 -- an accepted open: Opened, then the configuration data that it stored
 abbrev planTold : State → ForwardOpen → Origin → List ℕ → Verdict → List Event
