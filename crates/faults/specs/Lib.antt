@@ -1,5 +1,6 @@
-pub mod Names
 pub mod Bounds
+pub mod Rewinding
 pub mod RunBit
 pub mod Streams
 pub mod StandIns
+pub mod Examples

@@ -2,41 +2,35 @@
 -- than its timeout.
 use mathlib.Core.Path.{_≡_, refl, sym, _∙_, ap, subst}
 use mathlib.Core.List.{List, [], _∷_, _++_, map}
-use mathlib.Core.Option.{Option, none, some}
+use mathlib.Core.Option.{some}
 use mathlib.Core.Bool.{Bool, true, false, not, _&&_, _||_}
 use Prim.Native.Nat.{ℕ, zero, suc}
 use native.Mathlib.Omega.{arith}
 use lib.Dec.{eqb}
 use lib.ListN.{length, getD}
 use borrow.Author.Tests.{eq-eqb}
-use Rattle.wire_items.specs.Frames.{ioOf}
-use Rattle.wire_opens.specs.Requests.{closeOf}
-use Rattle.wire_opens.specs.declared.OpenAnswer.the-variants.{Open, NoOpen}
-use Rattle.wire_opens.specs.declared.CloseAnswer.the-variants.{Close, NoClose}
-use Rattle.rules.specs.declared.Verdict.the-variants.{Stopped, Planned}
 use Rattle.rules.specs.declared.Stores.the-variants.{Nothing, Into}
-use Rattle.rules.specs.declared.Event.the-variants.{Closed, TimedOut}
-use Rattle.rules.specs.Lists.{find, any, changeFirst, withoutFirst, changeAt, maybe, repeat}
+use Rattle.rules.specs.Lists.{find, any, changeFirst, withoutFirst, changeAt, maybe}
 use Rattle.rules_laws.specs.ListLaws
 use Rattle.rules_laws.specs.ListLaws.{by-cases, clash, either-way, All, and-left, and-right, eqb-true}
-use Rattle.rules.specs.State.{Setup, Shape, shapeAt, Content, noContent, State, isInput, isOutput, isOwner, isListener}
-use Rattle.rules.specs.Answers.{isYes, timely}
+use Rattle.rules.specs.State.{Setup, Shape, shapeAt, Content, noContent, State, isOutput, isOwner, isListener}
+use Rattle.rules.specs.Answers.{timely}
 use Rattle.rules.specs.Setup.{blank, fresh}
-use Rattle.rules.specs.Checks.{owns, placeOf}
-use Rattle.rules.specs.Opening.{holding, stored, newConn, opened, verdictOf, planEffect, askedEffect, openAsked, configBytes, openAnswer, openEffect, openCall}
-use Rattle.rules.specs.Removal.{afterRemoval, connTriad, idle, runLost, removed, closed, closeBy, closeAnswer, closeEffect, closeCall, expired, expiredFirst, expireAnswer, expireEffect, expireCall}
-use Rattle.rules_laws.specs.RemovalLaws.{removedIf}
-use Rattle.rules.specs.Receiving.{Frame, meantFor, hear, taken, changes, deliver, delivered, received, frameOf, receiveAnswer, receiveEffect, receiveCall}
-use Rattle.rules.specs.Producing.{sends, produceAnswer, produceEffect, produceCall}
-use Rattle.rules.specs.Host.{filled, read, inputSet, setInputAnswer, setInputEffect, setInputCall, outputRead, outputAnswer, outputEffect, outputCall, nextEventAnswer, nextEventEffect, nextEventCall}
+use Rattle.rules.specs.Checks.{owns}
+use Rattle.rules.specs.Opening.{holding, stored, newConn, opened, configBytes}
+use Rattle.rules.specs.Removal.{afterRemoval, idle, runLost, removed, expired, expireAnswer, expireEffect, expireCall}
+use Rattle.rules.specs.Receiving.{Frame, meantFor, hear, taken, changes, deliver, delivered, received}
+use Rattle.rules.specs.Producing.{sends, produceEffect}
+use Rattle.rules.specs.Host.{filled, read, nextEventEffect}
 use Rattle.rules.specs.Calls
 use Rattle.rules.specs.Calls.{Call, next, run}
 use Rattle.isolation.specs.Ends.{any-removal, reaches}
 use Rattle.isolation.specs.Survive.{none-left}
 use Rattle.isolation.specs.Seen.{hear-fixed, send-fixed, taken-owner}
 use Rattle.isolation.specs.Expiry.{owns-not, expire-table}
-use Rattle.isolation.specs.Sound.{Sound, sound, fresh-sound, run-sound, Owning}
-use Rattle.faults.specs.Names.{ForwardOpen, OpenAnswer, CloseAnswer, Origin, Stores, Fixed, Conn, Info, Event, Verdict}
+use Rattle.isolation.specs.Sound.{Sound, sound-kept, fresh-sound, Owning}
+use Rattle.steps.specs.Names.{ForwardOpen, Origin, Stores, Fixed, Conn, Info, Event, Plan}
+use Rattle.steps.specs.Steps.{Kept, kept, run-kept}
 
 -- a connection that owns the output at a place
 abbrev pub ownerOf : ℕ → Conn → Bool
@@ -50,7 +44,7 @@ abbrev pub Owned : State → Type 0
 Owned s = (i : ℕ) → InRun (s .setup) (s .table) i (getD (s .contents) i noContent)
 
 -- at a place after a change at another or the same
-at-change : (P : Content → Type 0) (i j : ℕ) (f : Content → Content) (l : List Content) → P (getD l i noContent) → (i ≡ j → P (f (getD l i noContent))) →
+pub at-change : (P : Content → Type 0) (i j : ℕ) (f : Content → Content) (l : List Content) → P (getD l i noContent) → (i ≡ j → P (f (getD l i noContent))) →
     P (getD (changeAt j f l) i noContent)
 at-change P i j f [] p q = p
 at-change P zero zero f (a ∷ l) p q = q refl
@@ -73,17 +67,13 @@ stored-run : (u : Setup) (l : List Conn) (x : Stores) (bytes : List ℕ) (cs : L
 stored-run u l Nothing bytes cs h i = h i
 stored-run u l (Into j) bytes cs h i = at-change (InRun u l i) i j (holding bytes) cs (h i) (λ e. h i)
 
-plan-owned : (now : ℕ) (q : ForwardOpen) (g : Origin) (bytes : List ℕ) (s : State) (v : Verdict) → Owned s → Owned (planEffect now q g bytes s v)
+opening : (t : ℕ) (request : List ℕ) (q : ForwardOpen) (g : Origin) (p : Plan) (s : State) → Owned s → Owned (opened t q g (configBytes request q) p s)
 unfolding opened
-plan-owned now q g bytes s (Stopped x) h i = h i
-plan-owned now q g bytes s (Planned p) h i =
-    let c = newConn now q g p (s .nextId) in
+opening t request q g p s h i =
+    let c = newConn t q g p (s .nextId) in
+    let bytes = configBytes request q in
     more (s .setup) (s .table) (s .table ++ (c ∷ [])) (λ j y. ListLaws.any-append (ownerOf j) (s .table) (c ∷ []) ∙ ap (λ b. b || (ownerOf j c || false)) y) i
     (getD (stored (p .stores) bytes (s .contents)) i noContent) (stored-run (s .setup) (s .table) (p .stores) bytes (s .contents) h i)
-
-request-owned : (now : ℕ) (g : Origin) (request : List ℕ) (s : State) → Owned s → (x : OpenAnswer) → Owned (askedEffect now g request s x)
-request-owned now g request s h NoOpen = h
-request-owned now g request s h (Open q) = plan-owned now q g (configBytes request q) s (verdictOf request q s) h
 
 -- REMOVAL: an owner that is not the removed one is left
 owner-left : (i : ℕ) (p : Conn → Bool) (c : Conn) (l : List Conn) → find p l ≡ some c → ownerOf i c ≡ false → any (ownerOf i) l ≡ true →
@@ -105,24 +95,14 @@ lost-before i f l =
     either-way (λ x. getD x i noContent .run ≡ true → getD l i noContent .run ≡ true) (isOwner (f .kind))
     (at-change (λ a. a .run ≡ true → getD l i noContent .run ≡ true) i (f .output) idle l (λ r. r) (λ e r. clash true refl (sym r))) (λ r. r)
 
-removed-owned : (fault : Bool) (why : Info → Event) (p : Conn → Bool) (s : State) (x : Option Conn) → find p (s .table) ≡ x → Owned s → Owned (removedIf fault why p s x)
+removing : (fault : Bool) (why : Info → Event) (p : Conn → Bool) (c : Conn) (s : State) → find p (s .table) ≡ some c → Owned s →
+    Owned (removed fault why c (withoutFirst p (s .table)) s)
 unfolding removed
-removed-owned fault why p s none e h i r = h i r
-removed-owned fault why p s (some c) e h i r =
+removing fault why p c s e h i r =
     let b = h i (lost-before i (c .fixed) (s .contents) r) in
     by-cases (ownerOf i c)
     (λ y. clash (getD (runLost (c .fixed) (s .contents)) i noContent .run) r (lost-there i (c .fixed) (s .contents) y))
     (λ n. (b .0, owner-left i p c (s .table) e n (b .1)))
-
-close-owned : (s : State) → Owned s → (x : CloseAnswer) → Owned (closeBy s x)
-unfolding closed
-close-owned s h NoClose = h
-close-owned s h (Close t) = removed-owned false Closed (connTriad t) s (find (connTriad t) (s .table)) refl h
-
-expire-owned : (now n : ℕ) (s : State) → Owned s → Owned (repeat n (expiredFirst now) s)
-unfolding expiredFirst
-expire-owned now zero s h = h
-expire-owned now (suc n) s h = expire-owned now n (expiredFirst now s) (removed-owned true TimedOut (expired now) s (find (expired now) (s .table)) refl h)
 
 -- RECEIVE: a frame's data goes to an output that its connection owns
 delivered-run : (u : Setup) (l : List Conn) (f : Frame) (c : Conn) (cs : List Content) → Owning u c → ((i : ℕ) → ownerOf i c ≡ true → any (ownerOf i) l ≡ true) →
@@ -140,12 +120,11 @@ delivered-run u l f c cs w own h i =
     (h i))))
     (λ n. rw n (h i))
 
-received-owned : (u : Setup) (now from : ℕ) (s : State) → Sound u s → Owned s → (x : Option Frame) → Owned (maybe s (λ f. received now from f s) x)
+hearing : (u : Setup) (t from : ℕ) (f : Frame) (s : State) → Sound u s → Owned s → Owned (received t from f s)
 unfolding received
-received-owned u now from s q h none i = h i
-received-owned u now from s q h (some f) i =
-    more (s .setup) (s .table) (changeFirst (meantFor from f) (hear now f) (s .table))
-    (λ j y. ListLaws.any-change (ownerOf j) (meantFor from f) (hear now f) (λ c. ap (λ (x : Fixed). owns j x) (hear-fixed now f c)) (s .table) ∙ y) i
+hearing u t from f s q h i =
+    more (s .setup) (s .table) (changeFirst (meantFor from f) (hear t f) (s .table))
+    (λ j y. ListLaws.any-change (ownerOf j) (meantFor from f) (hear t f) (λ c. ap (λ (x : Fixed). owns j x) (hear-fixed t f c)) (s .table) ∙ y) i
     (getD (maybe (s .contents) (λ c. delivered (s .setup) f c (s .contents)) (find (meantFor from f) (s .table))) i noContent)
     (ListLaws.found-is (s .contents) (λ c. delivered (s .setup) f c (s .contents)) (meantFor from f)
     (λ c. Owning (s .setup) c × ((g : Conn → Bool) → g c ≡ true → any g (s .table) ≡ true))
@@ -156,41 +135,43 @@ received-owned u now from s q h (some f) i =
     (λ c. Owning (s .setup) c × ((g : Conn → Bool) → g c ≡ true → any g (s .table) ≡ true)) (λ c a b. (a, b)) (s .table)
     (subst (λ v. All (Owning v) (s .table)) (sym (q .setup)) (q .outputs)) (ListLaws.self (s .table))))
 
-produce-owned : (now : ℕ) (s : State) → Owned s → Owned (produceEffect now s)
+producing : (t : ℕ) (s : State) → Owned s → Owned (produceEffect t s)
 unfolding produceEffect
-produce-owned now s h i =
-    more (s .setup) (s .table) (map (sends now) (s .table))
-    (λ j y. ListLaws.any-map (sends now) (ownerOf j) (ownerOf j) (λ c. ap (λ (x : Fixed). owns j x) (send-fixed now c)) (s .table) ∙ y) i (getD (s .contents) i noContent) (h i)
+producing t s h i =
+    more (s .setup) (s .table) (map (sends t) (s .table))
+    (λ j y. ListLaws.any-map (sends t) (ownerOf j) (ownerOf j) (λ c. ap (λ (x : Fixed). owns j x) (send-fixed t c)) (s .table) ∙ y) i (getD (s .contents) i noContent) (h i)
 
-input-owned : (bytes : List ℕ) (s : State) → Owned s → (x : Option ℕ) → Owned (inputSet bytes s x)
-input-owned bytes s h none i = h i
-input-owned bytes s h (some j) i = at-change (InRun (s .setup) (s .table) i) i j (filled (shapeAt (s .setup) j .size) bytes) (s .contents) (h i) (λ e. h i)
+noting : (s : State) → Owned s → Owned (nextEventEffect s)
+unfolding nextEventEffect
+noting s h = h
 
-output-owned : (s : State) → Owned s → (x : Option ℕ) → Owned (outputRead s x)
-output-owned s h none i = h i
-output-owned s h (some j) i = at-change (InRun (s .setup) (s .table) i) i j read (s .contents) (h i) (λ e. h i)
+-- EVERY CALL KEEPS IT, of a sound state
+abbrev Good : Setup → State → Type 0
+Good u s = Sound u s × Owned s
 
--- EVERY CALL KEEPS IT
-owned : (u : Setup) (c : Call) (s : State) → Sound u s → Owned s → Owned (next c s)
-unfolding openCall openEffect closeCall closeEffect receiveCall receiveEffect produceCall expireCall expireEffect setInputCall setInputEffect outputCall outputEffect nextEventCall nextEventEffect
-owned u (Calls.Open t service request g room) s q h = either-way Owned (isYes (openAnswer t service request g room s)) (request-owned t g request s h (openAsked service request)) h
-owned u (Calls.OpenRefusal service request room) s q h = h
-owned u (Calls.Close request room) s q h = either-way Owned (isYes (closeAnswer request room s)) (close-owned s h (closeOf request)) h
-owned u (Calls.Receive t from frame) s q h = either-way Owned (isYes (receiveAnswer t)) (received-owned u t from s q h (frameOf frame (ioOf frame))) h
-owned u (Calls.Produce t room) s q h = either-way Owned (isYes (produceAnswer t room s)) (produce-owned t s h) h
-owned u (Calls.Expire t) s q h = either-way Owned (isYes (expireAnswer t s)) (expire-owned t (length (s .table)) s h) h
-owned u (Calls.Deadline room) s q h = h
-owned u (Calls.SetInput n bytes) s q h = either-way Owned (isYes (setInputAnswer n bytes (s .setup))) (input-owned bytes s h (placeOf isInput (s .setup) n)) h
-owned u (Calls.ReadOutput n room) s q h = either-way Owned (isYes (outputAnswer n room s)) (output-owned s h (placeOf isOutput (s .setup) n)) h
-owned u (Calls.ReadAssembly kind n room) s q h = h
-owned u (Calls.NextEvent room) s q h = either-way Owned (isYes (nextEventAnswer room s)) h h
-owned u (Calls.Connections room) s q h = h
-owned u (Calls.Stats room) s q h = h
-owned u (Calls.Message local mask message room position) s q h = h
-
-run-owned : (u : Setup) (cs : List Call) (s : State) → Sound u s → Owned s → Owned (run cs s)
-run-owned u [] s q h = h
-run-owned u (c ∷ cs) s q h = run-owned u cs (next c s) (sound u c s q) (owned u c s q h)
+good-kept : (u : Setup) → Kept (Good u)
+good-kept u =
+    let k = sound-kept u in
+    record {
+      quiet =
+          record {
+            producing = λ t s h. (k .quiet .producing t s (h .0), producing t s (h .1));
+            setting =
+                λ n j bytes s e h. (
+                  k .quiet .setting n j bytes s e (h .0),
+                  (λ i. at-change (InRun (s .setup) (s .table) i) i j (filled (shapeAt (s .setup) j .size) bytes) (s .contents) (h .1 i) (λ z. h .1 i)),
+                );
+            reading =
+                λ n j s e h. (
+                  k .quiet .reading n j s e (h .0),
+                  (λ i. at-change (InRun (s .setup) (s .table) i) i j read (s .contents) (h .1 i) (λ z. h .1 i)),
+                );
+            noting = λ s h. (k .quiet .noting s (h .0), noting s (h .1));
+          };
+      removing = λ fault why p c s e h. (k .removing fault why p c s e (h .0), removing fault why p c s e (h .1));
+      opening = λ t request q g p s e h. (k .opening t request q g p s e (h .0), opening t request q g p s (h .1));
+      hearing = λ t from f s h. (k .hearing t from f s (h .0), hearing u t from f s (h .0) (h .1));
+    }
 
 blank-idle : (i : ℕ) (l : List Shape) → getD (map blank l) i noContent .run ≡ false
 blank-idle i [] = refl
@@ -203,10 +184,10 @@ fresh-owned u seed i r = clash (getD (map blank (u .assemblies)) i noContent .ru
 
 -- THE RUN BIT HAS AN OWNER
 pub run-has-owner : (u : Setup) (seed : ℕ) (cs : List Call) → Owned (run cs (fresh u seed))
-run-has-owner u seed cs = run-owned u cs (fresh u seed) (fresh-sound u seed) (fresh-owned u seed)
+run-has-owner u seed cs = run-kept (Good u) (good-kept u) cs (fresh u seed) (fresh-sound u seed, fresh-owned u seed) .1
 
 -- after an expiry call none is left that has been silent for longer than its timeout
-none-silent : (t : ℕ) (s : State) → All (λ c. expired t c ≡ false) (expireEffect t s .table)
+pub none-silent : (t : ℕ) (s : State) → All (λ c. expired t c ≡ false) (expireEffect t s .table)
 unfolding expireEffect
 none-silent t s =
     subst (All (λ c. expired t c ≡ false)) (sym (expire-table t (length (s .table)) s)) (none-left (reaches (expired t) (length (s .table)) (s .table) (omega arith)))
@@ -225,7 +206,7 @@ pub run-is-heard : (u : Setup) (seed : ℕ) (cs : List Call) (t : ℕ) → timel
 unfolding expireCall expireAnswer
 run-is-heard u seed cs t y i r =
     let s = run cs (fresh u seed) in
-    let q = run-owned u cs (fresh u seed) (fresh-sound u seed) (fresh-owned u seed) in
-    let o = owned u (Calls.Expire t) s (run-sound u cs (fresh u seed) (fresh-sound u seed)) q i r in
+    let q = run-kept (Good u) (good-kept u) cs (fresh u seed) (fresh-sound u seed, fresh-owned u seed) in
+    let o = kept (Good u) (good-kept u) (Calls.Expire t) s q .1 i r in
     let a : All (λ c. expired t c ≡ false) (next (Calls.Expire t) s .table) = rw y (none-silent t s) in
     still-heard t i (next (Calls.Expire t) s .table) a (o .1)

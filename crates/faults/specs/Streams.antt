@@ -4,36 +4,28 @@ use mathlib.Core.Path.{_≡_, refl, sym, _∙_, ap, ap₂, subst}
 use mathlib.Core.List.{List, [], _∷_, _++_, map}
 use mathlib.Core.Option.{Option, none, some}
 use mathlib.Core.Bool.{Bool, true, false, cond, not, _&&_, _||_}
-use Prim.Native.Nat.{ℕ, zero, suc}
+use Prim.Native.Nat.{ℕ}
 use lib.Dec.{eqb, eqb-refl}
-use lib.ListN.{length}
 use borrow.Author.Tests.{eq-eqb}
-use Rattle.wire_items.specs.Frames.{ioOf}
-use Rattle.wire_opens.specs.Requests.{closeOf}
-use Rattle.wire_opens.specs.declared.OpenAnswer.the-variants.{Open, NoOpen}
-use Rattle.wire_opens.specs.declared.CloseAnswer.the-variants.{Close, NoClose}
 use Rattle.rules.specs.declared.Stream.the-variants.{Joins, Own}
-use Rattle.rules.specs.declared.Verdict.the-variants.{Stopped, Planned}
-use Rattle.rules.specs.declared.Event.the-variants.{Closed, TimedOut}
-use Rattle.rules.specs.Lists.{find, any, changeFirst, withoutFirst, maybe, repeat}
+use Rattle.rules.specs.declared.Verdict.the-variants.{Planned}
+use Rattle.rules.specs.Lists.{find, any, changeFirst, withoutFirst}
 use Rattle.rules_laws.specs.ListLaws
 use Rattle.rules_laws.specs.ListLaws.{T-true, by-cases, clash, either-way, All, and-left, and-right}
-use Rattle.rules.specs.State.{Setup, State, withSent, produces, fixeds, isListener, isInput, isOutput}
-use Rattle.rules.specs.Answers.{isYes}
+use Rattle.rules.specs.State.{Setup, State, withSent, produces, fixeds, isListener}
 use Rattle.rules.specs.Setup.{fresh}
-use Rattle.rules.specs.Checks.{Roles, asksMulticast, carries, streamFound, streamOf, joins, streamCheck, rolesOf, pathIn, planOf, placeOf}
+use Rattle.rules.specs.Checks.{Roles, asksMulticast, carries, streamFound, streamOf, joins, streamCheck, rolesOf, pathIn, planOf}
 use Rattle.rules_laws.specs.CheckLaws
-use Rattle.rules.specs.Opening.{afterId, sideOf, firstDue, newFixed, newConn, opened, askedPath, verdictOf, planEffect, askedEffect, openAsked, configBytes, openAnswer, openEffect, openCall}
-use Rattle.rules.specs.Removal.{inStream, feeds, handsOn, handedOver, endsStream, withoutListeners, afterRemoval, connTriad, removed, closed, closeBy, closeAnswer, closeEffect, closeCall, expired, expiredFirst, expireAnswer, expireEffect, expireCall}
-use Rattle.rules_laws.specs.RemovalLaws.{removedIf}
-use Rattle.rules.specs.Receiving.{Frame, meantFor, newer, hear, received, frameOf, receiveAnswer, receiveEffect, receiveCall}
-use Rattle.rules.specs.Producing.{nextDue, due, sent, sends, produceAnswer, produceEffect, produceCall}
-use Rattle.rules.specs.Host.{inputSet, setInputAnswer, setInputEffect, setInputCall, outputRead, outputAnswer, outputEffect, outputCall, nextEventAnswer, nextEventEffect, nextEventCall}
-use Rattle.rules.specs.Calls
-use Rattle.rules.specs.Calls.{Call, next, run}
+use Rattle.rules.specs.Opening.{afterId, sideOf, firstDue, newFixed, newConn, opened, askedPath, verdictOf, configBytes}
+use Rattle.rules.specs.Removal.{inStream, feeds, handsOn, handedOver, endsStream, withoutListeners, afterRemoval, removed}
+use Rattle.rules.specs.Receiving.{Frame, meantFor, newer, hear, received}
+use Rattle.rules.specs.Producing.{nextDue, due, sent, sends, produceEffect}
+use Rattle.rules.specs.Host.{nextEventEffect}
+use Rattle.rules.specs.Calls.{Call, run}
 use Rattle.isolation.specs.Ends.{all-removal, to-id-is, in-stream-is}
 use Rattle.isolation.specs.Seen.{hear-fixed, send-fixed}
-use Rattle.faults.specs.Names.{ToId, Socket, ForwardOpen, OpenAnswer, CloseAnswer, Origin, Fixed, Due, Conn, Info, Event, Stream, Plan, Verdict}
+use Rattle.steps.specs.Names.{ToId, Socket, ForwardOpen, Origin, Fixed, Due, Conn, Info, Event, Stream, Plan}
+use Rattle.steps.specs.Steps.{Kept, run-kept}
 
 -- it sends the stream of that id
 abbrev pub source : ToId → Conn → Bool
@@ -292,32 +284,18 @@ module _ (u : Conn → Conn) (same : (c : Conn) → (u c) .fixed ≡ c .fixed) (
       ListLaws.all-change (Fed m) p u (fed-same m m (λ j. refl) (λ j. refl)) l
       (ListLaws.all-to (Fed l) (Fed m) (λ x k. record { joined = k .joined; feeder = λ y. sym (f (x .fixed .toid)) ∙ k .feeder y; sender = λ y. sym (g (x .fixed .toid)) ∙ k .sender y }) l a)
 
-abbrev Kept : State → Type 0
-Kept s = All-fed (s .table)
+abbrev Fed-state : State → Type 0
+Fed-state s = All-fed (s .table)
 
-plan-fed : (now : ℕ) (request : List ℕ) (q : ForwardOpen) (g : Origin) (bytes : List ℕ) (s : State) → Kept s → (v : Verdict) → verdictOf request q s ≡ v → Kept (planEffect now q g bytes s v)
+opening : (t : ℕ) (request : List ℕ) (q : ForwardOpen) (g : Origin) (p : Plan) (s : State) → verdictOf request q s ≡ Planned p → Fed-state s →
+    Fed-state (opened t q g (configBytes request q) p s)
 unfolding opened
-plan-fed now request q g bytes s a (Stopped x) e = a
-plan-fed now request q g bytes s a (Planned p) e = open-fed now q g (s .table) (s .nextId) p (admitted request q s p e) a
+opening t request q g p s e a = open-fed t q g (s .table) (s .nextId) p (admitted request q s p e) a
 
-request-fed : (now : ℕ) (g : Origin) (request : List ℕ) (s : State) → Kept s → (x : OpenAnswer) → Kept (askedEffect now g request s x)
-request-fed now g request s a NoOpen = a
-request-fed now g request s a (Open q) = plan-fed now request q g (configBytes request q) s a (verdictOf request q s) refl
-
-removed-fed : (fault : Bool) (why : Info → Event) (p : Conn → Bool) (s : State) (x : Option Conn) → find p (s .table) ≡ x → Kept s → Kept (removedIf fault why p s x)
+removing : (fault : Bool) (why : Info → Event) (p : Conn → Bool) (c : Conn) (s : State) → find p (s .table) ≡ some c → Fed-state s →
+    Fed-state (removed fault why c (withoutFirst p (s .table)) s)
 unfolding removed
-removed-fed fault why p s none e a = a
-removed-fed fault why p s (some c) e a = removal-fed p c (s .table) e a
-
-close-fed : (s : State) → Kept s → (x : CloseAnswer) → Kept (closeBy s x)
-unfolding closed
-close-fed s a NoClose = a
-close-fed s a (Close t) = removed-fed false Closed (connTriad t) s (find (connTriad t) (s .table)) refl a
-
-expire-fed : (now n : ℕ) (s : State) → Kept s → Kept (repeat n (expiredFirst now) s)
-unfolding expiredFirst
-expire-fed now zero s a = a
-expire-fed now (suc n) s a = expire-fed now n (expiredFirst now s) (removed-fed true TimedOut (expired now) s (find (expired now) (s .table)) refl a)
+removing fault why p c s e a = removal-fed p c (s .table) e a
 
 hear-sent : (now : ℕ) (f : Frame) (c : Conn) → produces (hear now f c .sent .due) ≡ produces (c .sent .due)
 unfolding hear
@@ -332,45 +310,28 @@ unfolding sent
 sends-sent now c =
     either-way (λ (x : Conn). produces (x .sent .due) ≡ produces (c .sent .due)) (due now c) (still-produces now (c .fixed .torpi) (c .sent .due)) refl
 
-received-fed : (now from : ℕ) (s : State) → Kept s → (x : Option Frame) → Kept (maybe s (λ f. received now from f s) x)
+hearing : (t from : ℕ) (f : Frame) (s : State) → Fed-state s → Fed-state (received t from f s)
 unfolding received
-received-fed now from s a none = a
-received-fed now from s a (some f) = change-fed (hear now f) (hear-fixed now f) (hear-sent now f) (meantFor from f) (s .table) a
+hearing t from f s a = change-fed (hear t f) (hear-fixed t f) (hear-sent t f) (meantFor from f) (s .table) a
 
-produce-fed : (now : ℕ) (s : State) → Kept s → Kept (produceEffect now s)
+producing : (t : ℕ) (s : State) → Fed-state s → Fed-state (produceEffect t s)
 unfolding produceEffect
-produce-fed now s a = map-fed (sends now) (send-fixed now) (sends-sent now) (s .table) a
+producing t s a = map-fed (sends t) (send-fixed t) (sends-sent t) (s .table) a
 
-input-fed : (bytes : List ℕ) (s : State) → Kept s → (x : Option ℕ) → Kept (inputSet bytes s x)
-input-fed bytes s a none = a
-input-fed bytes s a (some i) = a
+noting : (s : State) → Fed-state s → Fed-state (nextEventEffect s)
+unfolding nextEventEffect
+noting s a = a
 
-output-fed : (s : State) → Kept s → (x : Option ℕ) → Kept (outputRead s x)
-output-fed s a none = a
-output-fed s a (some i) = a
-
-stays-fed : (c : Call) (s : State) → Kept s → Kept (next c s)
-unfolding openCall openEffect closeCall closeEffect receiveCall receiveEffect produceCall expireCall expireEffect setInputCall setInputEffect outputCall outputEffect nextEventCall nextEventEffect
-stays-fed (Calls.Open t service request g room) s h = either-way Kept (isYes (openAnswer t service request g room s)) (request-fed t g request s h (openAsked service request)) h
-stays-fed (Calls.OpenRefusal service request room) s h = h
-stays-fed (Calls.Close request room) s h = either-way Kept (isYes (closeAnswer request room s)) (close-fed s h (closeOf request)) h
-stays-fed (Calls.Receive t from frame) s h = either-way Kept (isYes (receiveAnswer t)) (received-fed t from s h (frameOf frame (ioOf frame))) h
-stays-fed (Calls.Produce t room) s h = either-way Kept (isYes (produceAnswer t room s)) (produce-fed t s h) h
-stays-fed (Calls.Expire t) s h = either-way Kept (isYes (expireAnswer t s)) (expire-fed t (length (s .table)) s h) h
-stays-fed (Calls.Deadline room) s h = h
-stays-fed (Calls.SetInput n bytes) s h = either-way Kept (isYes (setInputAnswer n bytes (s .setup))) (input-fed bytes s h (placeOf isInput (s .setup) n)) h
-stays-fed (Calls.ReadOutput n room) s h = either-way Kept (isYes (outputAnswer n room s)) (output-fed s h (placeOf isOutput (s .setup) n)) h
-stays-fed (Calls.ReadAssembly kind n room) s h = h
-stays-fed (Calls.NextEvent room) s h = either-way Kept (isYes (nextEventAnswer room s)) h h
-stays-fed (Calls.Connections room) s h = h
-stays-fed (Calls.Stats room) s h = h
-stays-fed (Calls.Message local mask message room position) s h = h
-
-run-fed : (cs : List Call) (s : State) → Kept s → Kept (run cs s)
-run-fed [] s a = a
-run-fed (c ∷ cs) s a = run-fed cs (next c s) (stays-fed c s a)
+fed-kept : Kept Fed-state
+fed-kept =
+    record {
+      quiet = record { producing = producing; setting = λ n i bytes s e a. a; reading = λ n i s e a. a; noting = noting };
+      removing = removing;
+      opening = opening;
+      hearing = hearing;
+    }
 
 -- NO DISPLAY STAYS JOINED TO A STREAM THAT NOBODY SENDS
 pub streams-are-fed : (u : Setup) (seed : ℕ) (cs : List Call) → All-fed (run cs (fresh u seed) .table)
 unfolding fresh
-streams-are-fed u seed cs = run-fed cs (fresh u seed) tt
+streams-are-fed u seed cs = run-kept Fed-state fed-kept cs (fresh u seed) tt

@@ -11,7 +11,7 @@ use Rattle.rules_laws.specs.ListLaws.{by-cases}
 use Rattle.rules.specs.State.{Content, noContent, isOwner}
 use Rattle.rules.specs.Checks.{owns}
 use Rattle.rules.specs.Removal.{idle, runLost}
-use Rattle.isolation.specs.Names.{Fixed}
+use Rattle.steps.specs.Names.{Fixed}
 
 -- nothing is seen of what is held at a covered place
 abbrev pub cover : (ℕ → Bool) → List Content → List Content

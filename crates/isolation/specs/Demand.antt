@@ -25,7 +25,7 @@ use Rattle.rules.specs.Producing.{produceCall}
 use Rattle.rules.specs.Host.{read, outputBytes, outputAt, statsBytes, setInputCall, outputRead, outputAnswer, outputEffect, outputCall, nextEventAnswer, nextEventCall, connectionBytes, connectionsAnswer, statsAnswer}
 use Rattle.rules.specs.Calls
 use Rattle.rules.specs.Calls.{Call, answer, next, run}
-use Rattle.isolation.specs.Names.{Triad, Conn}
+use Rattle.steps.specs.Names.{Triad, Conn}
 use Rattle.isolation.specs.Contents.{change-alike, change-unseen, content-alike}
 use Rattle.isolation.specs.Survive.{in-table}
 use Rattle.isolation.specs.Seen

@@ -11,7 +11,7 @@ use Rattle.rules.specs.Lists.{find, any, keep, withoutFirst, repeat}
 use Rattle.rules_laws.specs.ListLaws
 use Rattle.rules_laws.specs.ListLaws.{by-cases, clash, either-way, of-cond, All, and-left, and-right, eqb-true}
 use Rattle.rules.specs.State.{withSent, isListener}
-use Rattle.isolation.specs.Names.{ToId, Fixed, Heard, Sent, Conn}
+use Rattle.steps.specs.Names.{ToId, Fixed, Heard, Sent, Conn}
 use Rattle.rules.specs.Removal.{inStream, feeds, handsOn, handedOver, endsStream, withoutListeners, afterRemoval, removeFirst}
 
 pub data Ends (p : Conn → Bool) : List Conn → List Conn → Type 0 where

@@ -1,7 +1,6 @@
 -- Demand 3 on examples: the premise is met in the subtle case, and without it the conclusion fails.
 use mathlib.Core.Path.{_≡_, refl, sym, _∙_, ap, ap₂}
 use mathlib.Core.List.{List, [], _∷_, _++_, map}
-use mathlib.Core.Option.{some}
 use mathlib.Core.Bool.{true, not, _&&_}
 use Prim.Native.Nat.{ℕ, _+_}
 use lib.ListN.{length, getD}
@@ -31,7 +30,7 @@ use Rattle.rules.specs.Lists.{any, keep}
 use Rattle.rules_laws.specs.ListLaws.{any-map}
 use Rattle.rules.proofs.Examples.{setup, start, ask, from, points, ending}
 use Rattle.rules.specs.State.{State, triadIs}
-use Rattle.isolation.specs.Names.{Triad, Conn}
+use Rattle.steps.specs.Names.{Triad, Conn}
 use Rattle.isolation.specs.Survive.{triad-of, in-table}
 use Rattle.isolation.specs.Demand.{removes, Paired, end, both, second-only, Same-expiries, other, Independent, demand-3}
 
@@ -45,10 +44,6 @@ calls = opening 1 198 10000 8 ∷ opening 2 199 10000 7 ∷ opening 3 198 10000 
 
 abbrev brief : Conn → ℕ × ℕ × ℕ
 brief c = (c .fixed .triad .serial, c .fixed .toid .0, c .sent .sequence)
-
-produced-on : map brief (run calls start .table) ≡ (2, 6, 1) ∷ (3, 6, 0) ∷ []
-unfolding fresh setupOk answerNumber le leOf bytesLe bytesBe startOf stepAt itemsFrom itemsOf ioOf ioFrame portAt logicalAt keyOf keyAt dataAt segAt Segments.between Segments.stepAt segsFrom segsOf gather ConnectionPath.some last connectionPath pathOf paramsAt triadAt wayAt placeAt fieldsOf openWith widthOf openOf closeOf infoOf infoRecord eventRecord oldestGone appended pushed pushedAll openReply triadReply encFields must andThen transportCheck pathCheck revisionOk keyStop keyCheck kindOf placeOf pointsCheck rolesOf configCheck rpiCheck typeCheck otSizeCheck toSizeCheck triadCheck ownerCheck streamOf streamCheck roomCheck planOf verdict afterId pointDest groupDest sideOf newFixed newHeard newConn opened verdictOf replyOf openAnswer openEffect openCall removed closed closeAnswer closeEffect closeCall expiredFirst expireEffect expireAnswer expireCall deadlineAnswer newer recorded hear taken changes deliver received receiveAnswer receiveEffect receiveCall sent frameSent packet packets counters produceAnswer produceEffect produceCall setInputAnswer setInputEffect setInputCall outputAnswer outputEffect outputCall nextEventAnswer nextEventEffect nextEventCall
-produced-on = refl
 
 -- in one run the listener of 7 times out; in the other a heartbeat of 7 keeps it, and it closes with its stream when 9 times out
 abbrev heartbeat : List ℕ
@@ -71,37 +66,60 @@ pair =
 abbrev told : State → List ℕ
 told st = map (λ e. getD e 0 0) (st .events .waiting)
 
+-- 8 listens to a stream of 7
+abbrev theirs : List Call
+theirs = opening 1 198 10000 7 ∷ opening 2 199 100000 8 ∷ []
+
+abbrev triad : ℕ → Triad
+triad n = record { serial = n; vendor = 1; originator = 1 }
+
+-- what the runs come to: who produces on, which events were told, which triads are there before the expiry, what is left after it
+facts :
+    (map brief (run calls start .table) ≡ (2, 6, 1) ∷ (3, 6, 0) ∷ []) ×
+    (told (run first start) ≡ 1 ∷ 1 ∷ 1 ∷ 2 ∷ 3 ∷ 3 ∷ []) ×
+    (told (run second start) ≡ 1 ∷ 1 ∷ 1 ∷ 2 ∷ 2 ∷ 3 ∷ []) ×
+    (map triad-of (run calls start .table) ≡ triad 2 ∷ triad 3 ∷ []) ×
+    (map triad-of (run (calls ++ (Call.Receive 30000 7 heartbeat ∷ [])) start .table) ≡ triad 2 ∷ triad 3 ∷ []) ×
+    (run first start .table ≡ []) ×
+    (run second start .table ≡ []) ×
+    (length (keep (other 7) (run (theirs ++ (Call.Expire 50000 ∷ [])) start .table)) ≡ 0) ×
+    (length (keep (other 7) (run (theirs ++ (Call.Receive 30000 7 (ioFrame 5 1 1 []) ∷ Call.Expire 50000 ∷ [])) start .table)) ≡ 1)
+unfolding fresh setupOk answerNumber le leOf bytesLe bytesBe startOf stepAt itemsFrom itemsOf ioOf ioFrame portAt logicalAt keyOf keyAt dataAt segAt
+    Segments.between Segments.stepAt segsFrom segsOf gather ConnectionPath.some last connectionPath pathOf paramsAt triadAt wayAt placeAt fieldsOf
+    openWith widthOf openOf closeOf infoOf infoRecord eventRecord oldestGone appended pushed pushedAll openReply triadReply encFields must andThen
+    transportCheck pathCheck revisionOk keyStop keyCheck kindOf placeOf pointsCheck rolesOf configCheck rpiCheck typeCheck otSizeCheck toSizeCheck
+    triadCheck ownerCheck streamOf streamCheck roomCheck planOf verdict afterId pointDest groupDest sideOf newFixed newHeard newConn opened verdictOf
+    replyOf openAnswer openEffect openCall removed closed closeAnswer closeEffect closeCall expiredFirst expireEffect expireAnswer expireCall
+    deadlineAnswer newer recorded hear taken changes deliver received receiveAnswer receiveEffect receiveCall sent frameSent packet packets counters
+    produceAnswer produceEffect produceCall setInputAnswer setInputEffect setInputCall outputAnswer outputEffect outputCall nextEventAnswer
+    nextEventEffect nextEventCall
+facts = (refl, refl, refl, refl, refl, refl, refl, refl, refl)
+
+produced-on : map brief (run calls start .table) ≡ (2, 6, 1) ∷ (3, 6, 0) ∷ []
+produced-on = facts .0
+
 by-time : told (run first start) ≡ 1 ∷ 1 ∷ 1 ∷ 2 ∷ 3 ∷ 3 ∷ []
-unfolding fresh setupOk answerNumber le leOf bytesLe bytesBe startOf stepAt itemsFrom itemsOf ioOf ioFrame portAt logicalAt keyOf keyAt dataAt segAt Segments.between Segments.stepAt segsFrom segsOf gather ConnectionPath.some last connectionPath pathOf paramsAt triadAt wayAt placeAt fieldsOf openWith widthOf openOf closeOf infoOf infoRecord eventRecord oldestGone appended pushed pushedAll openReply triadReply encFields must andThen transportCheck pathCheck revisionOk keyStop keyCheck kindOf placeOf pointsCheck rolesOf configCheck rpiCheck typeCheck otSizeCheck toSizeCheck triadCheck ownerCheck streamOf streamCheck roomCheck planOf verdict afterId pointDest groupDest sideOf newFixed newHeard newConn opened verdictOf replyOf openAnswer openEffect openCall removed closed closeAnswer closeEffect closeCall expiredFirst expireEffect expireAnswer expireCall deadlineAnswer newer recorded hear taken changes deliver received receiveAnswer receiveEffect receiveCall sent frameSent packet packets counters produceAnswer produceEffect produceCall setInputAnswer setInputEffect setInputCall outputAnswer outputEffect outputCall nextEventAnswer nextEventEffect nextEventCall
-by-time = refl
+by-time = facts .1
 
 by-stream : told (run second start) ≡ 1 ∷ 1 ∷ 1 ∷ 2 ∷ 2 ∷ 3 ∷ []
-unfolding fresh setupOk answerNumber le leOf bytesLe bytesBe startOf stepAt itemsFrom itemsOf ioOf ioFrame portAt logicalAt keyOf keyAt dataAt segAt Segments.between Segments.stepAt segsFrom segsOf gather ConnectionPath.some last connectionPath pathOf paramsAt triadAt wayAt placeAt fieldsOf openWith widthOf openOf closeOf infoOf infoRecord eventRecord oldestGone appended pushed pushedAll openReply triadReply encFields must andThen transportCheck pathCheck revisionOk keyStop keyCheck kindOf placeOf pointsCheck rolesOf configCheck rpiCheck typeCheck otSizeCheck toSizeCheck triadCheck ownerCheck streamOf streamCheck roomCheck planOf verdict afterId pointDest groupDest sideOf newFixed newHeard newConn opened verdictOf replyOf openAnswer openEffect openCall removed closed closeAnswer closeEffect closeCall expiredFirst expireEffect expireAnswer expireCall deadlineAnswer newer recorded hear taken changes deliver received receiveAnswer receiveEffect receiveCall sent frameSent packet packets counters produceAnswer produceEffect produceCall setInputAnswer setInputEffect setInputCall outputAnswer outputEffect outputCall nextEventAnswer nextEventEffect nextEventCall
-by-stream = refl
+by-stream = facts .2
+
+before-first : map triad-of (run calls start .table) ≡ triad 2 ∷ triad 3 ∷ []
+before-first = facts .3
+
+before-second : map triad-of (run (calls ++ (Call.Receive 30000 7 heartbeat ∷ [])) start .table) ≡ triad 2 ∷ triad 3 ∷ []
+before-second = facts .4
+
+after-first : run first start .table ≡ []
+after-first = facts .5
+
+after-second : run second start .table ≡ []
+after-second = facts .6
 
 -- what an expiry removes that leaves nothing, by the triads
 removes-all : (t : ℕ) (s : State) (ts : List Triad) → map triad-of (s .table) ≡ ts → next (Call.Expire t) s .table ≡ [] → (d : Triad) → removes t d s ≡ any (triadIs d) ts && true
 removes-all t s ts e f d =
     ap₂ (λ a (l : List Conn). a && not (in-table l d)) (sym (any-map triad-of (triadIs d) (connTriad d) (λ c. refl) (s .table)) ∙ ap (any (triadIs d)) e) f
-
-abbrev triad : ℕ → Triad
-triad n = record { serial = n; vendor = 1; originator = 1 }
-
-before-first : map triad-of (run calls start .table) ≡ triad 2 ∷ triad 3 ∷ []
-unfolding fresh setupOk answerNumber le leOf bytesLe bytesBe startOf stepAt itemsFrom itemsOf ioOf ioFrame portAt logicalAt keyOf keyAt dataAt segAt Segments.between Segments.stepAt segsFrom segsOf gather ConnectionPath.some last connectionPath pathOf paramsAt triadAt wayAt placeAt fieldsOf openWith widthOf openOf closeOf infoOf infoRecord eventRecord oldestGone appended pushed pushedAll openReply triadReply encFields must andThen transportCheck pathCheck revisionOk keyStop keyCheck kindOf placeOf pointsCheck rolesOf configCheck rpiCheck typeCheck otSizeCheck toSizeCheck triadCheck ownerCheck streamOf streamCheck roomCheck planOf verdict afterId pointDest groupDest sideOf newFixed newHeard newConn opened verdictOf replyOf openAnswer openEffect openCall removed closed closeAnswer closeEffect closeCall expiredFirst expireEffect expireAnswer expireCall deadlineAnswer newer recorded hear taken changes deliver received receiveAnswer receiveEffect receiveCall sent frameSent packet packets counters produceAnswer produceEffect produceCall setInputAnswer setInputEffect setInputCall outputAnswer outputEffect outputCall nextEventAnswer nextEventEffect nextEventCall
-before-first = refl
-
-before-second : map triad-of (run (calls ++ (Call.Receive 30000 7 heartbeat ∷ [])) start .table) ≡ triad 2 ∷ triad 3 ∷ []
-unfolding fresh setupOk answerNumber le leOf bytesLe bytesBe startOf stepAt itemsFrom itemsOf ioOf ioFrame portAt logicalAt keyOf keyAt dataAt segAt Segments.between Segments.stepAt segsFrom segsOf gather ConnectionPath.some last connectionPath pathOf paramsAt triadAt wayAt placeAt fieldsOf openWith widthOf openOf closeOf infoOf infoRecord eventRecord oldestGone appended pushed pushedAll openReply triadReply encFields must andThen transportCheck pathCheck revisionOk keyStop keyCheck kindOf placeOf pointsCheck rolesOf configCheck rpiCheck typeCheck otSizeCheck toSizeCheck triadCheck ownerCheck streamOf streamCheck roomCheck planOf verdict afterId pointDest groupDest sideOf newFixed newHeard newConn opened verdictOf replyOf openAnswer openEffect openCall removed closed closeAnswer closeEffect closeCall expiredFirst expireEffect expireAnswer expireCall deadlineAnswer newer recorded hear taken changes deliver received receiveAnswer receiveEffect receiveCall sent frameSent packet packets counters produceAnswer produceEffect produceCall setInputAnswer setInputEffect setInputCall outputAnswer outputEffect outputCall nextEventAnswer nextEventEffect nextEventCall
-before-second = refl
-
-after-first : run first start .table ≡ []
-unfolding fresh setupOk answerNumber le leOf bytesLe bytesBe startOf stepAt itemsFrom itemsOf ioOf ioFrame portAt logicalAt keyOf keyAt dataAt segAt Segments.between Segments.stepAt segsFrom segsOf gather ConnectionPath.some last connectionPath pathOf paramsAt triadAt wayAt placeAt fieldsOf openWith widthOf openOf closeOf infoOf infoRecord eventRecord oldestGone appended pushed pushedAll openReply triadReply encFields must andThen transportCheck pathCheck revisionOk keyStop keyCheck kindOf placeOf pointsCheck rolesOf configCheck rpiCheck typeCheck otSizeCheck toSizeCheck triadCheck ownerCheck streamOf streamCheck roomCheck planOf verdict afterId pointDest groupDest sideOf newFixed newHeard newConn opened verdictOf replyOf openAnswer openEffect openCall removed closed closeAnswer closeEffect closeCall expiredFirst expireEffect expireAnswer expireCall deadlineAnswer newer recorded hear taken changes deliver received receiveAnswer receiveEffect receiveCall sent frameSent packet packets counters produceAnswer produceEffect produceCall setInputAnswer setInputEffect setInputCall outputAnswer outputEffect outputCall nextEventAnswer nextEventEffect nextEventCall
-after-first = refl
-
-after-second : run second start .table ≡ []
-unfolding fresh setupOk answerNumber le leOf bytesLe bytesBe startOf stepAt itemsFrom itemsOf ioOf ioFrame portAt logicalAt keyOf keyAt dataAt segAt Segments.between Segments.stepAt segsFrom segsOf gather ConnectionPath.some last connectionPath pathOf paramsAt triadAt wayAt placeAt fieldsOf openWith widthOf openOf closeOf infoOf infoRecord eventRecord oldestGone appended pushed pushedAll openReply triadReply encFields must andThen transportCheck pathCheck revisionOk keyStop keyCheck kindOf placeOf pointsCheck rolesOf configCheck rpiCheck typeCheck otSizeCheck toSizeCheck triadCheck ownerCheck streamOf streamCheck roomCheck planOf verdict afterId pointDest groupDest sideOf newFixed newHeard newConn opened verdictOf replyOf openAnswer openEffect openCall removed closed closeAnswer closeEffect closeCall expiredFirst expireEffect expireAnswer expireCall deadlineAnswer newer recorded hear taken changes deliver received receiveAnswer receiveEffect receiveCall sent frameSent packet packets counters produceAnswer produceEffect produceCall setInputAnswer setInputEffect setInputCall outputAnswer outputEffect outputCall nextEventAnswer nextEventEffect nextEventCall
-after-second = refl
 
 -- the same connections are gone, so the premise is met
 pub premise-met : Same-expiries pair start start
@@ -131,13 +149,9 @@ pub holds : Independent pair start
 holds = demand-3 7 setup 4 pair premise-met
 
 -- WITHOUT THE PREMISE the conclusion fails: 8 listens to a stream of 7, whose time-out closes the listener in one run only
-abbrev theirs : List Call
-theirs = opening 1 198 10000 7 ∷ opening 2 199 100000 8 ∷ []
 
 pub closes : length (keep (other 7) (run (theirs ++ (Call.Expire 50000 ∷ [])) start .table)) ≡ 0
-unfolding fresh setupOk answerNumber le leOf bytesLe bytesBe startOf stepAt itemsFrom itemsOf ioOf ioFrame portAt logicalAt keyOf keyAt dataAt segAt Segments.between Segments.stepAt segsFrom segsOf gather ConnectionPath.some last connectionPath pathOf paramsAt triadAt wayAt placeAt fieldsOf openWith widthOf openOf closeOf infoOf infoRecord eventRecord oldestGone appended pushed pushedAll openReply triadReply encFields must andThen transportCheck pathCheck revisionOk keyStop keyCheck kindOf placeOf pointsCheck rolesOf configCheck rpiCheck typeCheck otSizeCheck toSizeCheck triadCheck ownerCheck streamOf streamCheck roomCheck planOf verdict afterId pointDest groupDest sideOf newFixed newHeard newConn opened verdictOf replyOf openAnswer openEffect openCall removed closed closeAnswer closeEffect closeCall expiredFirst expireEffect expireAnswer expireCall deadlineAnswer newer recorded hear taken changes deliver received receiveAnswer receiveEffect receiveCall sent frameSent packet packets counters produceAnswer produceEffect produceCall setInputAnswer setInputEffect setInputCall outputAnswer outputEffect outputCall nextEventAnswer nextEventEffect nextEventCall
-closes = refl
+closes = facts .7
 
 pub stays : length (keep (other 7) (run (theirs ++ (Call.Receive 30000 7 (ioFrame 5 1 1 []) ∷ Call.Expire 50000 ∷ [])) start .table)) ≡ 1
-unfolding fresh setupOk answerNumber le leOf bytesLe bytesBe startOf stepAt itemsFrom itemsOf ioOf ioFrame portAt logicalAt keyOf keyAt dataAt segAt Segments.between Segments.stepAt segsFrom segsOf gather ConnectionPath.some last connectionPath pathOf paramsAt triadAt wayAt placeAt fieldsOf openWith widthOf openOf closeOf infoOf infoRecord eventRecord oldestGone appended pushed pushedAll openReply triadReply encFields must andThen transportCheck pathCheck revisionOk keyStop keyCheck kindOf placeOf pointsCheck rolesOf configCheck rpiCheck typeCheck otSizeCheck toSizeCheck triadCheck ownerCheck streamOf streamCheck roomCheck planOf verdict afterId pointDest groupDest sideOf newFixed newHeard newConn opened verdictOf replyOf openAnswer openEffect openCall removed closed closeAnswer closeEffect closeCall expiredFirst expireEffect expireAnswer expireCall deadlineAnswer newer recorded hear taken changes deliver received receiveAnswer receiveEffect receiveCall sent frameSent packet packets counters produceAnswer produceEffect produceCall setInputAnswer setInputEffect setInputCall outputAnswer outputEffect outputCall nextEventAnswer nextEventEffect nextEventCall
-stays = refl
+stays = facts .8

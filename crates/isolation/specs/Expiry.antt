@@ -17,7 +17,7 @@ use Rattle.rules.specs.Answers.{Gone, atTime}
 use Rattle.rules.specs.Checks.{owns}
 use Rattle.rules.specs.Removal.{afterRemoval, removeFirst, connTriad, expired, removed, expiredFirst, expireEffect, expireAnswer}
 use Rattle.rules_laws.specs.RemovalLaws.{removedIf}
-use Rattle.isolation.specs.Names.{Triad, Kind, Conn}
+use Rattle.steps.specs.Names.{Triad, Kind, Conn}
 use Rattle.isolation.specs.Ends.{reaches, any-removal, all-ends, length-removal, empty}
 use Rattle.isolation.specs.Survive.{Distinct, in-table, same-left}
 use Rattle.isolation.specs.Contents.{cover, idleBy, idle-none, idle-two, idles-alike, run-lost}

@@ -1,5 +1,5 @@
-pub mod Names
 pub mod Ends
+pub mod Apart
 pub mod Survive
 pub mod Contents
 pub mod Seen

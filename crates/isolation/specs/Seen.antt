@@ -28,7 +28,7 @@ use Rattle.rules.specs.Receiving.{Frame, meantFor, newer, hasCip, repeats, righ
 use Rattle.rules.specs.Producing
 use Rattle.rules.specs.Producing.{due, lateBy, delays, sent, sends, packet, packets, inputBytes, counters, produceAnswer, produceEffect}
 use Rattle.rules.specs.Host.{filled, inputSet, setInputAnswer, setInputEffect, nextEventEffect}
-use Rattle.isolation.specs.Names.{AssemblyKind, ForwardOpen, OpenAnswer, CloseAnswer, Origin, Fixed, Heard, Conn, Info, Event, Stores, Plan, Verdict}
+use Rattle.steps.specs.Names.{AssemblyKind, ForwardOpen, OpenAnswer, CloseAnswer, Origin, Fixed, Heard, Conn, Info, Event, Stores, Plan, Verdict}
 use Rattle.isolation.specs.Ends.{rehear, removal-rehear}
 use Rattle.isolation.specs.Contents.{cover, change-alike, change-unseen, content-alike, idles-alike, run-lost}
 

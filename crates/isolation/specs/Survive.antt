@@ -8,8 +8,10 @@ use Rattle.rules.specs.Lists.{find, any, keep, maybe}
 use Rattle.rules_laws.specs.ListLaws
 use Rattle.rules_laws.specs.ListLaws.{by-cases, clash, All, and-left, and-right, eqb-true, T-true}
 use Rattle.rules.specs.State.{triadIs, withSent}
-use Rattle.isolation.specs.Names.{ToId, Triad, Fixed, Heard, Sent, Conn}
+use Rattle.steps.specs.Names.{ToId, Triad, Fixed, Heard, Sent, Conn}
+use Rattle.rules.specs.Checks.{hasTriad}
 use Rattle.rules.specs.Removal.{inStream, connTriad}
+use Rattle.isolation.specs.Apart.{Apart}
 use Rattle.isolation.specs.Ends.{Ends, done, step, one-end, all-ends, back-ends, outside, keep-ends, same-test, rehear, ends-rehear}
 
 pub triad-is-true : (a b : Triad) → triadIs a b ≡ true → a ≡ b
@@ -29,9 +31,9 @@ triad-is-sym a b e = by-cases (triadIs b a) (λ t. cc (triad-is-true b a t, tria
 abbrev pub triad-of : Conn → Triad
 triad-of c = c .fixed .triad
 
+-- no triad twice
 abbrev pub Distinct : List Conn → Type 0
-Distinct [] = Unit {0}
-Distinct (c ∷ cs) = (any (connTriad (triad-of c)) cs ≡ false) × Distinct cs
+Distinct l = Apart (λ a. hasTriad (a .triad)) l
 
 -- what the triad tells of the connection
 module _ (f : Conn → Bool) where
