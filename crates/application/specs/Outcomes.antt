@@ -1,4 +1,4 @@
--- What code answers, in document 01's numbers, and what it may take for granted of the lent state.
+-- What code answers, as a number (rules, chapter 2), and what it may take for granted of the lent state.
 use Prim.Native.Nat.{ℕ, _*_, _^_}
 use mathlib.Core.Bool.{true}
 use mathlib.Core.List.{List}

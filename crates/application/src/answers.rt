@@ -1,4 +1,4 @@
-// What a call answers, before it is document 01's number.
+// What a call answers, before it is a number (rules, chapter 2).
 ghost use mathlib.Core.Path.{_≡_};
 ghost use Rattle.application.specs.Outcomes.{outcomeNumber};
 

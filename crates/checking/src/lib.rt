@@ -1,4 +1,4 @@
-// The checks of an open that read the request and the setup's numbers: document 01's checks 1, 2, 3, 6 and 7, over the lent bytes. One
+// The checks of an open that read the request and the setup's numbers: rules 6.1, 6.2, 6.3, 6.6 and 6.7, over the lent bytes. One
 // function for each; what stops an open carries the value found and what would have passed.
 pub mod key;
 pub mod request;

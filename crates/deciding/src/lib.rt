@@ -1,4 +1,4 @@
-// The decision of an open: document 01's thirteen checks in its order, over the lent state. The first that does not hold stops the open;
+// The decision of an open: the thirteen checks of chapter 6 in their order, over the lent state. The first that does not hold stops the open;
 // where all hold the plan says what the open comes to. Nothing is changed here.
 use checking::Check;
 use roles::Points;

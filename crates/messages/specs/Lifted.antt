@@ -1,4 +1,4 @@
--- MESSAGE on lent bytes: No. 1 where the state test or the position's own test fails, else the rules' answer in document 01's numbers,
+-- MESSAGE on lent bytes: No. 1 where the state test or the position's own test fails, else the rules' answer as its number,
 -- the position that it leaves, and its reply at the start of the output.
 use Prim.Native.Nat.{ℕ, _*_, _^_, _≤_, _<_}
 use mathlib.Core.Bool.{Bool, true, false, _&&_}

@@ -87,7 +87,7 @@ module _ (c : Conn) (next : ℕ) (x : Stores) (d s s₁ s₂ s₃ : List ℕ) wh
       let h₂ = b (placed c next st) l h₁ f in
       record { is = e (storedAs x d (placed c next st)) l h₂; suits = suits-fault (storedAs x d (placed c next st)) l (h₂ .suits) false }
 
--- the steps together are document 01's open
+-- the steps together are the rules' open
 module _ (t : ℕ) (o : ForwardOpen) (g : Origin) (d : List ℕ) (p : Plan) (st : State) where
   abbrev c : Conn
   c = newConn t o g p (st .nextId)

@@ -1,4 +1,4 @@
-// Frames in. A frame is for the first connection with its O→T id and its sender's address; document 01's order decides what is
+// Frames in. A frame is for the first connection with its O→T id and its sender's address; the rules' order (chapter 9) decides what is
 // recorded before what is looked at.
 use ids::OtId;
 use layout::Found;

@@ -1,4 +1,4 @@
--- A connection removed: the steps together are document 01's removal.
+-- A connection removed: the steps together are the rules' removal.
 use Prim.Native.Nat.{ℕ, _-_, _<_}
 use mathlib.Core.Bool.{Bool, true, false}
 use mathlib.Core.List.{List}
@@ -63,7 +63,7 @@ goes s s₁ s₂ what i f x p ef ex a b st l o =
     let m : x ≡ getD (st .table) i noConn .sent = ex ∙ ap (λ (z : Conn). z .sent) c in
     subst (λ (z : State). Held s₂ z l) (λ j. without-it what (k j) (m j) (rowGone i st)) (b (rowGone i st) l (a st l o))
 
--- ---- document 01's removal
+-- ---- the rules' removal
 
 -- its state, by what is left of the table
 abbrev after : Bool → Event → Conn → State → List Conn → State

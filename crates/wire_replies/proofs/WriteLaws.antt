@@ -12,7 +12,7 @@ use Rattle.cells.specs.Records.{sum, encFields, putFields, Laid, putFields-eq, 
 use Rattle.cells.specs.Writes.{written, written-all, written-none}
 use Rattle.cells.specs.declared.Written.{Written}
 use Rattle.cells.specs.declared.Written.the-variants.{Bytes, NoRoom}
-use Rattle.wire_replies.specs.Replies.{withBit7, extended, replyHead, shortString}
+use Rattle.wire_replies.specs.Replies.{withBit7, extended, replyHead}
 
 -- a put over what was written before; and one of a value that is known by another name
 pub put-on : (w at v : ℕ) {l l′ l″ : List ℕ} → l″ ≡ put w l′ at v → l′ ≡ l → l″ ≡ put w l at v
@@ -73,30 +73,3 @@ module _ (service general words first second : ℕ) (out : List ℕ) (r : Writte
 
   pub two-words : 2 ≤ words → (r, out′) ≡ written out (replyHead service general 2 first second) → (r, out′) ≡ written out (replyHead service general words first second)
   two-words e h = h ∙ sym (ap (written out) (head-both service general words first second e))
-
--- ---- a text, cut
-
-module _ (text : List ℕ) (n : ℕ) (e : n ≡ min 255 (length text)) where
-  pub cut-length : length (take n text) ≡ n
-  cut-length = length-take-le n text (omega arith)
-
-  cut-long : length (take 255 text) ≡ n
-  cut-long = length-take 255 text ∙ sym e
-
-  cut-same : take n text ≡ take 255 text
-  cut-same =
-      sym (take-take n 255 text (omega arith))
-      ∙ ap (λ (k : ℕ). take k (take 255 text)) (sym cut-long)
-      ∙ take-length (take 255 text)
-
-  pub cut-none : (l : List ℕ) → length l ≤ n → (NoRoom, l) ≡ written l (shortString text)
-  unfolding shortString
-  cut-none l h = sym (written-none l _ (omega (arith, cut-long)))
-
-  pub cut-put : (l l′ l″ : List ℕ) → n < length l → l′ ≡ put 1 l 0 n → l″ ≡ sets l′ 1 (take n text) → (Bytes (1 + n), l″) ≡ written l (shortString text)
-  unfolding shortString put bytesLe
-  cut-put l l′ l″ h f g =
-      ap₂ (λ (k : ℕ) (x : List ℕ). (Bytes k, x))
-      (omega (arith, cut-long))
-      (g ∙ ap (λ (x : List ℕ). sets x 1 (take n text)) f ∙ ap₂ (λ (k : ℕ) (y : List ℕ). sets (set l 0 k) 1 y) (sym cut-long) cut-same)
-      ∙ sym (written-all l (length (take 255 text) ∷ take 255 text) (omega (arith, cut-long)))

@@ -68,7 +68,3 @@ replyHeadFields service general words first second =
 unfoldable pub replyHead : ℕ → ℕ → ℕ → ℕ → ℕ → List ℕ
 replyHead service general words first second =
     encFields (replyHeadWidths words first second) (replyHeadFields service general words first second)
-
--- a short string: a length byte and the bytes, cut at 255
-unfoldable pub shortString : List ℕ → List ℕ
-shortString text = length (take 255 text) ∷ take 255 text

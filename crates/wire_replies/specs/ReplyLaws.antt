@@ -11,7 +11,7 @@ use Rattle.cells.specs.Records.{sum, encFields, decFields, Laid, length-encFiel
 use Rattle.ids.specs.declared.OtId.{OtId}
 use Rattle.ids.specs.declared.ToId.{ToId}
 use Rattle.ids.specs.declared.Triad.{Triad}
-use Rattle.wire_replies.specs.Replies.{openReply, openReplyWidths, openReplyFields, openRefusal, closeReply, triadReplyWidths, triadReplyFields, triadReply, extended, replyHeadWidths, replyHeadFields, replyHead, shortString}
+use Rattle.wire_replies.specs.Replies.{openReply, openReplyWidths, openReplyFields, openRefusal, closeReply, triadReplyWidths, triadReplyFields, triadReply, extended, replyHeadWidths, replyHeadFields, replyHead}
 
 pub read-back : (ws vs : List ℕ) → T (Laid ws vs) → (out : List ℕ) → sum ws ≤ length out → decFields ws (sets out 0 (encFields ws vs)) 0 ≡ vs
 read-back ws vs t out h =
@@ -66,7 +66,3 @@ unfolding replyHead sum
 reply-head-long service general words first second =
     length-encFields (replyHeadWidths words first second) (replyHeadFields service general words first second) (words-laid (extended words first second))
     ∙ omega (arith, words-sum (extended words first second), length-take words (first ∷ second ∷ []))
-
-pub short-string-long : (text : List ℕ) → length (shortString text) ≡ 1 + min 255 (length text)
-unfolding shortString
-short-string-long text = omega (arith, length-take 255 text)

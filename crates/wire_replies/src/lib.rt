@@ -1,12 +1,12 @@
 // What the adapter answers an open, a close and any message with. Each writer puts its bytes at the start of the lent
 // output and says how many they are; where they do not fit it writes nothing. Numbers are little-endian.
 ghost use mathlib.Core.Path.{_≡_};
-ghost use Prim.Native.Nat.{_+_, _≤_, min};
+ghost use Prim.Native.Nat.{_+_, _≤_};
 ghost use mathlib.Core.List.{[], _∷_};
 ghost use lib.ListN.{length};
 ghost use Rattle.cells.specs.Records.{putFields};
 ghost use Rattle.cells.specs.Writes.{written};
-ghost use Rattle.wire_replies.specs.Replies.{triadWidths, triadFields, withBit7, headWidths, headFields, openReply, triadReply, openRefusal, closeReply, replyHead, shortString};
+ghost use Rattle.wire_replies.specs.Replies.{triadWidths, triadFields, withBit7, headWidths, headFields, openReply, triadReply, openRefusal, closeReply, replyHead};
 use cells::Written;
 use ids::OtId;
 use ids::ToId;
@@ -144,23 +144,4 @@ pub fn reply_head(
         return head_one(out, service, general, first);
     }
     head_two(out, service, general, first, second)
-}
-
-fn cut(n: usize) -> usize
-    ensures { λ r. ⌜ (r ≡ min 255 n) × (r ≤ 255) ⌝ }
-{
-    if n < 255 { n } else { 255 }
-}
-
-// A short string: its length in one byte, and its bytes, cut at 255.
-pub fn short_string(out: &mut [u8], text: &[u8]) -> Written
-    ensures { λ r. ⌜ (r, now (out .exit)) ≡ written (now (out .entry)) (shortString (now (text .entry))) ⌝ }
-{
-    let n = cut(text.len());
-    if out.len() <= n {
-        return Written::NoRoom;
-    }
-    cells::put_u8(out, 0, n as u8);
-    cells::copy_in(out, 1, &text[..n]);
-    Written::Bytes(1 + n)
 }
