@@ -113,6 +113,26 @@ pub struct Open {
 }
 
 impl Open {
+    /// A small open at 10 ms each way, of one originator, to be changed where a case asks.
+    pub fn plain(serial: u16, o_t: Params, t_o: Params, path: Vec<u8>) -> Open {
+        Open {
+            large: false,
+            o_t_id: 0,
+            t_o_id: 0x7000 + u32::from(serial),
+            serial,
+            vendor: 2,
+            originator: 3,
+            multiplier: 0,
+            o_t_rpi: 10_000,
+            o_t,
+            t_o_rpi: 10_000,
+            t_o,
+            transport: 1,
+            path,
+            behind: Vec::new(),
+        }
+    }
+
     pub fn service(&self) -> u8 {
         if self.large { 0x5B } else { 0x54 }
     }

@@ -39,22 +39,8 @@ fn points(point: u32) -> Vec<Seg> {
 
 /// An open that passes, at intervals of 10 and 1,000 ms.
 fn ask(serial: u16, point: u32, net: u8) -> Open {
-    Open {
-        large: false,
-        o_t_id: 0,
-        t_o_id: 0x7000 + u32::from(serial),
-        serial,
-        vendor: 2,
-        originator: 3,
-        multiplier: 0,
-        o_t_rpi: 10_000,
-        o_t: Params::new(if point == OWNER { 8 } else { 0 }, POINT_TO_POINT),
-        t_o_rpi: 1_000_000,
-        t_o: Params::new(3, net),
-        transport: 1,
-        path: bytes::path(&points(point)),
-        behind: Vec::new(),
-    }
+    let o_t = Params::new(if point == OWNER { 8 } else { 0 }, POINT_TO_POINT);
+    Open { t_o_rpi: 1_000_000, ..Open::plain(serial, o_t, Params::new(3, net), bytes::path(&points(point))) }
 }
 
 fn open_on(local: u32, time: u64, peer: u32, open: &Open) -> Call {

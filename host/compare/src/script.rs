@@ -76,22 +76,8 @@ fn upload(wanted: u8) -> Vec<Call> {
 
 fn open(time: u64, serial: u16) -> Call {
     let path = bytes::path(&[Seg::Class(4, 0), Seg::Point(238, 0), Seg::Point(100, 0)]);
-    let open = Open {
-        large: true, // a size of 514 has more than nine bits
-        o_t_id: 0,
-        t_o_id: 0x7000 + u32::from(serial),
-        serial,
-        vendor: 2,
-        originator: 3,
-        multiplier: 0,
-        o_t_rpi: 10_000,
-        o_t: Params::new(2, POINT_TO_POINT),
-        t_o_rpi: 10_000,
-        t_o: Params::new(514, POINT_TO_POINT),
-        transport: 1,
-        path,
-        behind: Vec::new(),
-    };
+    let (o_t, t_o) = (Params::new(2, POINT_TO_POINT), Params::new(514, POINT_TO_POINT));
+    let open = Open { large: true, ..Open::plain(serial, o_t, t_o, path) }; // a size of 514 has more than nine bits
     let (service, request) = (open.service(), open.bytes());
     Call::Open {
         time,

@@ -56,22 +56,7 @@ fn path(point: u32, input: u32) -> Vec<u8> {
 
 /// An input-only open, T→O point-to-point.
 fn heartbeat(serial: u16) -> Open {
-    Open {
-        large: false,
-        o_t_id: 0,
-        t_o_id: 0x7000 + u32::from(serial),
-        serial,
-        vendor: 2,
-        originator: 3,
-        multiplier: 0,
-        o_t_rpi: 10_000,
-        o_t: Params::new(2, POINT_TO_POINT),
-        t_o_rpi: 10_000,
-        t_o: Params::new(6, POINT_TO_POINT),
-        transport: 1,
-        path: path(238, 100),
-        behind: Vec::new(),
-    }
+    Open::plain(serial, Params::new(2, POINT_TO_POINT), Params::new(6, POINT_TO_POINT), path(238, 100))
 }
 
 fn owner(serial: u16, output: u32) -> Open {
