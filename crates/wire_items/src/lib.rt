@@ -100,13 +100,6 @@ pub fn step_at(s: &[u8], at: usize, left: usize) -> Step
     }
 }
 
-// What a cursor finds: the next item, the end of a well-formed list, or where the list breaks.
-pub fn advance(s: &[u8], c: Cursor) -> Step
-    ensures { λ r. ⌜ r ≡ stepAt (now (s .entry)) (c .at) (c .left) ⌝ }
-{
-    step_at(s, c.at, c.left)
-}
-
 // Whether `count` items from a place on are well formed and end with the data, or where they break.
 fn whole_from(s: &[u8], from: usize, count: usize) -> Whole
     ensures { λ r. ⌜ r ≡ wholeOf (itemsFrom count (now (s .entry)) from) ⌝ }

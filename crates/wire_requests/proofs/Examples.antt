@@ -4,12 +4,12 @@ use mathlib.Core.Path.{_≡_, refl}
 use mathlib.Core.List.{List, [], _∷_}
 use lib.ListN.{replicate}
 use Rattle.cells.specs.Numbers.{le, leOf}
-use Rattle.wire_paths.specs.Segments.{portOffset, linkOffset, linkSize, portOf, portAt, logicalAt, keyOf, keyAt, dataAt, between, segAt, stepAt, segsFrom, segsOf}
+use Rattle.wire_paths.specs.Segments.{Segs, segs, broken, portOffset, linkOffset, linkSize, portOf, portAt, logicalAt, keyOf, keyAt, dataAt, between, segAt, stepAt, segsFrom, segsOf}
 use Rattle.wire_paths.specs.ConnectionPath.{gather}
-use Rattle.wire_requests.specs.Requests.{objectOf, attributeIn, firstAttribute, requestWith, requestOf}
+use Rattle.wire_requests.specs.Requests.{objectIn, attributeIn, firstAttribute, requestWith, requestOf}
 use Rattle.wire_requests.specs.declared.Object.the-variants.{Named, NoObject}
 use Rattle.wire_requests.specs.declared.FirstAttribute.the-variants.{Number, NoAttribute}
-use Rattle.wire_requests.specs.declared.ObjectAnswer as objects
+use Rattle.wire_requests.specs.declared.Object.{Object}
 use Rattle.wire_requests.specs.declared.AttributeAnswer as attributes
 use Rattle.wire_requests.specs.declared.Request.{Request}
 use Rattle.wire_requests.specs.declared.RequestAnswer.the-variants.{Parsed, Unparsed}
@@ -21,9 +21,14 @@ pub data Example : Type 0 where
   is-request : List ℕ → Request → Example
   no-request : List ℕ → ℕ → Example
 
+-- the object of a path, if it parses
+abbrev objectOf : Segs → Object
+objectOf (segs l) = objectIn l
+objectOf (broken o) = NoObject
+
 abbrev pub Holds : Example → Type 0
-Holds (names s c i) = objectOf s ≡ objects.the-variants.Parsed (Named c i)
-Holds (names-none s) = objectOf s ≡ objects.the-variants.Parsed NoObject
+Holds (names s c i) = objectOf (segsOf s) ≡ Named c i
+Holds (names-none s) = objectOf (segsOf s) ≡ NoObject
 Holds (attribute-is s a) = firstAttribute s ≡ attributes.the-variants.Parsed (Number a)
 Holds (is-request m r) = requestOf m ≡ Parsed r
 Holds (no-request m service) = requestOf m ≡ Unparsed service
@@ -63,6 +68,6 @@ examples =
     ∷ []
 
 pub examples-hold : All examples
-unfolding segsOf segsFrom stepAt segAt between portAt portOf linkOffset linkSize portOffset logicalAt keyAt keyOf dataAt le leOf gather objectOf attributeIn firstAttribute requestWith requestOf
+unfolding segsOf segsFrom stepAt segAt between portAt portOf linkOffset linkSize portOffset logicalAt keyAt keyOf dataAt le leOf gather attributeIn firstAttribute requestWith requestOf
 examples-hold =
     (refl, (refl, (refl, (refl, (refl, (refl, (refl, (refl, (refl, (refl, (refl, (refl, (refl, (refl, (refl, (refl, (refl, (refl, (refl, tt)))))))))))))))))))

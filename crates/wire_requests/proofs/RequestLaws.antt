@@ -16,13 +16,12 @@ use types.Run.{OneOf, miss}
 use Rattle.wire_paths.specs.declared.SegStep.the-variants.{Segment, End, Broken}
 use Rattle.wire_paths.specs.declared.ConnectionPath.{ConnectionPath}
 use Rattle.wire_paths.specs.declared.PathAnswer as paths
-use Rattle.wire_requests.specs.Requests.{inClass, objectIn, objectAnswer, objectOf, attributeOf, firstOf, attributeIn, attributeAnswer, firstAttribute, messageMax, requestWith, requestOf}
+use Rattle.wire_requests.specs.Requests.{inClass, objectIn, attributeOf, firstOf, attributeIn, attributeAnswer, firstAttribute, messageMax, requestWith, requestOf}
 use Rattle.wire_requests.specs.Reading.{NamesClass, NamesInClass, NamesObject, keptAttribute}
 use Rattle.wire_requests.specs.declared.Object.{Object}
 use Rattle.wire_requests.specs.declared.Object.the-variants.{Named, NoObject}
 use Rattle.wire_requests.specs.declared.FirstAttribute.{FirstAttribute}
 use Rattle.wire_requests.specs.declared.FirstAttribute.the-variants.{NoAttribute}
-use Rattle.wire_requests.specs.declared.ObjectAnswer as objects
 use Rattle.wire_requests.specs.declared.AttributeAnswer as attributes
 use Rattle.wire_requests.specs.declared.RequestAnswer.{RequestAnswer}
 use Rattle.wire_requests.specs.declared.RequestAnswer.the-variants.{Parsed, Unparsed}
@@ -103,22 +102,6 @@ module _ (s : List ℕ) where
   object-then x next o q f l e =
       let t = ahead-then s 0 l (ahead-all s l e) x next q in
       f (t .rest) (t .ahead) ∙ sym (ap objectIn (t .is))
-
-  pub object-parsed : (p : ConnectionPath) (o : Object) → paths.the-variants.Parsed p ≡ pathOf s → NamesObject s o → objects.the-variants.Parsed o ≡ objectOf s
-  unfolding pathOf objectOf
-  object-parsed p o e f = go (segsOf s) refl e
-    where
-      go : (r : Segs) → segsOf s ≡ r → paths.the-variants.Parsed p ≡ pathRead r → objects.the-variants.Parsed o ≡ objectAnswer r
-      go (segs l) q g = ap objects.the-variants.Parsed (f l q)
-      go (broken b) q g = absurd (let z : _≡_ {A = ℕ} 0 1 = cc in omega arith)
-
-  pub object-unparsed : (o : ℕ) → paths.the-variants.Unparsed o ≡ pathOf s → objects.the-variants.Unparsed o ≡ objectOf s
-  unfolding pathOf objectOf
-  object-unparsed o e = go (segsOf s) e
-    where
-      go : (r : Segs) → paths.the-variants.Unparsed o ≡ pathRead r → objects.the-variants.Unparsed o ≡ objectAnswer r
-      go (segs l) g = absurd (let z : _≡_ {A = ℕ} 0 1 = cc in omega arith)
-      go (broken b) g = cc
 
 -- ---- the attribute
 

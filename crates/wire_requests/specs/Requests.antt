@@ -12,8 +12,6 @@ use Rattle.wire_requests.specs.declared.Object.{Object}
 use Rattle.wire_requests.specs.declared.Object.the-variants.{Named, NoObject}
 use Rattle.wire_requests.specs.declared.FirstAttribute.{FirstAttribute}
 use Rattle.wire_requests.specs.declared.FirstAttribute.the-variants.{Number, NoAttribute}
-use Rattle.wire_requests.specs.declared.ObjectAnswer as objects
-use Rattle.wire_requests.specs.declared.ObjectAnswer.{ObjectAnswer}
 use Rattle.wire_requests.specs.declared.AttributeAnswer as attributes
 use Rattle.wire_requests.specs.declared.AttributeAnswer.{AttributeAnswer}
 use Rattle.wire_requests.specs.declared.RequestAnswer.{RequestAnswer}
@@ -47,13 +45,6 @@ objectIn (Attribute v ∷ l) = NoObject
 objectIn (Port p start len ∷ l) = NoObject
 objectIn (Keyed k ∷ l) = NoObject
 objectIn (Data start len ∷ l) = NoObject
-
-abbrev pub objectAnswer : Segs → ObjectAnswer
-objectAnswer (segs l) = objects.the-variants.Parsed (objectIn l)
-objectAnswer (broken o) = objects.the-variants.Unparsed o
-
-unfoldable pub objectOf : List ℕ → ObjectAnswer
-objectOf s = objectAnswer (segsOf s)
 
 -- ---- the attribute
 

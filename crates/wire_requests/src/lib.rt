@@ -4,7 +4,7 @@ ghost use mathlib.Core.Path.{_≡_};
 ghost use Prim.Native.Nat.{ℕ, _+_, _*_, _≤_, _<_};
 ghost use lib.ListN.{length, getD};
 ghost use Rattle.wire_paths.specs.Segments.{segsOf};
-ghost use Rattle.wire_requests.specs.Requests.{objectOf, attributeOf, firstOf, firstAttribute, requestWith, requestOf};
+ghost use Rattle.wire_requests.specs.Requests.{attributeOf, firstOf, firstAttribute, requestWith, requestOf};
 ghost use Rattle.wire_requests.specs.Reading.{NamesObject, NamesInClass, NamesClass, keptAttribute};
 use wire_paths::PathAnswer;
 use wire_paths::Seg;
@@ -22,11 +22,6 @@ pub enum Object {
 pub enum FirstAttribute {
     Number(u32),
     NoAttribute,
-}
-
-pub enum ObjectAnswer {
-    Parsed(Object),
-    Unparsed(usize),
 }
 
 pub enum AttributeAnswer {
@@ -90,16 +85,6 @@ fn object_of(path: &[u8]) -> Object
         },
         SegStep::End => Object::NoObject,
         SegStep::Broken(_) => Object::NoObject,
-    }
-}
-
-// The class and instance that a path names, or the offset where the path does not parse.
-pub fn class_instance(path: &[u8]) -> ObjectAnswer
-    ensures { λ r. ⌜ r ≡ objectOf (now (path .entry)) ⌝ }
-{
-    match parse_path(path) {
-        PathAnswer::Parsed(_) => ObjectAnswer::Parsed(object_of(path)),
-        PathAnswer::Unparsed(offset) => ObjectAnswer::Unparsed(offset),
     }
 }
 
