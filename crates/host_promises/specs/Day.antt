@@ -6,6 +6,7 @@ use mathlib.Core.Bool.{true, false}
 use mathlib.Core.List.{List, [], _∷_, _++_}
 use mathlib.Core.Option.{some}
 use mathlib.Core.Path.{_≡_, refl, ap, _∙_}
+use native.Mathlib.Omega.{arith}
 use lib.ListN.{getD, replicate, length-replicate}
 use lib.Seq.{sets}
 use Rattle.cells.specs.Numbers.{le, leOf, put, bytesLe}
@@ -41,8 +42,9 @@ use Rattle.starting.specs.Calls.{set-up}
 use Rattle.adapter.specs.Origins.{originOf}
 use Rattle.host_runs.specs.Contracts.{Said, Met}
 use Rattle.host_runs.specs.HostCalls.{HostCall, contractOf, callOf, CCall}
-use Rattle.host_runs.specs.Runs.{Ran, none, one, held, run-is-ruled}
+use Rattle.host_runs.specs.Runs.{Turn, Ran, none, one, held, run-is-ruled}
 use Rattle.host_promises.specs.Owners.{Owner, run-read}
+use Rattle.host_promises.specs.Lane.{lastWord, saidBy, few-calls, Gives, output-is-the-last-word}
 
 -- ---- the setup: output 150 of 2 bytes, input 101 of 1, configuration 5 of 2; no EDS
 
@@ -80,7 +82,10 @@ module _ (s s₁ s₂ s₃ : List ℕ) (a b c : Said) (set : (0, s) ≡ setupCal
   ran : Ran ((CCall.On opens, a) ∷ (CCall.On hears, b) ∷ (CCall.On reads, c) ∷ []) s s₃
   ran = one (CCall.On opens) a opening (one (CCall.On hears) b hearing (one (CCall.On reads) c reading none))
 
-  ran-before : Ran ((CCall.On opens, a) ∷ (CCall.On hears, b) ∷ []) s s₂
+  abbrev before : List Turn
+  before = (CCall.On opens, a) ∷ (CCall.On hears, b) ∷ []
+
+  ran-before : Ran before s s₂
   ran-before = one (CCall.On opens) a opening (one (CCall.On hears) b hearing none)
 
   -- the rules' side, computed
@@ -108,6 +113,14 @@ module _ (s s₁ s₂ s₃ : List ℕ) (a b c : Said) (set : (0, s) ≡ setupCal
   its-owner =
       run-read (held (replicate 109056 0) block [] 4 set ran-before) 150 (replicate 3 0) s₃ c reading
       (ap (λ (n : ℕ). n % 256) (told-run .0)) (ap (λ (x : List ℕ). getD x 0 0) (told-run .1))
+
+  -- and the promise holds of it: what was read is the last word of the output's live owner
+  pub its-word : let u : Setup = setupGiven block [] in Gives (saidBy u 0 (lastWord u 150 0 before)) (replicate 3 0) c
+  unfolding placeOf
+  its-word =
+      let there : placeOf isOutput (setupGiven block []) 150 ≡ some 0 = ap (λ (u : Setup). placeOf isOutput u 150) block-says in
+      output-is-the-last-word (replicate 109056 0) block [] 4 s set (omega arith) 150 0 there ran-before (refl, (refl, tt))
+      (few-calls before (omega arith)) (replicate 3 0) s₃ c reading
 
 -- ---- and there are such bytes and answers: those that the contracts name
 
