@@ -2,7 +2,7 @@
 -- for an output's instance is the last word of that output's live owner, as the calls made and the answers given tell it.
 use Prim.Native.Nat.{ℕ, _+_, _*_, _%_, _^_, _≤_, _<_}
 use mathlib.Core.Bool.{Bool, true, false, cond}
-use mathlib.Core.List.{List, [], _∷_, _++_}
+use mathlib.Core.List.{List, [], _∷_, _++_, append-assoc, append-nil}
 use mathlib.Core.Option.{some}
 use mathlib.Core.Path.{_≡_, refl, ap, sym, subst, _∙_}
 use native.Mathlib.Nat.{zero-add}
@@ -28,7 +28,7 @@ use Rattle.starting.specs.Block.{setupGiven, setupCall}
 use Rattle.host_runs.specs.Contracts.{Said, Met, Told}
 use Rattle.host_runs.specs.HostCalls.{HostCall, contractOf, callOf, CCall, contract}
 use Rattle.host_runs.specs.Steps.{agrees}
-use Rattle.host_runs.specs.Runs.{Turn, Ran, none, one, Held, held, run-is-ruled}
+use Rattle.host_runs.specs.Runs.{Turn, Ran, none, one, run-is-ruled}
 use Rattle.host_promises.specs.Owners.{late-refused}
 use Rattle.host_promises.specs.Logs.{callsOf, ruled, logOf, anew, One-setup, Looks, history-same, run-same}
 
@@ -87,20 +87,22 @@ setup-more : (ts : List Turn) (c : CCall) (a : Said) → One-setup ts → anew c
 setup-more [] c a h n = (n, tt)
 setup-more (t ∷ ts) c a h n = (h .0, setup-more ts c a (h .1) n)
 
--- ---- every buffer that a host holds comes of such a run: that since the last setup answered 0
-pub record Since (s″ : List ℕ) : Type 0 where
+-- ---- every run has an end of which the promise speaks: the calls since the last setup answered 0
+pub record Since (all : List Turn) (s″ : List ℕ) : Type 0 where
   pub before : List ℕ
   pub block : List ℕ
   pub eds : List ℕ
   pub seed : ℕ
   pub s : List ℕ
   pub begun : (0, s) ≡ setupCall before block eds seed
+  pub earlier : List Turn
   pub turns : List Turn
+  pub whole : earlier ++ turns ≡ all
   pub ran : Ran turns s s″
   pub setup : One-setup turns
 
-since-turn : (c : CCall) (a : Said) {s s′ : List ℕ} → Met (contract c) s s′ a → Since s → (b : Bool) → anew c a ≡ b → Since s′
-since-turn (CCall.Setup block eds seed) a {s} {s′} m h true e =
+since-turn : (c : CCall) (a : Said) {all : List Turn} {s s′ : List ℕ} → Met (contract c) s s′ a → Since all s → (b : Bool) → anew c a ≡ b → Since (all ++ ((c, a) ∷ [])) s′
+since-turn (CCall.Setup block eds seed) a {all} {s} {s′} m h true e =
     record {
       before = s;
       block = block;
@@ -108,7 +110,9 @@ since-turn (CCall.Setup block eds seed) a {s} {s′} m h true e =
       seed = seed;
       s = s′;
       begun = ap (λ (n : ℕ). (n, s′)) (sym (eqb-true (a .number) 0 e)) ∙ m;
+      earlier = all ++ ((CCall.Setup block eds seed, a) ∷ []);
       turns = [];
+      whole = append-nil (all ++ ((CCall.Setup block eds seed, a) ∷ []));
       ran = none;
       setup = tt;
     }
@@ -123,18 +127,21 @@ since-turn c a m h false e =
       seed = h .seed;
       s = h .s;
       begun = h .begun;
+      earlier = h .earlier;
       turns = h .turns ++ ((c, a) ∷ []);
+      whole = sym (append-assoc (h .earlier) (h .turns) ((c, a) ∷ [])) ∙ ap (λ (ts : List Turn). ts ++ ((c, a) ∷ [])) (h .whole);
       ran = ran-more c a (h .ran) m;
       setup = setup-more (h .turns) c a (h .setup) e;
     }
 
-since-ran : {ts : List Turn} {s s″ : List ℕ} → Since s → Ran ts s s″ → Since s″
-since-ran h none = h
-since-ran h (one c a m r) = since-ran (since-turn c a m h (anew c a) refl) r
+since-ran : {all ts : List Turn} {s s″ : List ℕ} → Since all s → Ran ts s s″ → Since (all ++ ts) s″
+since-ran {all} {s″ = s″} h none = subst (λ (ts : List Turn). Since ts s″) (sym (append-nil all)) h
+since-ran {all} {s″ = s″} h (one c a {ts} m r) =
+    subst (λ (us : List Turn). Since us s″) (append-assoc all ((c, a) ∷ []) ts) (since-ran (since-turn c a m h (anew c a) refl) r)
 
-pub held-since : {s : List ℕ} → Held s → Since s
-held-since (held l block eds seed {s = s} e r) =
-    since-ran (record { before = l; block = block; eds = eds; seed = seed; s = s; begun = e; turns = []; ran = none; setup = tt }) r
+pub since-setup : (l block eds : List ℕ) (seed : ℕ) (s : List ℕ) → (0, s) ≡ setupCall l block eds seed → {ts : List Turn} {s″ : List ℕ} → Ran ts s s″ → Since ts s″
+since-setup l block eds seed s e r =
+    since-ran (record { before = l; block = block; eds = eds; seed = seed; s = s; begun = e; earlier = []; turns = []; whole = refl; ran = none; setup = tt }) r
 
 -- ---- THE PROMISE
 
@@ -209,7 +216,8 @@ module _ (l block eds : List ℕ) (seed : ℕ) (s : List ℕ) (e : (0, s) ≡ se
         let same′ = setup-more ts (CCall.On (HostCall.Expire t)) a same refl in
         let more = calls-more ts (HostCall.Expire t) a in
         let few₀ : early (history opens (log cs st) 0) ≡ true = ap early (as-opens r same) ∙ few in
-        let few₁ : early (history opens (log (cs ++ (c ∷ [])) st) 0) ≡ true = ap early (history-next opens cs c st 0 ∙ no-open (isYes (answer c (run cs st))) t (history opens (log cs st) 0)) ∙ few₀ in
+        let few₁ : early (history opens (log (cs ++ (c ∷ [])) st) 0) ≡ true =
+        ap early (history-next opens cs c st 0 ∙ no-open (isYes (answer c (run cs st))) t (history opens (log cs st) 0)) ∙ few₀ in
         let w = as-word r′ same′ n i in
         let few₂ : early (opensIn (ts ++ ((CCall.On (HostCall.Expire t), a) ∷ []))) ≡ true =
         ap early (sym (as-opens r′ same′) ∙ ap (λ (x : List Call). history opens (log x st) 0) more) ∙ few₁ in
