@@ -1,6 +1,6 @@
 -- WHAT A HOST SAW of its calls since a setup, as a log: each call, and of its answer the number's low byte and what then stands in the lent
 -- output. A history learns from it what it learns from the rules' own log.
-use Prim.Native.Nat.{ℕ, _+_, _%_, _≤_}
+use Prim.Native.Nat.{ℕ, _+_, _%_}
 use mathlib.Core.Bool.{Bool, true, false, cond}
 use mathlib.Core.List.{List, [], _∷_, _++_, append-assoc}
 use mathlib.Core.Path.{_≡_, refl, ap, sym, subst, _∙_}
@@ -27,7 +27,7 @@ use Rattle.starting.specs.Block.{accepted}
 use Rattle.uploads.specs.Positions.{decUpload}
 use Rattle.lastword.specs.Knows.{id-told}
 use Rattle.adapter.specs.Origins.{originOf}
-use Rattle.host_runs.specs.Contracts.{Said, Answers, Told}
+use Rattle.host_runs.specs.Contracts.{Said, Answers}
 use Rattle.host_runs.specs.HostCalls.{HostCall, contractOf, callOf, CCall, contract, nextC, answerC}
 use Rattle.host_runs.specs.Runs.{Turn, runC, Answered}
 use Rattle.host_promises.specs.Refusals.{low-zero}
