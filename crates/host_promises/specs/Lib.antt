@@ -3,5 +3,7 @@ pub mod Owners
 pub mod Refusals
 pub mod Pairs
 pub mod Apart
+pub mod Logs
+pub mod Lane
 pub mod Sessions
 pub mod Day

@@ -64,7 +64,7 @@ run-byte {s} own i h e =
     let o = held-owned own i (marked s (held-passes own) i h e) in
     (o .0, row-found s (ownerOf i) (o .1))
 
-late-refused : (time : ℕ) (st : State) → timely time ≡ false → answerNumber (expireCall time st .0) ≡ 3
+pub late-refused : (time : ℕ) (st : State) → timely time ≡ false → answerNumber (expireCall time st .0) ≡ 3
 unfolding expireCall expireAnswer answerNumber
 late-refused time st n = rw n
 

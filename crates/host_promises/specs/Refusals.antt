@@ -43,7 +43,7 @@ Unwritten (Replies local mask message upload out) a = (a .output ≡ out) × (By
 
 -- ---- a yes has the low byte 0, and a no writes nothing
 
-low-zero : (x : Answer) → isYes x ≡ true → answerNumber x % 256 ≡ 0
+pub low-zero : (x : Answer) → isYes x ≡ true → answerNumber x % 256 ≡ 0
 unfolding answerNumber
 low-zero Done y = omega arith
 low-zero (Wrote bs) y = omega arith
