@@ -2,6 +2,8 @@
 
 use super::wire::{self, Seg};
 use super::{AdapterConfig, AdapterIdentity, Assembly, AssemblyKind, ConnectionInfo, Event};
+use compare::block::{self, MOST_ASSEMBLIES, MOST_NAME};
+use compare::places::SLOT;
 use compare::{BLOCK, MAX_BYTES, MAX_PATH, PATH_RECORD, RECORD, REQUEST_RECORD};
 use std::time::Duration;
 
@@ -23,10 +25,10 @@ pub(super) fn config(block: &[u8], eds: &[u8]) -> Option<AdapterConfig> {
     if block.len() != BLOCK {
         return None;
     }
-    let (count, limit) = (usize::from(block[0]), block[1]);
-    let (name, eds_name) = (usize::from(block[2]), usize::from(block[3]));
-    let present = u32_le(block, 4);
-    if count > 16 || limit == 0 || name > 32 || eds_name > 32 || present > 1 {
+    let (count, limit) = (usize::from(block[block::ASSEMBLIES]), block[block::TRANSFER_LIMIT]);
+    let (name, eds_name) = (usize::from(block[block::NAME_LENGTH]), usize::from(block[block::EDS_NAME_LENGTH]));
+    let present = u32_le(block, block::EDS);
+    if count > MOST_ASSEMBLIES || limit == 0 || name > MOST_NAME || eds_name > MOST_NAME || present > 1 {
         return None;
     }
     if eds.len() > 65_535 || (present == 0 && !eds.is_empty()) {
@@ -34,11 +36,10 @@ pub(super) fn config(block: &[u8], eds: &[u8]) -> Option<AdapterConfig> {
     }
     let mut assemblies: Vec<Assembly> = Vec::with_capacity(count);
     for i in 0..count {
-        let at = 110 + 5 * i;
-        let instance = u32::from(u16_le(block, at));
-        let size = usize::from(u16_le(block, at + 2));
-        let kind = AssemblyKind::from_code(block[at + 4])?;
-        if instance == 0 || size > 512 || assemblies.iter().any(|a| a.instance == instance) {
+        let instance = u32::from(u16_le(block, block::instance(i)));
+        let size = usize::from(u16_le(block, block::size(i)));
+        let kind = AssemblyKind::from_code(block[block::kind(i)])?;
+        if instance == 0 || size > SLOT || assemblies.iter().any(|a| a.instance == instance) {
             return None;
         }
         assemblies.push(Assembly { instance, kind, size });
@@ -46,23 +47,23 @@ pub(super) fn config(block: &[u8], eds: &[u8]) -> Option<AdapterConfig> {
     let micros = |at: usize| Duration::from_micros(u64::from(u32_le(block, at)));
     Some(AdapterConfig {
         identity: AdapterIdentity {
-            vendor_id: u16_le(block, 8),
-            device_type: u16_le(block, 10),
-            product_code: u16_le(block, 12),
-            revision: (block[14], block[15]),
-            serial: u32_le(block, 16),
-            product_name: text(&block[46..46 + name]),
+            vendor_id: u16_le(block, block::VENDOR),
+            device_type: u16_le(block, block::DEVICE_TYPE),
+            product_code: u16_le(block, block::PRODUCT_CODE),
+            revision: (block[block::MAJOR], block[block::MINOR]),
+            serial: u32_le(block, block::SERIAL),
+            product_name: text(&block[block::NAME..block::NAME + name]),
         },
         assemblies,
-        input_only_heartbeat: u32_le(block, 20),
-        listen_only_heartbeat: u32_le(block, 24),
+        input_only_heartbeat: u32_le(block, block::INPUT_ONLY),
+        listen_only_heartbeat: u32_le(block, block::LISTEN_ONLY),
         eds: (present == 1).then(|| eds.to_vec()),
-        eds_name: text(&block[78..78 + eds_name]),
+        eds_name: text(&block[block::EDS_NAME..block::EDS_NAME + eds_name]),
         app_name: String::new(),
         app_version: String::new(),
-        rpi_min: micros(28),
-        rpi_max: micros(32),
-        mac: std::array::from_fn(|i| block[40 + i]),
+        rpi_min: micros(block::RPI_MIN),
+        rpi_max: micros(block::RPI_MAX),
+        mac: std::array::from_fn(|i| block[block::MAC + i]),
     })
 }
 

@@ -29,6 +29,12 @@ impl Raw {
         ForwardOpen::decode(request, false).is_some_and(|fo| self.state.open(&fo, &origin, now).is_ok())
     }
 
+    /// Takes the last open back, without a close: its connection and its event.
+    pub fn forget_open(&mut self) {
+        self.state.conns.pop();
+        self.state.events.pop_back();
+    }
+
     pub fn close(&mut self, request: &[u8]) -> Vec<u8> {
         match wire::decode_forward_close(request) {
             Some((triad, _)) if self.state.close(triad) => wire::forward_close_reply(triad),

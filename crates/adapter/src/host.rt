@@ -2,12 +2,13 @@
 use application::answers;
 ghost use mathlib.Core.Path.{_≡_};
 ghost use Rattle.rules.specs.Host.{setInputCall, outputCall, assemblyAnswer, nextEventCall, connectionsAnswer, statsAnswer};
+ghost use Rattle.layout.specs.Places.{stateSize};
 ghost use Rattle.image.specs.Lift.{lifted, liftedOut, liftedRead};
 
 // How many bytes a host has to lend as the state.
 #[no_mangle]
 pub extern "C" fn threshtide_state_size() -> u64
-    ensures { λ r. ⌜ r ≡ 109056 ⌝ }
+    ensures { λ r. ⌜ r ≡ stateSize ⌝ }
 {
     109056
 }

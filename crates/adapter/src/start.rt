@@ -8,7 +8,7 @@ ghost use Rattle.starting.specs.Block.{setupCall};
 pub extern "C" fn threshtide_setup(state: &mut [u8], block: &[u8], eds: &[u8], seed: u32) -> u64
     ensures { λ r. ⌜ (r, now (state .exit)) ≡ setupCall (now (state .entry)) (now (block .entry)) (now (eds .entry)) seed ⌝ }
 {
-    if state.len() != 109056 {
+    if state.len() != layout::STATE_SIZE {
         return 1;
     }
     if !checks::accept(block, eds) {

@@ -1,25 +1,21 @@
 -- What an assembly holds, as code reads it.
-use Prim.Native.Nat.{ℕ, _+_, _*_, _-_, _%_, _≤_, _<_}
+use Prim.Native.Nat.{ℕ, _+_, _*_, _≤_, _<_}
 use mathlib.Core.Bool.{true}
 use mathlib.Core.List.{List}
 use mathlib.Core.Path.{_≡_, ap, sym, _∙_}
 use native.Mathlib.Omega.{arith}
 use lib.ListN.{length, take, drop}
-use Rattle.cells.specs.Numbers.{le, le-1}
-use Rattle.cells.specs.Records.{ofBool}
 use Rattle.cells.specs.Back.{Bytes}
-use Rattle.rules.specs.State.{Shape, Content, shapeAt, contentAt}
+use Rattle.rules.specs.State.{Shape, shapeAt, contentAt}
 use Rattle.layout.specs.Setups.{shapeIn}
-use Rattle.layout.specs.RowLaws.{bit-small}
-use Rattle.image.specs.Image.{view, tested, markOf}
-use Rattle.image.specs.Holds.{Holds, holds-tested, slotted-tested, assemblies-held, shape-held, mark-held, bytes-held}
+use Rattle.layout.specs.Places.{dataFrom, markAt, assembliesOf}
+use Rattle.layout.specs.Bits.{runIn}
+use Rattle.image.specs.Image.{view, tested}
+use Rattle.image.specs.Holds.{Holds, holds-tested, slotted-tested, assemblies-held, shape-held, run-held, bytes-held}
 
-module _ (s : List ℕ) (t : tested s ≡ true) (b : Bytes s) (i : ℕ) (p : i < le 1 s 0) where
+module _ (s : List ℕ) (t : tested s ≡ true) (b : Bytes s) (i : ℕ) (p : i < assembliesOf s) where
   abbrev h : Holds s (view s) s
   h = holds-tested s t b
-
-  abbrev c : Content
-  c = contentAt (view s) i
 
   pub in-contents : i < length (view s .contents)
   in-contents = let e = assemblies-held s (view s) s h in omega arith
@@ -34,11 +30,8 @@ module _ (s : List ℕ) (t : tested s ≡ true) (b : Bytes s) (i : ℕ) (p : i <
   pub size-small : shapeIn s i .size ≤ 512
   size-small = slotted-tested s t i p
 
-  pub data-is : take (shapeIn s i .size) (drop (35328 + i * 512) s) ≡ contentAt (view s) i .bytes
-  data-is = ap (λ (n : ℕ). take n (drop (35328 + i * 512) s)) (sym size-is) ∙ bytes-held s (view s) s h i in-contents
+  pub data-is : take (shapeIn s i .size) (drop (dataFrom + i * 512) s) ≡ contentAt (view s) i .bytes
+  data-is = ap (λ (n : ℕ). take n (drop (dataFrom + i * 512) s)) (sym size-is) ∙ bytes-held s (view s) s h i in-contents
 
-  pub run-is : le 1 s (240 + i) % 2 ≡ ofBool (contentAt (view s) i .run)
-  run-is =
-      let a = bit-small (c .run) in
-      let m : le 1 s (240 + i) ≡ markOf c = le-1 s (240 + i) ∙ mark-held s (view s) s h i in-contents in
-      omega arith
+  pub run-is : runIn (markAt s i) ≡ contentAt (view s) i .run
+  run-is = run-held s (view s) s h i in-contents

@@ -22,7 +22,7 @@ use Rattle.image.specs.ViewLaws.{suits-view}
 use Rattle.image.specs.Passes.{tested-store}
 use Rattle.image.specs.Kept.{suits-content, suits-events, records-drop}
 use Rattle.image.specs.Lift.{lifted, liftedOut, lifted-tested}
-use Rattle.image.specs.Searches.{change-at-place}
+use Rattle.searches.specs.Searches.{change-at-place}
 
 either-suits : (b : Bool) (l : List ℕ) (x y : State) → Suits x l → Suits y l → Suits (cond b x y) l
 either-suits true l x y p q = p

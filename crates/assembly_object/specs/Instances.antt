@@ -8,15 +8,14 @@ use native.Mathlib.Omega.{arith}
 use lib.Dec.{eqb}
 use lib.ListN.{drop}
 use borrow.Author.Tests.{eq-eqb, ne-eqb}
-use Rattle.cells.specs.Numbers.{le}
 use Rattle.tables.specs.Tables.{rows, rows-rest, rows-end}
 use Rattle.rules.specs.Lists.{place}
 use Rattle.rules.specs.State.{Shape}
 use Rattle.wire_requests.specs.declared.FirstAttribute.{FirstAttribute}
 use Rattle.rules.specs.Attributes.{Attributes, single}
 use Rattle.rules.specs.Objects.{largestInstance, assemblyClass, assemblyPlace, assemblyObject, assembly}
-use Rattle.layout.specs.Places.{setupIn}
-use Rattle.layout.specs.Setups.{decShape, shapeIn, setupFrom, setupOf}
+use Rattle.layout.specs.Places.{setupIn, shapesAt, shapeSize}
+use Rattle.layout.specs.Setups.{decShape, shapeIn, setupFrom, setupOf, shapesOf}
 use Rattle.image.specs.Image.{view}
 use Rattle.layout.specs.Searched.{placeIn}
 use Rattle.layout.specs.declared.Found.{Found}
@@ -30,7 +29,7 @@ hasInstance n a = eqb (a .instance) n
 
 module _ (n : ℕ) (r : List ℕ) where
   abbrev shapes : List Shape
-  shapes = rows 5 decShape n (drop 110 r)
+  shapes = rows shapeSize decShape n (drop shapesAt r)
 
   pub largest-starts : max 0 (largestInstance (drop 0 shapes)) ≡ largestInstance shapes
   largest-starts = omega arith
@@ -39,12 +38,12 @@ module _ (n : ℕ) (r : List ℕ) where
       → max (max most m) (largestInstance (drop (i + 1) shapes)) ≡ max most (largestInstance (drop i shapes))
   largest-on i most h m e =
       (let z : max (max most m) (largestInstance (drop (i + 1) shapes)) ≡ max most (max (shapeIn r i .instance) (largestInstance (drop (i + 1) shapes))) = omega (arith, e) in z)
-      ∙ ap (λ (xs : List Shape). max most (largestInstance xs)) (sym (rows-rest 5 decShape n (drop 110 r) i h))
+      ∙ ap (λ (xs : List Shape). max most (largestInstance xs)) (sym (rows-rest shapeSize decShape n (drop shapesAt r) i h))
 
   pub largest-ends : (i most : ℕ) → n ≤ i → most ≡ max most (largestInstance (drop i shapes))
   largest-ends i most h =
       (let z : most ≡ max most 0 = omega arith in z)
-      ∙ ap (λ (xs : List Shape). max most (largestInstance xs)) (sym (rows-end 5 decShape n (drop 110 r) i h))
+      ∙ ap (λ (xs : List Shape). max most (largestInstance xs)) (sym (rows-end shapeSize decShape n (drop shapesAt r) i h))
 
 -- ---- the class
 
@@ -68,7 +67,7 @@ module _ (s out : List ℕ) (service instance : ℕ) (a : FirstAttribute) (x : G
       f ∙ ap (λ (p : Option ℕ). told (assemblyObject (view s) service a p) out) (sym e)
       ∙ sym (ap (λ (b : Bool). told (cond b (single service a (assemblyClass (view s .setup))) (assemblyObject (view s) service a (assemblyPlace (view s .setup) instance))) out) (ne-eqb instance 0 h))
 
-module _ (s : List ℕ) (n : ℕ) (x : Found) (e : placeIn x ≡ place (hasInstance n) (rows 5 decShape (le 1 (setupIn s) 0) (drop 110 (setupIn s)))) where
+module _ (s : List ℕ) (n : ℕ) (x : Found) (e : placeIn x ≡ place (hasInstance n) (shapesOf (setupIn s))) where
   pub found-is : assemblyPlace (view s .setup) n ≡ placeIn x
   unfolding assemblyPlace view setupOf
   found-is = sym e

@@ -7,24 +7,23 @@ use wire_requests::FirstAttribute;
 ghost use mathlib.Core.Path.{_≡_};
 ghost use Prim.Native.Nat.{ℕ, _≤_, _<_, max};
 ghost use mathlib.Core.List.{[]};
-ghost use lib.ListN.{length, drop};
-ghost use Rattle.cells.specs.Numbers.{le};
-ghost use Rattle.tables.specs.Tables.{rows};
+ghost use lib.ListN.{length};
 ghost use Rattle.rules.specs.Lists.{place};
 ghost use Rattle.rules.specs.State.{contentAt};
 ghost use Rattle.rules.specs.Attributes.{valueOf, single};
 ghost use Rattle.rules.specs.Objects.{largestInstance, assemblyClass, assemblyAttributes, assembly};
-ghost use Rattle.layout.specs.Setups.{decShape, shapeIn, setupFrom};
+ghost use Rattle.layout.specs.Setups.{shapeIn, setupFrom, shapesOf};
 ghost use Rattle.image.specs.Image.{view};
 ghost use Rattle.application.specs.Outcomes.{Passed};
 ghost use Rattle.layout.specs.Searched.{placeIn};
+ghost use Rattle.layout.specs.Places.{setupSize, assembliesOf};
 ghost use Rattle.attributes.specs.Told.{told};
 ghost use Rattle.assembly_object.specs.Instances.{hasInstance};
 
 // The first assembly of that instance, in the setup's region.
 fn find(r: &[u8], instance: u32) -> Found
-    requires { ⌜ (192 ≤ length (now r)) × (le 1 (now r) 0 ≤ 16) ⌝ }
-    ensures { λ x. ⌜ placeIn x ≡ place (hasInstance instance) (rows 5 decShape (le 1 (now (r .entry)) 0) (drop 110 (now (r .entry)))) ⌝ }
+    requires { ⌜ (setupSize ≤ length (now r)) × (assembliesOf (now r) ≤ 16) ⌝ }
+    ensures { λ x. ⌜ placeIn x ≡ place (hasInstance instance) (shapesOf (now (r .entry))) ⌝ }
 {
     let n = cells::u8_at(r, 0) as usize;
     let mut i = 0;
@@ -44,8 +43,8 @@ fn greater(a: u16, b: u16) -> u16
 }
 
 fn largest(r: &[u8]) -> u16
-    requires { ⌜ (192 ≤ length (now r)) × (le 1 (now r) 0 ≤ 16) ⌝ }
-    ensures { λ x. ⌜ x ≡ largestInstance (rows 5 decShape (le 1 (now (r .entry)) 0) (drop 110 (now (r .entry)))) ⌝ }
+    requires { ⌜ (setupSize ≤ length (now r)) × (assembliesOf (now r) ≤ 16) ⌝ }
+    ensures { λ x. ⌜ x ≡ largestInstance (shapesOf (now (r .entry))) ⌝ }
 {
     let n = cells::u8_at(r, 0) as usize;
     let mut most: u16 = 0;
@@ -58,7 +57,7 @@ fn largest(r: &[u8]) -> u16
 }
 
 fn class_value(r: &[u8], n: u32, out: &mut [u8]) -> Given
-    requires { ⌜ (192 ≤ length (now r)) × (le 1 (now r) 0 ≤ 16) × (512 ≤ length (now out)) ⌝ }
+    requires { ⌜ (setupSize ≤ length (now r)) × (assembliesOf (now r) ≤ 16) × (512 ≤ length (now out)) ⌝ }
     ensures { λ x. ⌜ (x, now (out .exit)) ≡ told (valueOf n (assemblyClass (setupFrom (now (r .entry)) []))) (now (out .entry)) ⌝ }
 {
     if n == 1 {
@@ -71,7 +70,7 @@ fn class_value(r: &[u8], n: u32, out: &mut [u8]) -> Given
 }
 
 fn class(r: &[u8], service: u8, a: FirstAttribute, out: &mut [u8]) -> Given
-    requires { ⌜ (192 ≤ length (now r)) × (le 1 (now r) 0 ≤ 16) × (512 ≤ length (now out)) ⌝ }
+    requires { ⌜ (setupSize ≤ length (now r)) × (assembliesOf (now r) ≤ 16) × (512 ≤ length (now out)) ⌝ }
     ensures { λ x. ⌜ (x, now (out .exit)) ≡ told (single service a (assemblyClass (setupFrom (now (r .entry)) []))) (now (out .entry)) ⌝ }
 {
     match attributes::wanted(service, a) {
@@ -81,12 +80,12 @@ fn class(r: &[u8], service: u8, a: FirstAttribute, out: &mut [u8]) -> Given
 }
 
 fn value(s: &[u8], i: usize, n: u32, out: &mut [u8]) -> Given
-    requires { ⌜ Passed (now s) × (i < le 1 (now s) 0) × (512 ≤ length (now out)) ⌝ }
+    requires { ⌜ Passed (now s) × (i < assembliesOf (now s)) × (512 ≤ length (now out)) ⌝ }
     ensures { λ x. ⌜ (x, now (out .exit)) ≡ told (valueOf n (assemblyAttributes (contentAt (view (now (s .entry))) i))) (now (out .entry)) ⌝ }
 {
     let size = layout::size_at(s, i);
     if n == 3 {
-        let from = 35328 + i * 512;
+        let from = layout::DATA + i * layout::SLOT;
         let e = from + size as usize;
         return attributes::bytes(out, &s[from..e]);
     }
@@ -97,7 +96,7 @@ fn value(s: &[u8], i: usize, n: u32, out: &mut [u8]) -> Given
 }
 
 fn here(s: &[u8], i: usize, service: u8, a: FirstAttribute, out: &mut [u8]) -> Given
-    requires { ⌜ Passed (now s) × (i < le 1 (now s) 0) × (512 ≤ length (now out)) ⌝ }
+    requires { ⌜ Passed (now s) × (i < assembliesOf (now s)) × (512 ≤ length (now out)) ⌝ }
     ensures { λ x. ⌜ (x, now (out .exit)) ≡ told (single service a (assemblyAttributes (contentAt (view (now (s .entry))) i))) (now (out .entry)) ⌝ }
 {
     match attributes::wanted(service, a) {
@@ -111,9 +110,9 @@ pub fn assembly(s: &[u8], service: u8, instance: u32, a: FirstAttribute, out: &m
     ensures { λ x. ⌜ (x, now (out .exit)) ≡ told (assembly (view (now (s .entry))) service instance a) (now (out .entry)) ⌝ }
 {
     if instance == 0 {
-        return class(&s[0..192], service, a, out);
+        return class(&s[0..layout::SETUP_SIZE], service, a, out);
     }
-    match find(&s[0..192], instance) {
+    match find(&s[0..layout::SETUP_SIZE], instance) {
         Found::Nowhere => Given::Fails(Fault::ObjectUnknown),
         Found::At(i) => here(s, i, service, a, out),
     }

@@ -56,7 +56,7 @@ pub fn bytes(out: &mut [u8], d: &[u8]) -> Given
     requires { ⌜ length (now d) ≤ length (now out) ⌝ }
     ensures { λ r. ⌜ (r, now (out .exit)) ≡ told (Gives (now (d .entry))) (now (out .entry)) ⌝ }
 {
-    cells::copy_in(out, 0, d);
+    copies::copy_in(out, 0, d);
     Given::Gives(d.len())
 }
 
@@ -67,7 +67,7 @@ pub fn text(out: &mut [u8], d: &[u8]) -> Given
 {
     let n = d.len();
     cells::put_u8(out, 0, n as u8);
-    cells::copy_in(out, 1, d);
+    copies::copy_in(out, 1, d);
     Given::Gives(1 + n)
 }
 
@@ -77,9 +77,9 @@ pub fn tagged(out: &mut [u8], d: &[u8]) -> Given
     ensures { λ r. ⌜ (r, now (out .exit)) ≡ told (Gives (taggedText (now (d .entry)))) (now (out .entry)) ⌝ }
 {
     let n = d.len();
-    cells::copy_in(out, 0, b"\x01eng\xDA\x04\x00");
+    copies::copy_in(out, 0, b"\x01eng\xDA\x04\x00");
     cells::put_u8(out, 7, n as u8);
-    cells::copy_in(out, 8, d);
+    copies::copy_in(out, 8, d);
     Given::Gives(8 + n)
 }
 

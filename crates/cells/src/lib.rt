@@ -147,18 +147,6 @@ pub fn move_down(s: &mut [u8], to: usize, from: usize, n: usize)
     }
 }
 
-// The bytes of d put into s from `at` on.
-pub fn copy_in(s: &mut [u8], at: usize, d: &[u8])
-    requires { ⌜ at + length (now d) ≤ length (now s) ⌝ }
-    ensures { λ _. ⌜ now (s .exit) ≡ sets (now (s .entry)) at (now (d .entry)) ⌝ }
-{
-    let mut j = 0;
-    while j < d.len() {
-        s[at + j] = d[j];
-        j += 1;
-    }
-}
-
 // n bytes from `at` on made zero.
 pub fn zero(s: &mut [u8], at: usize, n: usize)
     requires { ⌜ at + n ≤ length (now s) ⌝ }

@@ -11,6 +11,7 @@ ghost use lib.ListN.{length};
 ghost use Rattle.wire_opens.specs.Transport.{compatibleBit};
 ghost use Rattle.rules.specs.Checks.{anyOr, revisionOk, keyStop, keyCheck};
 ghost use Rattle.layout.specs.Setups.{identityOf};
+ghost use Rattle.layout.specs.Places.{setupSize};
 ghost use Rattle.checking.specs.Says.{stopIn};
 
 fn any_or(ours: u16, asked: u16) -> bool
@@ -38,7 +39,7 @@ fn minor_ok(ours: u8, k: Key) -> bool
 }
 
 fn revision_ok(r: &[u8], k: Key) -> bool
-    requires { ⌜ 192 ≤ length (now r) ⌝ }
+    requires { ⌜ setupSize ≤ length (now r) ⌝ }
     ensures { λ x. ⌜ x ≡ revisionOk (identityOf (now (r .entry))) k ⌝ }
 {
     let asked = wire_opens::major_of(k.major);
@@ -54,7 +55,7 @@ fn revision_ok(r: &[u8], k: Key) -> bool
 }
 
 fn stop_of(r: &[u8], k: Key) -> Check
-    requires { ⌜ 192 ≤ length (now r) ⌝ }
+    requires { ⌜ setupSize ≤ length (now r) ⌝ }
     ensures { λ x. ⌜ stopIn x ≡ keyStop (identityOf (now (r .entry))) k ⌝ }
 {
     let vendor = cells::u16_at(r, 8);
@@ -93,7 +94,7 @@ fn stop_of(r: &[u8], k: Key) -> Check
 
 // A path without a key asks for nothing.
 pub fn key(r: &[u8], p: ConnectionPath) -> Check
-    requires { ⌜ 192 ≤ length (now r) ⌝ }
+    requires { ⌜ setupSize ≤ length (now r) ⌝ }
     ensures { λ x. ⌜ stopIn x ≡ keyCheck (identityOf (now (r .entry))) p ⌝ }
 {
     if p.haskey {

@@ -13,6 +13,7 @@ ghost use lib.ListN.{length};
 ghost use Rattle.rules.specs.declared.Stop.the-variants.{PathBarred};
 ghost use Rattle.rules.specs.Checks.{must, transportCheck, rpiCheck, isPoint, isMulticast, typeCheck};
 ghost use Rattle.layout.specs.Setups.{setupFrom};
+ghost use Rattle.layout.specs.Places.{setupSize};
 ghost use Rattle.checking.specs.Says.{stopIn};
 
 // Check 1.
@@ -46,7 +47,7 @@ fn within(min: u32, max: u32, us: u32) -> bool
 
 // Check 6.
 pub fn rpi(r: &[u8], o: ForwardOpen) -> Check
-    requires { ⌜ 192 ≤ length (now r) ⌝ }
+    requires { ⌜ setupSize ≤ length (now r) ⌝ }
     ensures { λ x. ⌜ stopIn x ≡ rpiCheck (setupFrom (now (r .entry)) []) o ⌝ }
 {
     let min = cells::u32_at(r, 28);

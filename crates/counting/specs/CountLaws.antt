@@ -18,9 +18,9 @@ use Rattle.rules.specs.Producing.{dueBy, due, lateBy, lateLimit, delays, greate
 use Rattle.rules.specs.declared.Conn.{Conn}
 use Rattle.rules.specs.declared.Due.{Due}
 use Rattle.rules.specs.declared.Due.the-variants.{Never, At}
-use Rattle.layout.specs.Places.{tableIn}
+use Rattle.layout.specs.Places.{tableIn, stateSize, connectionsOf, maxLateOf}
 use Rattle.layout.specs.Setups.{setupOf}
-use Rattle.layout.specs.Rows.{decFixed, decSent}
+use Rattle.layout.specs.Rows.{decFixed, decSent, rowAt}
 use Rattle.image.specs.Holds.{Holds, conns-held, setup-held, maxLate-held}
 use Rattle.image.specs.Updates.{noConn}
 use Rattle.packets.specs.Steps.{Data}
@@ -43,7 +43,7 @@ added-is n d limit late worst k el ew = λ j. record { need = k .need + n; count
 
 -- ---- row i
 
-module _ (t limit i : ℕ) (s : List ℕ) (p : i < le 2 s 224) (d : Due) (ed : d ≡ decSent (take 70 (drop (i * 70) (tableIn s))) .due) (k : Tally) where
+module _ (t limit i : ℕ) (s : List ℕ) (p : i < connectionsOf s) (d : Due) (ed : d ≡ decSent (rowAt (tableIn s) i) .due) (k : Tally) where
   due-is : (st : State) (l : List ℕ) → Holds s st l → getD (st .table) i noConn .sent .due ≡ d
   due-is st l h = sym (ed ∙ ap (λ (c : Conn). c .sent .due) (row-held i s p st l h))
 
@@ -59,8 +59,8 @@ module _ (t limit i : ℕ) (s : List ℕ) (p : i < le 2 s 224) (d : Due) (ed : d
   pub count-later : (v : ℕ) → d ≡ At v → t < v → Tallies t limit i s k k
   count-later v e q = not-counted (ap (dueBy t) e ∙ lt-leb v t q)
 
-  pub count-due : (v : ℕ) → d ≡ At v → v ≤ t → (j : ℕ) → j ≡ decFixed (take 70 (drop (i * 70) (tableIn s))) .input
-      → (a n : ℕ) → a + n ≤ 109056 → length s ≡ 109056 → Data j s a n → (r : Tally) → r ≡ added (33 + n) (t - v) limit k → Tallies t limit i s k r
+  pub count-due : (v : ℕ) → d ≡ At v → v ≤ t → (j : ℕ) → j ≡ decFixed (rowAt (tableIn s) i) .input
+      → (a n : ℕ) → a + n ≤ stateSize → length s ≡ stateSize → Data j s a n → (r : Tally) → r ≡ added (33 + n) (t - v) limit k → Tallies t limit i s k r
   unfolding tallied
   count-due v e q j ej a n inside long g r er st l h =
       let c : Conn = getD (st .table) i noConn in
@@ -87,7 +87,7 @@ module _ (t limit worst : ℕ) (s : List ℕ) where
   pub tally-start : (w : ℕ) → w ≡ worst → TallySoFar t limit worst 0 s (start w)
   tally-start w e st l h = ap (λ (n : ℕ). tallyFrom t limit (st .contents) (start n) (st .table)) e
 
-  pub tally-turn : (i : ℕ) (k r : Tally) → i < le 2 s 224 → TallySoFar t limit worst i s k → Tallies t limit i s k r → TallySoFar t limit worst (i + 1) s r
+  pub tally-turn : (i : ℕ) (k r : Tally) → i < connectionsOf s → TallySoFar t limit worst i s k → Tallies t limit i s k r → TallySoFar t limit worst (i + 1) s r
   unfolding tallyFrom
   tally-turn i k r p g d st l h =
       let e = conns-held s st l h in
@@ -159,7 +159,7 @@ from-start t st =
     let x : Tally = totals t st in
     λ j. record { need = z (x .need) j; count = z (x .count) j; late = z (x .late) j; worst = x .worst }
 
-pub tally-end : (t limit worst i : ℕ) (s : List ℕ) (k : Tally) → limit ≡ limitOf (le 4 s 36) → worst ≡ le 8 s 208 → le 2 s 224 ≤ i → TallySoFar t limit worst i s k → Totals t s k
+pub tally-end : (t limit worst i : ℕ) (s : List ℕ) (k : Tally) → limit ≡ limitOf (le 4 s 36) → worst ≡ maxLateOf s → connectionsOf s ≤ i → TallySoFar t limit worst i s k → Totals t s k
 unfolding tallyFrom
 tally-end t limit worst i s k el ew p g st l h =
     let e = conns-held s st l h in

@@ -1,2 +1,3 @@
 pub mod Tallies
 pub mod CountLaws
+pub mod AnyDue

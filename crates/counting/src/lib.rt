@@ -1,11 +1,15 @@
 // What is due, counted before anything is written: its bytes, its packets, and how late they are.
 use rules::Due;
 ghost use mathlib.Core.Path.{_≡_};
-ghost use Prim.Native.Nat.{_+_, _≤_, _<_, max};
+ghost use Prim.Native.Nat.{_+_, _≤_, _<_, min, max};
 ghost use lib.Dec.{leb};
 ghost use lib.ListN.{length};
 ghost use Rattle.cells.specs.Numbers.{le};
 ghost use Rattle.cells.specs.Records.{ofBool};
+ghost use Rattle.rules.specs.Lists.{any};
+ghost use Rattle.rules.specs.Producing.{due};
+ghost use Rattle.layout.specs.Places.{tableSize, connectionsOf};
+ghost use Rattle.layout.specs.Rows.{connsIn};
 ghost use Rattle.image.specs.Holds.{Ready, Slotted};
 ghost use Rattle.counting.specs.Tallies.{limitOf, added, Tallies, Totals};
 
@@ -62,33 +66,61 @@ fn add_packet(k: Tally, n: usize, d: u64, limit: u64) -> Tally
 }
 
 fn count_row(s: &[u8], i: usize, time: u64, limit: u64, k: Tally) -> Tally
-    requires { ⌜ Ready (now s) × Slotted (now s) × (i < le 2 (now s) 224) × (k .need ≤ 17440) × (k .count ≤ 32) × (k .late ≤ 32) ⌝ }
+    requires { ⌜ Ready (now s) × Slotted (now s) × (i < connectionsOf (now s)) × (k .need ≤ 17440) × (k .count ≤ 32) × (k .late ≤ 32) ⌝ }
     ensures { λ r. ⌜ (r .need ≤ k .need + 545) × (r .count ≤ k .count + 1) × (r .late ≤ k .late + 1) × Tallies time limit i (now (s .entry)) k r ⌝ }
 {
-    let d = layout::due_at(&s[256..2560], i);
+    let d = layout::due_at(&s[layout::TABLE..layout::EVENTS], i);
     match d {
         Due::Never => k,
         Due::At(t) => {
             if time < t {
                 return k;
             }
-            let p = packets::data_of(s, packets::input_at(&s[256..2560], i));
+            let p = packets::data_of(s, layout::input_at(&s[layout::TABLE..layout::EVENTS], i));
             add_packet(k, 33 + p.size, time - t, limit)
         }
     }
+}
+
+// Without a jump.
+fn lesser(a: u64, b: u64) -> u64
+    ensures { λ r. ⌜ r ≡ min a b ⌝ }
+{
+    if a < b {
+        return a;
+    }
+    b
+}
+
+// Whether any is due, by the least due time of all rows. The due number is 0 for never: one less wraps to the largest number, which
+// no time reaches.
+pub fn any_due(r: &[u8], n: usize, time: u64) -> bool
+    requires { ⌜ (n ≤ 32) × (tableSize ≤ length (now r)) × (time < 9223372036854775808) ⌝ }
+    ensures { λ x. ⌜ x ≡ any (due time) (connsIn n (now (r .entry))) ⌝ }
+{
+    let mut m: u64 = 18446744073709551615;
+    let mut i = 0;
+    while i < n {
+        m = lesser(
+            m,
+            std::num::wrapping_sub_u64(layout::due_number_at(r, i), 1),
+        );
+        i += 1;
+    }
+    m <= time
 }
 
 pub fn count_all(s: &[u8], time: u64) -> Tally
     requires { ⌜ Ready (now s) × Slotted (now s) ⌝ }
     ensures { λ r. ⌜ (r .need ≤ 17440) × Totals time (now (s .entry)) r ⌝ }
 {
-    let n = cells::u16_at(s, 224) as usize;
+    let n = cells::u16_at(s, layout::CONNECTIONS) as usize;
     let limit = late_limit(s);
     let mut k = Tally {
         need: 0,
         count: 0,
         late: 0,
-        worst: cells::u64_at(s, 208),
+        worst: cells::u64_at(s, layout::MAX_LATE),
     };
     let mut i = 0;
     while i < n {

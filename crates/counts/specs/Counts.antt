@@ -6,10 +6,11 @@ use mathlib.Core.Path.{_≡_, refl, sym, _∙_}
 use native.Mathlib.Omega.{arith}
 use lib.ListN.{length}
 use lib.Seq.{sets}
-use Rattle.cells.specs.Numbers.{le, put, bytesLe}
+use Rattle.cells.specs.Numbers.{put, bytesLe}
 use Rattle.cells.specs.Records.{encFields, putFields-eq, puts, done, step}
 use Rattle.rules.specs.Answers.{Wrote, NoRoom}
 use Rattle.rules.specs.Host.{statsBytes, statsAnswer}
+use Rattle.layout.specs.Places.{producedOf, lateOf, maxLateOf}
 use Rattle.image.specs.Image.{view, tested}
 use Rattle.image.specs.Lift.{liftedRead}
 use Rattle.application.specs.Ways.{fits-in, fits-not, read-wrote, read-no}
@@ -29,14 +30,14 @@ module _ (s out : List ℕ) (t : tested s ≡ true) where
   pub stats-short : length out < 24 → (8, out) ≡ liftedRead statsAnswer s out
   unfolding statsAnswer view
   stats-short h =
-      let n = length-three (le 8 s 192) (le 8 s 200) (le 8 s 208) in
+      let n = length-three (producedOf s) (lateOf s) (maxLateOf s) in
       read-no s out t statsAnswer NoRoom (fits-not (length out) (statsBytes (view s .counters)) (Wrote (statsBytes (view s .counters))) (omega arith))
 
-  pub stats-wrote : 24 ≤ length out → (o₁ o₂ o₃ : List ℕ) (a b c : ℕ) → a ≡ le 8 s 192 → b ≡ le 8 s 200 → c ≡ le 8 s 208
+  pub stats-wrote : 24 ≤ length out → (o₁ o₂ o₃ : List ℕ) (a b c : ℕ) → a ≡ producedOf s → b ≡ lateOf s → c ≡ maxLateOf s
       → o₁ ≡ put 8 out 0 a → o₂ ≡ put 8 o₁ 8 b → o₃ ≡ put 8 o₂ 16 c → (2 ^ 8 * 24, o₃) ≡ liftedRead statsAnswer s out
   unfolding statsAnswer view
   stats-wrote h o₁ o₂ o₃ a b c ea eb ec e₁ e₂ e₃ =
-      let n = length-three (le 8 s 192) (le 8 s 200) (le 8 s 208) in
+      let n = length-three (producedOf s) (lateOf s) (maxLateOf s) in
       read-wrote s out t statsAnswer 24 o₃ (statsBytes (view s .counters))
       (fits-in (length out) (statsBytes (view s .counters)) (Wrote (statsBytes (view s .counters))) (omega arith))
       (sym n)

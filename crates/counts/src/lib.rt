@@ -13,8 +13,8 @@ pub fn stats(s: &[u8], out: &mut [u8]) -> Outcome
     if out.len() < 24 {
         return Outcome::NoRoom;
     }
-    cells::put_u64(out, 0, cells::u64_at(s, 192));
-    cells::put_u64(out, 8, cells::u64_at(s, 200));
-    cells::put_u64(out, 16, cells::u64_at(s, 208));
+    cells::put_u64(out, 0, cells::u64_at(s, layout::PRODUCED));
+    cells::put_u64(out, 8, cells::u64_at(s, layout::LATE));
+    cells::put_u64(out, 16, cells::u64_at(s, layout::MAX_LATE));
     Outcome::Wrote(24)
 }

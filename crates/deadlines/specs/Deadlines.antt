@@ -1,12 +1,12 @@
 -- The laws of the walk along the table, and of each way out.
-use Prim.Native.Nat.{ℕ, zero, suc, _+_, _*_, _≤_, _<_, min}
+use Prim.Native.Nat.{ℕ, zero, suc, _+_, _*_, _%_, _≤_, _<_, min}
 use mathlib.Core.Bool.{true, false}
 use mathlib.Core.List.{List, [], _∷_}
 use mathlib.Core.Option.{Option, none, some}
-use mathlib.Core.Path.{_≡_, refl, ap, ap₂, sym, _∙_}
+use mathlib.Core.Path.{_≡_, refl, ap, sym, _∙_}
 use native.Mathlib.Omega.{arith}
 use lib.Dec.{leb}
-use lib.ListN.{length, take, drop}
+use lib.ListN.{length, drop}
 use borrow.Author.Tests.{le-leb, lt-leb}
 use Rattle.cells.specs.Numbers.{le, put, bytesLe, length-bytesLe}
 use Rattle.tables.specs.Tables.{rows, rows-rest, rows-end}
@@ -17,49 +17,50 @@ use Rattle.rules.specs.Answers.{Wrote, Refused, NothingThere, fitting, answerNu
 use Rattle.rules.specs.declared.Due.{Due}
 use Rattle.rules.specs.declared.Due.the-variants.{Never, At}
 use Rattle.rules.specs.Removal.{dueOr, deadlineOf, leastOf, deadline, deadlineAnswer}
-use Rattle.layout.specs.Places.{tableIn}
-use Rattle.layout.specs.Rows.{decHeard, decSent, decConn}
+use Rattle.layout.specs.Places.{tableIn, rowSize, connectionsOf}
+use Rattle.layout.specs.Rows.{ofDue, decHeard, decSent, decConn, connAt, connsIn}
 use Rattle.image.specs.Holds.{Holds, conns-held, table-held}
 use Rattle.deadlines.specs.Reading.{Answered, Answers}
 
--- a row's own deadline
-module _ (b : List ℕ) (u : ℕ) (d : Due) (eu : u ≡ decHeard b .until) (ed : d ≡ decSent b .due) where
-  pub row-never : d ≡ Never → u ≡ deadlineOf (decConn b)
-  row-never e = ap₂ dueOr eu (sym e ∙ ed)
+-- a row's own deadline: one less than the due number, modulo 2^64
+least-due : (u v : ℕ) (d : Due) → u ≤ 18446744073709551615 → v ≤ 18446744073709551615 → (v + 1) % 18446744073709551616 ≡ ofDue d → min u v ≡ dueOr u d
+least-due u v Never hu hv e = omega arith
+least-due u v (At t) hu hv e = let z : v ≡ t = omega arith in ap (min u) z
 
-  pub row-due : (t : ℕ) → d ≡ At t → (x : ℕ) → x ≡ min u t → x ≡ deadlineOf (decConn b)
-  row-due t e x ex = ex ∙ ap₂ dueOr eu (sym e ∙ ed)
+pub row-least : (b : List ℕ) (u d v x : ℕ) → u ≡ decHeard b .until → d ≡ ofDue (decSent b .due) → (v + 1) % 18446744073709551616 ≡ d → x ≡ min u v
+    → u ≤ 18446744073709551615 → v ≤ 18446744073709551615 → x ≡ deadlineOf (decConn b)
+row-least b u d v x eu ed ev ex hu hv = ex ∙ least-due u v (decSent b .due) hu hv (ev ∙ ed) ∙ ap (λ (z : ℕ). dueOr z (decSent b .due)) eu
 
 module _ (n : ℕ) (r : List ℕ) where
-  pub least-turn : (m x i : ℕ) → i < n → x ≡ deadlineOf (decConn (take 70 (drop (i * 70) r)))
-      → leastOf m (drop i (rows 70 decConn n r)) ≡ leastOf (min m x) (drop (i + 1) (rows 70 decConn n r))
+  pub least-turn : (m x i : ℕ) → i < n → x ≡ deadlineOf (connAt r i)
+      → leastOf m (drop i (connsIn n r)) ≡ leastOf (min m x) (drop (i + 1) (connsIn n r))
   least-turn m x i h e =
-      ap (leastOf m) (rows-rest 70 decConn n r i h)
-      ∙ ap (λ (y : ℕ). leastOf (min m y) (drop (i + 1) (rows 70 decConn n r))) (sym e)
+      ap (leastOf m) (rows-rest rowSize decConn n r i h)
+      ∙ ap (λ (y : ℕ). leastOf (min m y) (drop (i + 1) (connsIn n r))) (sym e)
 
-  pub least-end : (m i : ℕ) → n ≤ i → leastOf m (drop i (rows 70 decConn n r)) ≡ m
-  least-end m i h = ap (leastOf m) (rows-end 70 decConn n r i h)
+  pub least-end : (m i : ℕ) → n ≤ i → leastOf m (drop i (connsIn n r)) ≡ m
+  least-end m i h = ap (leastOf m) (rows-end rowSize decConn n r i h)
 
-pub least-whole : (n : ℕ) (r : List ℕ) (m : ℕ) → 0 < n → m ≡ deadlineOf (decConn (take 70 (drop (0 * 70) r)))
-    → deadline (rows 70 decConn n r) ≡ some (leastOf m (drop 1 (rows 70 decConn n r)))
+pub least-whole : (n : ℕ) (r : List ℕ) (m : ℕ) → 0 < n → m ≡ deadlineOf (connAt r 0)
+    → deadline (connsIn n r) ≡ some (leastOf m (drop 1 (connsIn n r)))
 unfolding rows
 least-whole zero r m h e = absurd (omega arith)
-least-whole (suc n) r m h e = ap (λ (y : ℕ). some (leastOf y (rows 70 decConn n (drop 70 r)))) (sym e)
+least-whole (suc n) r m h e = ap (λ (y : ℕ). some (leastOf y (connsIn n (drop rowSize r)))) (sym e)
 
 empty : (cs : List Conn) → length cs ≡ 0 → deadline cs ≡ none
 empty [] e = refl
 empty (c ∷ cs) e = absurd (omega arith)
 
-module _ (s out : List ℕ) (n : ℕ) (en : n ≡ le 2 s 224) where
+module _ (s out : List ℕ) (n : ℕ) (en : n ≡ connectionsOf s) where
   pub none-waits : n ≡ 0 → Answers deadlineAnswer s out 9 out
   unfolding deadlineAnswer answerNumber
   none-waits z st l h =
       let e : deadline (st .table) ≡ none = empty (st .table) (let k = conns-held s st l h in omega arith) in
       record { number = rw e; bytes = rw e }
 
-  module _ (x : ℕ) (ex : deadline (rows 70 decConn n (tableIn s)) ≡ some x) where
+  module _ (x : ℕ) (ex : deadline (connsIn n (tableIn s)) ≡ some x) where
     is : (st : State) (l : List ℕ) → Holds s st l → deadline (st .table) ≡ some x
-    is st l h = ap deadline (sym (ap (λ (k : ℕ). rows 70 decConn k (tableIn s)) en ∙ table-held s st l h)) ∙ ex
+    is st l h = ap deadline (sym (ap (λ (k : ℕ). connsIn k (tableIn s)) en ∙ table-held s st l h)) ∙ ex
 
     pub answered : 8 ≤ length out → (out′ : List ℕ) → out′ ≡ put 8 out 0 x → Answers deadlineAnswer s out 2048 out′
     unfolding deadlineAnswer answerNumber put

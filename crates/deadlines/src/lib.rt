@@ -1,12 +1,11 @@
 // The next deadline: the least of producing due times and receive time plus timeout.
-use rules::Due;
 ghost use mathlib.Core.Path.{_≡_};
 ghost use mathlib.Core.Option.{some};
 ghost use Prim.Native.Nat.{ℕ, _+_, _*_, _≤_, _<_, min};
-ghost use lib.ListN.{length, take, drop};
-ghost use Rattle.tables.specs.Tables.{rows};
+ghost use lib.ListN.{length};
 ghost use Rattle.rules.specs.Removal.{deadlineOf, deadline, deadlineAnswer};
-ghost use Rattle.layout.specs.Rows.{decConn};
+ghost use Rattle.layout.specs.Rows.{connAt, connsIn};
+ghost use Rattle.layout.specs.Places.{tableSize};
 ghost use Rattle.image.specs.Holds.{Ready};
 ghost use Rattle.deadlines.specs.Reading.{Answers};
 
@@ -19,21 +18,19 @@ fn lesser(a: u64, b: u64) -> u64
     b
 }
 
+// The due number is 0 for never: one less wraps to the largest number, and no jump is needed.
 fn row_deadline(r: &[u8], i: usize) -> u64
-    requires { ⌜ (i < 32) × (2304 ≤ length (now r)) ⌝ }
-    ensures { λ x. ⌜ x ≡ deadlineOf (decConn (take 70 (drop (i * 70) (now (r .entry))))) ⌝ }
+    requires { ⌜ (i < 32) × (tableSize ≤ length (now r)) ⌝ }
+    ensures { λ x. ⌜ x ≡ deadlineOf (connAt (now (r .entry)) i) ⌝ }
 {
     let until = layout::until_at(r, i);
-    let due = layout::due_at(r, i);
-    match due {
-        Due::Never => until,
-        Due::At(t) => lesser(until, t),
-    }
+    let due = layout::due_number_at(r, i);
+    lesser(until, std::num::wrapping_sub_u64(due, 1))
 }
 
 fn least(r: &[u8], n: usize) -> u64
-    requires { ⌜ (0 < n) × (n ≤ 32) × (2304 ≤ length (now r)) ⌝ }
-    ensures { λ x. ⌜ deadline (rows 70 decConn n (now (r .entry))) ≡ some x ⌝ }
+    requires { ⌜ (0 < n) × (n ≤ 32) × (tableSize ≤ length (now r)) ⌝ }
+    ensures { λ x. ⌜ deadline (connsIn n (now (r .entry))) ≡ some x ⌝ }
 {
     let first = row_deadline(r, 0);
     let mut m = first;
@@ -50,13 +47,13 @@ pub fn next_deadline(s: &[u8], out: &mut [u8]) -> u64
     requires { ⌜ Ready (now s) ⌝ }
     ensures { λ r. ⌜ Answers deadlineAnswer (now (s .entry)) (now (out .entry)) r (now (out .exit)) ⌝ }
 {
-    let n = cells::u16_at(s, 224) as usize;
+    let n = cells::u16_at(s, layout::CONNECTIONS) as usize;
     if n == 0 {
         return 9;
     }
     if out.len() < 8 {
         return 8;
     }
-    cells::put_u64(out, 0, least(&s[256..2560], n));
+    cells::put_u64(out, 0, least(&s[layout::TABLE..layout::EVENTS], n));
     2048
 }

@@ -6,7 +6,6 @@ use mathlib.Core.Option.{Option}
 use mathlib.Core.Path.{_≡_}
 use lib.Dec.{eqb}
 use lib.ListN.{length}
-use Rattle.cells.specs.Numbers.{le}
 use Rattle.wire_opens.specs.declared.ForwardOpen.{ForwardOpen}
 use Rattle.wire_paths.specs.declared.ConnectionPath.{ConnectionPath}
 use Rattle.wire_paths.specs.declared.PathAnswer.{PathAnswer}
@@ -22,17 +21,18 @@ use Rattle.rules.specs.Lists.{maybe}
 use Rattle.rules.specs.State.{Setup}
 use Rattle.rules.specs.Checks.{Roles, must, firstStop, pathCheck, pathIn, keyCheck, pointsCheck, rolesOf, configCheck, rpiCheck, typeCheck, otSizeCheck, toSizeCheck, triadCheck, ownerCheck, streamCheck, roomCheck, storesInto}
 use Rattle.layout.specs.Setups.{goodShapes}
+use Rattle.layout.specs.Places.{setupSize, tableSize, assembliesOf}
 use Rattle.streams.specs.Joining.{streamStop}
 
 -- what the decision asks of the setup's region, and of the table's with n rows in use
 pub record SetupRegion (r : List ℕ) : Type 0 where
-  pub long : 192 ≤ length r
-  pub few : le 1 r 0 ≤ 16
+  pub long : setupSize ≤ length r
+  pub few : assembliesOf r ≤ 16
   pub shapes : goodShapes r ≡ true
 
 pub record Regions (r t : List ℕ) (n : ℕ) : Type 0 where
   pub setup : SetupRegion r
-  pub long : 2304 ≤ length t
+  pub long : tableSize ≤ length t
   pub few : n ≤ 32
 
 -- the first that does not hold, or a plan

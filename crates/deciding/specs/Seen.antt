@@ -7,7 +7,6 @@ use mathlib.Core.Path.{_≡_, refl, ap, _∙_}
 use native.Mathlib.Omega.{arith}
 use lib.Dec.{eqb}
 use lib.ListN.{take, drop}
-use Rattle.cells.specs.Numbers.{le}
 use Rattle.tables.specs.Tables.{rows}
 use Rattle.wire_opens.specs.declared.ForwardOpen.{ForwardOpen}
 use Rattle.wire_paths.specs.declared.ConnectionPath.{ConnectionPath}
@@ -20,8 +19,8 @@ use Rattle.rules.specs.declared.Verdict.the-variants.{Stopped, Planned}
 use Rattle.rules.specs.State.{Setup, fixeds}
 use Rattle.rules.specs.Lists.{maybe}
 use Rattle.rules.specs.Checks.{Roles, firstStop, transportCheck, pathCheck, pathIn, keyCheck, kindOf, placeOf, pointsCheck, rolesOf, configStop, configCheck, rpiCheck, typeCheck, otSizeCheck, toSizeCheck, triadCheck, ownerCheck, streamOf, streamCheck, roomCheck, storesInto, planOf, verdict}
-use Rattle.layout.specs.Places.{setupIn, tableIn, edsIn}
-use Rattle.layout.specs.Rows.{decFixed, decConn}
+use Rattle.layout.specs.Places.{setupIn, tableIn, edsIn, rowSize, connectionsOf}
+use Rattle.layout.specs.Rows.{decFixed, connsIn, fixedsIn}
 use Rattle.layout.specs.Setups.{identityOf, setupFrom, setupOf}
 use Rattle.image.specs.Image.{view, tested}
 use Rattle.image.specs.Fits.{few-assemblies, is-long, is-sound, few-conns, shapes-good}
@@ -104,12 +103,12 @@ eds-unread r e table o a =
     ∷ []))
 
 -- the fixed parts of the rows
-pub fixeds-rows : (n : ℕ) (r : List ℕ) → rows 70 decFixed n r ≡ fixeds (rows 70 decConn n r)
+pub fixeds-rows : (n : ℕ) (r : List ℕ) → fixedsIn n r ≡ fixeds (connsIn n r)
 unfolding rows
 fixeds-rows zero r = refl
-fixeds-rows (suc n) r = ap (λ (z : List Fixed). decFixed (take 70 r) ∷ z) (fixeds-rows n (drop 70 r))
+fixeds-rows (suc n) r = ap (λ (z : List Fixed). decFixed (take rowSize r) ∷ z) (fixeds-rows n (drop rowSize r))
 
-module _ (s : List ℕ) (n : ℕ) (en : n ≡ le 2 s 224) where
+module _ (s : List ℕ) (n : ℕ) (en : n ≡ connectionsOf s) where
   pub regions-tested : tested s ≡ true → Regions (setupIn s) (tableIn s) n
   regions-tested ok =
       let l = is-long s ok in
@@ -122,10 +121,10 @@ module _ (s : List ℕ) (n : ℕ) (en : n ≡ le 2 s 224) where
         few = omega arith;
       }
 
-  pub verdict-seen : (o : ForwardOpen) (a : PathAnswer) (v : Verdict) → v ≡ verdict (setupFrom (setupIn s) []) (rows 70 decFixed n (tableIn s)) o a
+  pub verdict-seen : (o : ForwardOpen) (a : PathAnswer) (v : Verdict) → v ≡ verdict (setupFrom (setupIn s) []) (fixedsIn n (tableIn s)) o a
       → v ≡ verdict (view s .setup) (fixeds (view s .table)) o a
   unfolding view setupOf
   verdict-seen o a v e =
-      e ∙ ap (λ (k : ℕ). verdict (setupFrom (setupIn s) []) (rows 70 decFixed k (tableIn s)) o a) en
-      ∙ ap (λ (z : List Fixed). verdict (setupFrom (setupIn s) []) z o a) (fixeds-rows (le 2 s 224) (tableIn s))
+      e ∙ ap (λ (k : ℕ). verdict (setupFrom (setupIn s) []) (fixedsIn k (tableIn s)) o a) en
+      ∙ ap (λ (z : List Fixed). verdict (setupFrom (setupIn s) []) z o a) (fixeds-rows (connectionsOf s) (tableIn s))
       ∙ eds-unread (setupIn s) (edsIn s) (fixeds (view s .table)) o a

@@ -15,12 +15,11 @@ ghost use mathlib.Core.Path.{_≡_};
 ghost use mathlib.Core.Bool.{true, cond, not};
 ghost use mathlib.Core.List.{[]};
 ghost use lib.Dec.{eqb};
-ghost use Rattle.tables.specs.Tables.{rows};
 ghost use Rattle.rules.specs.declared.Stores.the-variants.{Nothing};
 ghost use Rattle.rules.specs.Lists.{isSome};
 ghost use Rattle.rules.specs.State.{fixeds};
 ghost use Rattle.rules.specs.Checks.{firstStop, streamOf, storesInto, planOf, pathIn, verdict};
-ghost use Rattle.layout.specs.Rows.{decFixed};
+ghost use Rattle.layout.specs.Rows.{fixedsIn};
 ghost use Rattle.layout.specs.Setups.{setupFrom};
 ghost use Rattle.image.specs.Image.{view, tested};
 ghost use Rattle.checking.specs.Says.{stopIn};
@@ -75,7 +74,7 @@ fn check_sizes(r: &[u8], o: ForwardOpen, p: ConnectionPath, roles: Roles) -> Che
 // Checks 10 to 13, once the stream is found.
 fn check_table(r: &[u8], t: &[u8], n: usize, o: ForwardOpen, roles: Roles, stream: Stream) -> Check
     requires { ⌜ Regions (now r) (now t) n ⌝ }
-    ensures { λ x. ⌜ stopIn x ≡ firstStop (tableChecksOf (setupFrom (now (r .entry)) []) (rows 70 decFixed n (now (t .entry))) o (rolesIn roles) stream) ⌝ }
+    ensures { λ x. ⌜ stopIn x ≡ firstStop (tableChecksOf (setupFrom (now (r .entry)) []) (fixedsIn n (now (t .entry))) o (rolesIn roles) stream) ⌝ }
 {
     let triad = streams::table::triad(t, n, o);
     if is_stop(triad) {
@@ -128,7 +127,7 @@ fn decide_table(
     datalen: usize,
 ) -> Verdict
     requires { ⌜ Regions (now r) (now t) n ⌝ }
-    ensures { λ v. ⌜ v ≡ decided (planFor (rolesIn roles) datalen (streamOf o (rolesIn roles) (rows 70 decFixed n (now (t .entry))))) (tableChecks (setupFrom (now (r .entry)) []) (rows 70 decFixed n (now (t .entry))) o (rolesIn roles)) ⌝ }
+    ensures { λ v. ⌜ v ≡ decided (planFor (rolesIn roles) datalen (streamOf o (rolesIn roles) (fixedsIn n (now (t .entry))))) (tableChecks (setupFrom (now (r .entry)) []) (fixedsIn n (now (t .entry))) o (rolesIn roles)) ⌝ }
 {
     let kind = roles.kind;
     let stream = streams::joining::stream_of(t, n, o, kind, roles.input);
@@ -148,7 +147,7 @@ fn decide_roles(
     roles: Roles,
 ) -> Verdict
     requires { ⌜ Regions (now r) (now t) n ⌝ }
-    ensures { λ v. ⌜ v ≡ decided (planFor (rolesIn roles) (p .datalen) (streamOf o (rolesIn roles) (rows 70 decFixed n (now (t .entry))))) (roleChecks (setupFrom (now (r .entry)) []) (rows 70 decFixed n (now (t .entry))) o p (rolesIn roles)) ⌝ }
+    ensures { λ v. ⌜ v ≡ decided (planFor (rolesIn roles) (p .datalen) (streamOf o (rolesIn roles) (fixedsIn n (now (t .entry))))) (roleChecks (setupFrom (now (r .entry)) []) (fixedsIn n (now (t .entry))) o p (rolesIn roles)) ⌝ }
 {
     match check_sizes(r, o, p, roles) {
         Check::Stops(why) => Verdict::Stopped(why),
@@ -159,7 +158,7 @@ fn decide_roles(
 // From check 4 on.
 fn decide_points(r: &[u8], t: &[u8], n: usize, o: ForwardOpen, p: ConnectionPath) -> Verdict
     requires { ⌜ Regions (now r) (now t) n ⌝ }
-    ensures { λ v. ⌜ v ≡ decided (planOf (setupFrom (now (r .entry)) []) (rows 70 decFixed n (now (t .entry))) o p) (pointChecks (setupFrom (now (r .entry)) []) (rows 70 decFixed n (now (t .entry))) o p) ⌝ }
+    ensures { λ v. ⌜ v ≡ decided (planOf (setupFrom (now (r .entry)) []) (fixedsIn n (now (t .entry))) o p) (pointChecks (setupFrom (now (r .entry)) []) (fixedsIn n (now (t .entry))) o p) ⌝ }
 {
     match roles::resolve(r, p) {
         Points::Stops(why) => Verdict::Stopped(why),
@@ -170,7 +169,7 @@ fn decide_points(r: &[u8], t: &[u8], n: usize, o: ForwardOpen, p: ConnectionPath
 // From check 2 on, of a path that has parsed.
 fn decide_path(r: &[u8], t: &[u8], n: usize, o: ForwardOpen, p: ConnectionPath) -> Verdict
     requires { ⌜ Regions (now r) (now t) n ⌝ }
-    ensures { λ v. ⌜ v ≡ decided (planOf (setupFrom (now (r .entry)) []) (rows 70 decFixed n (now (t .entry))) o p) (parsedChecks (setupFrom (now (r .entry)) []) (rows 70 decFixed n (now (t .entry))) o p) ⌝ }
+    ensures { λ v. ⌜ v ≡ decided (planOf (setupFrom (now (r .entry)) []) (fixedsIn n (now (t .entry))) o p) (parsedChecks (setupFrom (now (r .entry)) []) (fixedsIn n (now (t .entry))) o p) ⌝ }
 {
     match check_path(r, p) {
         Check::Stops(why) => Verdict::Stopped(why),
@@ -181,7 +180,7 @@ fn decide_path(r: &[u8], t: &[u8], n: usize, o: ForwardOpen, p: ConnectionPath) 
 // From check 2 on.
 fn decide_answer(r: &[u8], t: &[u8], n: usize, o: ForwardOpen, answer: PathAnswer) -> Verdict
     requires { ⌜ Regions (now r) (now t) n ⌝ }
-    ensures { λ v. ⌜ v ≡ decided (planOf (setupFrom (now (r .entry)) []) (rows 70 decFixed n (now (t .entry))) o (pathIn answer)) (answerChecks (setupFrom (now (r .entry)) []) (rows 70 decFixed n (now (t .entry))) o answer) ⌝ }
+    ensures { λ v. ⌜ v ≡ decided (planOf (setupFrom (now (r .entry)) []) (fixedsIn n (now (t .entry))) o (pathIn answer)) (answerChecks (setupFrom (now (r .entry)) []) (fixedsIn n (now (t .entry))) o answer) ⌝ }
 {
     match answer {
         PathAnswer::Unparsed(offset) => Verdict::Stopped(Stop::PathBroken(offset)),
@@ -192,7 +191,7 @@ fn decide_answer(r: &[u8], t: &[u8], n: usize, o: ForwardOpen, answer: PathAnswe
 // All thirteen, from the setup's region and the table's.
 fn decide(r: &[u8], t: &[u8], n: usize, o: ForwardOpen, answer: PathAnswer) -> Verdict
     requires { ⌜ Regions (now r) (now t) n ⌝ }
-    ensures { λ v. ⌜ v ≡ verdict (setupFrom (now (r .entry)) []) (rows 70 decFixed n (now (t .entry))) o answer ⌝ }
+    ensures { λ v. ⌜ v ≡ verdict (setupFrom (now (r .entry)) []) (fixedsIn n (now (t .entry))) o answer ⌝ }
 {
     match checking::request::transport(o) {
         Check::Stops(why) => Verdict::Stopped(why),
@@ -205,6 +204,12 @@ pub fn verdict(s: &[u8], o: ForwardOpen, answer: PathAnswer) -> Verdict
     requires { ⌜ tested (now s) ≡ true ⌝ }
     ensures { λ v. ⌜ v ≡ verdict (view (now (s .entry)) .setup) (fixeds (view (now (s .entry)) .table)) o answer ⌝ }
 {
-    let n = cells::u16_at(s, 224) as usize;
-    decide(&s[0..192], &s[256..2560], n, o, answer)
+    let n = cells::u16_at(s, layout::CONNECTIONS) as usize;
+    decide(
+        &s[0..layout::SETUP_SIZE],
+        &s[layout::TABLE..layout::EVENTS],
+        n,
+        o,
+        answer,
+    )
 }

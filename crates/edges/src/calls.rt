@@ -140,7 +140,7 @@ pub fn say(name: &[u8], kind: u8, serial: u8, time: u64, room: usize, state: &mu
     if state.len() != 109056 {
         return;
     }
-    cells::copy_in(&mut before, 0, state);
+    copies::copy_in(&mut before, 0, state);
     let answer = call_in(kind, serial, time, room, state, &mut lent);
     text::line(name, answer);
     text::kept(check::same(&before, state));

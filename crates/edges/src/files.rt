@@ -12,7 +12,7 @@ fn name_eds(b: &mut [u8])
     cells::put_u8(b, 1, 240);
     cells::put_u8(b, 3, 8);
     cells::put_u32(b, 4, 1);
-    cells::copy_in(b, 78, b"lane.eds");
+    copies::copy_in(b, 78, b"lane.eds");
 }
 
 // An EDS of one byte, whose file is named "lane.eds".

@@ -46,9 +46,9 @@ fn say_ids() {
         26,
         &mut state,
     );
-    calls::say_number(b"its O->T id: ", &state, 289);
+    calls::say_number(b"its O->T id: ", &state, 288);
     calls::say(b"open, the next", OPEN, 2, 1000, 26, &mut state);
-    calls::say_number(b"its O->T id, 0 being none: ", &state, 359);
+    calls::say_number(b"its O->T id, 0 being none: ", &state, 357);
 }
 
 fn say_sequences() {

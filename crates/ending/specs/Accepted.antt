@@ -25,13 +25,14 @@ use Rattle.wire_opens.specs.declared.CloseAnswer.{CloseAnswer}
 use Rattle.wire_opens.specs.declared.CloseAnswer.the-variants.{Close, NoClose}
 use Rattle.wire_opens.specs.Requests.{closeOf}
 use Rattle.image.specs.Image.{view, store, tested}
+use Rattle.image.specs.RowsFit.{RowsFit, fits-change, fits-keep}
 use Rattle.image.specs.Fits.{Suits}
 use Rattle.image.specs.Updates.{noConn}
 use Rattle.image.specs.ViewLaws.{suits-view}
 use Rattle.image.specs.Passes.{tested-store}
 use Rattle.image.specs.Kept.{suits-table, suits-removed, suits-content, suits-fault}
 use Rattle.image.specs.Changes.{suits-pushed}
-use Rattle.image.specs.Searches.{find-at, change-at-place}
+use Rattle.searches.specs.Searches.{find-at, change-at-place}
 use Rattle.records.specs.Fields.{length-info}
 use Rattle.lookup.specs.RowTests.{place-none}
 use Rattle.events.specs.Pushes.{told}
@@ -55,6 +56,8 @@ module _ (l : List ℕ) where
       suits-table st l w (handed multicast id x st .table)
       (let n = length-change (inStream id) (withSent x) (st .table) in let t = w .fits .table in
       either-way (λ (z : List Conn). length z ≤ 32) (multicast && produces (x .due)) {x = changeFirst (inStream id) (withSent x) (st .table)} {y = st .table} (omega arith) t)
+      (either-way (λ (z : List Conn). RowsFit z) (multicast && produces (x .due)) {x = changeFirst (inStream id) (withSent x) (st .table)} {y = st .table}
+      (fits-change (inStream id) (withSent x) (λ c. refl) (st .table) (w .fits .rows)) (w .fits .rows))
 
   suits-ended : (k : Kind) (multicast : Bool) (id : ToId) (st : State) → Suits st l → Suits (ended k multicast id st) l
   suits-ended k multicast id st w =
@@ -63,6 +66,8 @@ module _ (l : List ℕ) where
       suits-table (withEvents (ended k multicast id st .events) st) l v (ended k multicast id st .table)
       (let n = length-keep (λ x. not (inStream id x)) (st .table) in let t = w .fits .table in
       either-way (λ (z : List Conn). length z ≤ 32) b {x = keep (λ x. not (inStream id x)) (st .table)} {y = st .table} (omega arith) t)
+      (either-way (λ (z : List Conn). RowsFit z) b {x = keep (λ x. not (inStream id x)) (st .table)} {y = st .table}
+      (fits-keep (λ x. not (inStream id x)) (st .table) (w .fits .rows)) (w .fits .rows))
 
   suits-idled : (k : Kind) (i : ℕ) (st : State) → Suits st l → Suits (idled k i st) l
   suits-idled k i st w =

@@ -13,7 +13,6 @@ use Rattle.cells.specs.Numbers.{le}
 use Rattle.cells.specs.Back.{Bytes}
 use Rattle.cells.specs.Writes.{written, written-all}
 use Rattle.cells.specs.declared.Written.{Written}
-use Rattle.tables.specs.Tables.{rows}
 use Rattle.wire_opens.specs.declared.CloseAnswer.{CloseAnswer}
 use Rattle.wire_opens.specs.declared.CloseAnswer.the-variants.{Close, NoClose}
 use Rattle.wire_opens.specs.Requests.{closeOf}
@@ -25,8 +24,8 @@ use Rattle.rules.specs.Answers.{No, BadTime, NotParsed, NoRoom, NothingThere, n
 use Rattle.rules.specs.Removal.{connTriad, closed, closeFor, closeBy, closeAnswer, closeEffect, closeCall, expireEffect, expireAnswer, expireCall}
 use Rattle.rules.specs.declared.Conn.{Conn}
 use Rattle.ids.specs.declared.Triad.{Triad}
-use Rattle.layout.specs.Places.{tableIn}
-use Rattle.layout.specs.Rows.{decConn}
+use Rattle.layout.specs.Places.{tableIn, connectionsOf}
+use Rattle.layout.specs.Rows.{connsIn}
 use Rattle.image.specs.Image.{view, store, tested}
 use Rattle.image.specs.Updates.{noConn}
 use Rattle.image.specs.Holds.{Held, held-tested}
@@ -84,7 +83,7 @@ module _ (i : ℕ) (t : Triad) (s out : List ℕ) where
 abbrev pub ClosesFor : Triad → ℕ → List ℕ → List ℕ → List ℕ → List ℕ → Type 0
 ClosesFor t r s s′ out out′ = (st : State) (l : List ℕ) → Held s st l → Settles (closeFor (length out) st (Close t)) (closed t st) st r s′ out out′ l
 
-module _ (t : Triad) (s out : List ℕ) (n : ℕ) (x : Found) (en : n ≡ le 2 s 224) (ex : x ≡ foundOf (place (connTriad t) (rows 70 decConn n (tableIn s)))) where
+module _ (t : Triad) (s out : List ℕ) (n : ℕ) (x : Found) (en : n ≡ connectionsOf s) (ex : x ≡ foundOf (place (connTriad t) (connsIn n (tableIn s)))) where
   pub close-nothing : x ≡ Nowhere → ClosesFor t 9 s s out out
   close-nothing e st l o =
       settles-no (closeFor (length out) st (Close t)) NothingThere (closed t st) st s out l

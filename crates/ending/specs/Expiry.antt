@@ -5,15 +5,18 @@ use mathlib.Core.List.{List}
 use mathlib.Core.Path.{_≡_, refl, ap, ap₂, sym, subst, _∙_}
 use native.Mathlib.Omega.{arith}
 use lib.ListN.{length}
-use Rattle.cells.specs.Numbers.{le}
-use Rattle.rules.specs.Lists.{repeat}
+use Rattle.rules.specs.Lists.{repeat, any}
 use Rattle.rules.specs.State.{State, withFault}
-use Rattle.rules.specs.Removal.{expiredFirst, expireEffect}
+use Rattle.rules.specs.Removal.{expired, expiredFirst, expireEffect}
+use Rattle.layout.specs.Places.{tableIn, connectionsOf}
+use Rattle.layout.specs.Rows.{connsIn}
+use Rattle.layout.specs.declared.Found.the-variants.{Nowhere}
 use Rattle.image.specs.Image.{store}
 use Rattle.image.specs.Holds.{Held, Becomes, conns-held}
 use Rattle.image.specs.Kept.{suits-fault}
+use Rattle.lookup.specs.RowTests.{foundOf, never-place}
 use Rattle.removal.specs.Turns.{Turns, turn}
-use Rattle.removal.specs.Removals.{Ends}
+use Rattle.removal.specs.Removals.{Ends, ends-none}
 
 pub turn-fault : (s s′ : List ℕ) (b : Bool) → Becomes s s′ (withFault b) → Turns s s′ (withFault b)
 turn-fault s s′ b d = turn s s′ (withFault b) d (λ st l w. suits-fault st l w b) (λ st. omega arith)
@@ -34,7 +37,7 @@ pub record Rest (t n k : ℕ) (s : List ℕ) (st : State) (l : List ℕ) : Type 
 abbrev pub Going : ℕ → ℕ → ℕ → List ℕ → List ℕ → Type 0
 Going t n k s₀ s = (st : State) (l : List ℕ) → Held s₀ st l → Rest t n k s st l
 
-pub rest-start : (t n : ℕ) (s : List ℕ) → n ≡ le 2 s 224 → Going t n 0 s s
+pub rest-start : (t n : ℕ) (s : List ℕ) → n ≡ connectionsOf s → Going t n 0 s s
 unfolding expireEffect
 rest-start t n s e st l o =
     record {
@@ -58,7 +61,7 @@ still : (n : ℕ) (f : State → State) (st : State) → f st ≡ st → repeat 
 still zero f st e = refl
 still (suc n) f st e = ap (repeat n f) e ∙ still n f st e
 
-module _ (t n m : ℕ) (s₀ s : List ℕ) (en : n ≡ le 2 s₀ 224) (em : m ≡ le 2 s 224) where
+module _ (t n m : ℕ) (s₀ s : List ℕ) (en : n ≡ connectionsOf s₀) (em : m ≡ connectionsOf s) where
   all-of : (st : State) (l : List ℕ) → Held s₀ st l → (at : State) → Held s at l → at ≡ expireEffect t st → AllEnded t (n - m) s st l
   all-of st l o at w q =
       record {
@@ -73,9 +76,17 @@ module _ (t n m : ℕ) (s₀ s : List ℕ) (en : n ≡ le 2 s₀ 224) (em : m �
       all-of st l o (w .at) (w .held) (ap (λ (j : ℕ). repeat j (expiredFirst t) (w .at)) (sym z) ∙ w .rest)
 
 -- nothing more has expired: the turns that are left change nothing
-pub rest-stop : (t n m k : ℕ) (r : Bool) (s₀ s s′ : List ℕ) → n ≡ le 2 s₀ 224 → m ≡ le 2 s′ 224 → Going t n k s₀ s → Ends t r s s′ → r ≡ false → EndsAll t (n - m) s₀ s′
+pub rest-stop : (t n m k : ℕ) (r : Bool) (s₀ s s′ : List ℕ) → n ≡ connectionsOf s₀ → m ≡ connectionsOf s′ → Going t n k s₀ s → Ends t r s s′ → r ≡ false → EndsAll t (n - m) s₀ s′
 rest-stop t n m k r s₀ s s′ en em g d nn st l o =
     let w = g st l o in
     let y = d (w .at) l (w .held) in
     all-of t n m s₀ s′ en em st l o (expiredFirst t (w .at)) (y .held)
     (y .none-left nn ∙ sym (still (n - k) (expiredFirst t) (w .at) (y .none-left nn)) ∙ w .rest)
+
+-- none has expired: nothing goes
+pub none-expired : (t n : ℕ) (s : List ℕ) → n ≡ connectionsOf s → any (expired t) (connsIn n (tableIn s)) ≡ false → EndsAll t 0 s s
+none-expired t n s en e =
+    let z : n - n ≡ 0 = omega arith in
+    subst (λ (k : ℕ). EndsAll t k s s) z
+    (rest-stop t n n 0 false s s s en en (rest-start t n s en)
+    (ends-none t s n Nowhere en (sym (ap foundOf (never-place (expired t) (connsIn n (tableIn s)) e))) refl) refl)

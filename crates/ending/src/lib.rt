@@ -3,7 +3,7 @@ use ids::Triad;
 use layout::Found;
 ghost use mathlib.Core.Path.{_≡_};
 ghost use Prim.Native.Nat.{_<_};
-ghost use Rattle.cells.specs.Numbers.{le};
+ghost use Rattle.layout.specs.Places.{connectionsOf};
 ghost use Rattle.image.specs.Holds.{Ready};
 ghost use Rattle.removal.specs.Turns.{Fewer};
 ghost use Rattle.removal.specs.Removals.{Ends};
@@ -14,7 +14,7 @@ ghost use Rattle.ending.specs.Calls.{ClosesAt, ClosesFor};
 
 // The connection at a place closed, and the reply at the start of the output; 8 where the reply does not fit.
 fn close_at(s: &mut [u8], i: usize, t: Triad, out: &mut [u8]) -> u64
-    requires { ⌜ Ready (now s) × (i < le 2 (now s) 224) ⌝ }
+    requires { ⌜ Ready (now s) × (i < connectionsOf (now s)) ⌝ }
     ensures { λ r. ⌜ ClosesAt i t r (now (s .entry)) (now (s .exit)) (now (out .entry)) (now (out .exit)) ⌝ }
 {
     if out.len() < 10 {
@@ -30,8 +30,8 @@ pub fn close(s: &mut [u8], t: Triad, out: &mut [u8]) -> u64
     requires { ⌜ Ready (now s) ⌝ }
     ensures { λ r. ⌜ ClosesFor t r (now (s .entry)) (now (s .exit)) (now (out .entry)) (now (out .exit)) ⌝ }
 {
-    let n = cells::u16_at(s, 224) as usize;
-    match lookup::find_triad(&s[256..2560], n, t) {
+    let n = cells::u16_at(s, layout::CONNECTIONS) as usize;
+    match lookup::find_triad(&s[layout::TABLE..layout::EVENTS], n, t) {
         Found::Nowhere => 9,
         Found::At(i) => close_at(s, i, t, out),
     }
@@ -44,8 +44,8 @@ fn expire_one(s: &mut [u8], time: u64) -> bool
     requires { ⌜ Ready (now s) ⌝ }
     ensures { λ r. ⌜ Fewer (now (s .entry)) (now (s .exit)) × Ends time r (now (s .entry)) (now (s .exit)) ⌝ }
 {
-    let n = cells::u16_at(s, 224) as usize;
-    match lookup::find_expired(&s[256..2560], n, time) {
+    let n = cells::u16_at(s, layout::CONNECTIONS) as usize;
+    match lookup::find_expired(&s[layout::TABLE..layout::EVENTS], n, time) {
         Found::Nowhere => false,
         Found::At(i) => {
             removal::remove_conn(s, i, 3);
@@ -55,18 +55,30 @@ fn expire_one(s: &mut [u8], time: u64) -> bool
     }
 }
 
-// Removes every connection that has expired, one after the other, and says how many went.
+// The connections that have expired removed, one after the other; how many went.
+fn expire_some(s: &mut [u8], time: u64) -> u16
+    requires { ⌜ Ready (now s) ⌝ }
+    ensures { λ r. ⌜ Fewer (now (s .entry)) (now (s .exit)) × EndsAll time r (now (s .entry)) (now (s .exit)) ⌝ }
+{
+    let n = cells::u16_at(s, layout::CONNECTIONS);
+    let mut k: u16 = 0;
+    while k < n {
+        if !expire_one(s, time) {
+            return n - cells::u16_at(s, layout::CONNECTIONS);
+        }
+        k += 1;
+    }
+    n - cells::u16_at(s, layout::CONNECTIONS)
+}
+
+// Removes every connection that has expired and says how many went. Whether any has is asked first: most calls end there.
 pub fn expire_all(s: &mut [u8], time: u64) -> u16
     requires { ⌜ Ready (now s) ⌝ }
     ensures { λ r. ⌜ Fewer (now (s .entry)) (now (s .exit)) × EndsAll time r (now (s .entry)) (now (s .exit)) ⌝ }
 {
-    let n = cells::u16_at(s, 224);
-    let mut k: u16 = 0;
-    while k < n {
-        if !expire_one(s, time) {
-            return n - cells::u16_at(s, 224);
-        }
-        k += 1;
+    let n = cells::u16_at(s, layout::CONNECTIONS) as usize;
+    if !lookup::any_expired(&s[layout::TABLE..layout::EVENTS], n, time) {
+        return 0;
     }
-    n - cells::u16_at(s, 224)
+    expire_some(s, time)
 }

@@ -12,13 +12,14 @@ ghost use Rattle.cells.specs.Numbers.{le};
 ghost use Rattle.rules.specs.Attributes.{Gives, taggedText, valueOf, single};
 ghost use Rattle.rules.specs.Objects.{fileAttributes, edsFile, file};
 ghost use Rattle.layout.specs.Setups.{setupFrom};
+ghost use Rattle.layout.specs.Places.{setupSize};
 ghost use Rattle.attributes.specs.Told.{told};
 ghost use Rattle.uploads.specs.Positions.{decUpload};
 ghost use Rattle.uploads.specs.Lent.{stepped};
 ghost use Rattle.file_object.specs.Files.{firstAttributes, lastAttributes, Whole};
 
 fn eds_name(r: &[u8], out: &mut [u8]) -> Given
-    requires { ⌜ (192 ≤ length (now r)) × (le 1 (now r) 3 ≤ 32) × (512 ≤ length (now out)) ⌝ }
+    requires { ⌜ (setupSize ≤ length (now r)) × (le 1 (now r) 3 ≤ 32) × (512 ≤ length (now out)) ⌝ }
     ensures { λ x. ⌜ (x, now (out .exit)) ≡ told (Gives (taggedText (setupFrom (now (r .entry)) [] .edsName))) (now (out .entry)) ⌝ }
 {
     let e = 78 + cells::u8_at(r, 3) as usize;
@@ -52,7 +53,7 @@ fn last_value(eds: &[u8], n: u32, out: &mut [u8]) -> Given
 }
 
 fn value(r: &[u8], eds: &[u8], n: u32, out: &mut [u8]) -> Given
-    requires { ⌜ (192 ≤ length (now r)) × (le 1 (now r) 3 ≤ 32) × (length (now eds) ≤ 65535) × (512 ≤ length (now out)) ⌝ }
+    requires { ⌜ (setupSize ≤ length (now r)) × (le 1 (now r) 3 ≤ 32) × (length (now eds) ≤ 65535) × (512 ≤ length (now out)) ⌝ }
     ensures { λ x. ⌜ (x, now (out .exit)) ≡ told (valueOf n (fileAttributes (setupFrom (now (r .entry)) []) (now (eds .entry)))) (now (out .entry)) ⌝ }
 {
     if n == 1 {
@@ -74,7 +75,7 @@ fn value(r: &[u8], eds: &[u8], n: u32, out: &mut [u8]) -> Given
 }
 
 fn here(r: &[u8], eds: &[u8], service: u8, a: FirstAttribute, out: &mut [u8]) -> Given
-    requires { ⌜ (192 ≤ length (now r)) × (le 1 (now r) 3 ≤ 32) × (length (now eds) ≤ 65535) × (512 ≤ length (now out)) ⌝ }
+    requires { ⌜ (setupSize ≤ length (now r)) × (le 1 (now r) 3 ≤ 32) × (length (now eds) ≤ 65535) × (512 ≤ length (now out)) ⌝ }
     ensures { λ x. ⌜ (x, now (out .exit)) ≡ told (single service a (fileAttributes (setupFrom (now (r .entry)) []) (now (eds .entry)))) (now (out .entry)) ⌝ }
 {
     match attributes::wanted(service, a) {
@@ -93,7 +94,7 @@ fn eds_file(
     given: &[u8],
     out: &mut [u8],
 ) -> Given
-    requires { ⌜ (192 ≤ length (now r)) × (le 1 (now r) 3 ≤ 32) × (length (now eds) ≤ 65535) × Whole (now position) × (512 ≤ length (now out)) ⌝ }
+    requires { ⌜ (setupSize ≤ length (now r)) × (le 1 (now r) 3 ≤ 32) × (length (now eds) ≤ 65535) × Whole (now position) × (512 ≤ length (now out)) ⌝ }
     ensures { λ x. ⌜ (x, (now (position .exit), now (out .exit))) ≡ stepped (edsFile (setupFrom (now (r .entry)) []) (now (eds .entry)) service a (now (given .entry)) (decUpload (now (position .entry)))) (now (out .entry)) ⌝ }
 {
     if service == 0x4B {
@@ -117,7 +118,7 @@ pub fn file(
     given: &[u8],
     out: &mut [u8],
 ) -> Given
-    requires { ⌜ (192 ≤ length (now r)) × (le 1 (now r) 3 ≤ 32) × (length (now eds) ≤ 65535) × Whole (now position) × (512 ≤ length (now out)) ⌝ }
+    requires { ⌜ (setupSize ≤ length (now r)) × (le 1 (now r) 3 ≤ 32) × (length (now eds) ≤ 65535) × Whole (now position) × (512 ≤ length (now out)) ⌝ }
     ensures { λ x. ⌜ (x, (now (position .exit), now (out .exit))) ≡ stepped (file (setupFrom (now (r .entry)) []) (now (eds .entry)) service instance a (now (given .entry)) (decUpload (now (position .entry)))) (now (out .entry)) ⌝ }
 {
     if instance == 0 {

@@ -4,21 +4,21 @@ use layout::Found;
 use rules::Heard;
 use rules::Kind;
 ghost use mathlib.Core.Path.{_≡_};
-ghost use mathlib.Core.Bool.{_&&_};
-ghost use Prim.Native.Nat.{_≤_, _<_};
+ghost use mathlib.Core.Bool.{_&&_, _||_};
+ghost use Prim.Native.Nat.{_+_, _≤_, _<_};
 ghost use lib.Dec.{eqb, leb};
 ghost use lib.ListN.{length};
-ghost use Rattle.tables.specs.Tables.{rows};
 ghost use Rattle.rules.specs.Lists.{place};
 ghost use Rattle.rules.specs.State.{isOwner};
 ghost use Rattle.rules.specs.Receiving.{newer};
-ghost use Rattle.layout.specs.Rows.{rowAt, decConn};
-ghost use Rattle.hearing.specs.Decisions.{hears};
+ghost use Rattle.layout.specs.Rows.{connAt, connsIn};
+ghost use Rattle.hearing.specs.Decisions.{hears, idInFour, placeFrom};
 ghost use Rattle.layout.specs.Searched.{placeIn};
+ghost use Rattle.layout.specs.Places.{tableSize};
 
 fn is_for(r: &[u8], i: usize, id: OtId, from: u32) -> bool
-    requires { ⌜ (i < 32) × (2304 ≤ length (now r)) ⌝ }
-    ensures { λ x. ⌜ x ≡ hears id from (decConn (rowAt (now (r .entry)) i)) ⌝ }
+    requires { ⌜ (i < 32) × (tableSize ≤ length (now r)) ⌝ }
+    ensures { λ x. ⌜ x ≡ hears id from (connAt (now (r .entry)) i) ⌝ }
 {
     let x = layout::otid_at(r, i);
     if x.0 != id.0 {
@@ -27,11 +27,37 @@ fn is_for(r: &[u8], i: usize, id: OtId, from: u32) -> bool
     layout::originator_at(r, i) == from
 }
 
-pub fn find(r: &[u8], n: usize, id: OtId, from: u32) -> Found
-    requires { ⌜ (n ≤ 32) × (2304 ≤ length (now r)) ⌝ }
-    ensures { λ x. ⌜ placeIn x ≡ place (hears id from) (rows 70 decConn n (now (r .entry))) ⌝ }
+// Without a jump.
+fn either(a: bool, b: bool) -> bool
+    ensures { λ r. ⌜ r ≡ a || b ⌝ }
 {
-    let mut i = 0;
+    if a {
+        return true;
+    }
+    b
+}
+
+// Whether one of the four rows from i on has the O→T id: all four are looked at.
+fn any_of_four(r: &[u8], i: usize, id: OtId) -> bool
+    requires { ⌜ (i + 4 ≤ 32) × (tableSize ≤ length (now r)) ⌝ }
+    ensures { λ x. ⌜ x ≡ idInFour id (now (r .entry)) i ⌝ }
+{
+    let a = layout::otid_at(r, i);
+    let b = layout::otid_at(r, i + 1);
+    let c = layout::otid_at(r, i + 2);
+    let d = layout::otid_at(r, i + 3);
+    either(
+        either(a.0 == id.0, b.0 == id.0),
+        either(c.0 == id.0, d.0 == id.0),
+    )
+}
+
+// The first row from a start on that the frame is for.
+fn find_from(r: &[u8], start: usize, n: usize, id: OtId, from: u32) -> Found
+    requires { ⌜ (start ≤ n) × (n ≤ 32) × (tableSize ≤ length (now r)) ⌝ }
+    ensures { λ x. ⌜ placeIn x ≡ placeFrom id from n (now (r .entry)) start ⌝ }
+{
+    let mut i = start;
     while i < n {
         if is_for(r, i, id, from) {
             return Found::At(i);
@@ -39,6 +65,21 @@ pub fn find(r: &[u8], n: usize, id: OtId, from: u32) -> Found
         i += 1;
     }
     Found::Nowhere
+}
+
+// Four rows at once are passed over, up to the first four of which one has the id.
+pub fn find(r: &[u8], n: usize, id: OtId, from: u32) -> Found
+    requires { ⌜ (n ≤ 32) × (tableSize ≤ length (now r)) ⌝ }
+    ensures { λ x. ⌜ placeIn x ≡ place (hears id from) (connsIn n (now (r .entry))) ⌝ }
+{
+    let mut i = 0;
+    while i + 4 <= n {
+        if any_of_four(r, i, id) {
+            return find_from(r, i, n, id, from);
+        }
+        i += 4;
+    }
+    find_from(r, i, n, id, from)
 }
 
 // The sequence minus the last, modulo 2^32, must be 1 to 0x7FFFFFFF; the first is free.

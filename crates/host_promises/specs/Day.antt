@@ -36,6 +36,7 @@ use Rattle.rules.specs.Host.{outputAnswer, outputEffect, outputCall}
 use Rattle.rules.specs.Calls.{answer, run}
 use Rattle.rules.proofs.Examples.{setup, start, owner, heard}
 use Rattle.layout.specs.Setups.{decShape}
+use Rattle.layout.specs.Places.{marksAt, stateSize}
 use Rattle.image.specs.Image.{view}
 use Rattle.image.specs.Lift.{lifted, liftedOut}
 use Rattle.lastword.specs.Clearing.{Heard-lately}
@@ -52,7 +53,7 @@ use Rattle.host_promises.specs.Lane.{lastWord, saidBy, few-calls, Gives,
 
 abbrev block : List ℕ
 block =
-    (3 ∷ 240 ∷ 0 ∷ 0 ∷ []) ++ bytesLe 4 0 ++ bytesLe 2 1 ++ bytesLe 2 12 ++ bytesLe 2 3 ++ (1 ∷ 5 ∷ []) ++ bytesLe 4 9 ++ bytesLe 4 198 ++ bytesLe 4 199 ++
+    (3 ∷ marksAt ∷ 0 ∷ 0 ∷ []) ++ bytesLe 4 0 ++ bytesLe 2 1 ++ bytesLe 2 12 ++ bytesLe 2 3 ++ (1 ∷ 5 ∷ []) ++ bytesLe 4 9 ++ bytesLe 4 198 ++ bytesLe 4 199 ++
     bytesLe 4 1000 ++ bytesLe 4 100000 ++ replicate 74 0 ++ (150 ∷ 0 ∷ 2 ∷ 0 ∷ 2 ∷ 101 ∷ 0 ∷ 1 ∷ 0 ∷ 1 ∷ 5 ∷ 0 ∷ 2 ∷ 0 ∷ 3 ∷ []) ++ replicate 67 0
 
 block-accepted : accepted block [] ≡ true
@@ -64,8 +65,8 @@ unfolding setupGiven regionOf le leOf put bytesLe rows decShape
 block-says = refl
 
 -- a buffer of zeros is set up, which is answered 0
-begins : (0, started block [] 4) ≡ setupCall (replicate 109056 0) block [] 4
-begins = set-up (replicate 109056 0) block [] 4 (length-replicate {A = ℕ} 109056 0) block-accepted
+begins : (0, started block [] 4) ≡ setupCall (replicate stateSize 0) block [] 4
+begins = set-up (replicate stateSize 0) block [] 4 (length-replicate {A = ℕ} stateSize 0) block-accepted
 
 -- ---- the calls, on whatever bytes they find
 
@@ -96,7 +97,7 @@ unfolding fresh le leOf bytesLe bytesBe startOf stepAt itemsFrom itemsOf ioOf io
 computed = (refl, refl, refl)
 
 -- whatever the C functions leave and answer, if only they meet their contracts
-module _ (s s₁ s₂ s₃ : List ℕ) (a b c : Said) (set : (0, s) ≡ setupCall (replicate 109056 0) block [] 4) (opening : Met (contractOf opens) s s₁ a)
+module _ (s s₁ s₂ s₃ : List ℕ) (a b c : Said) (set : (0, s) ≡ setupCall (replicate stateSize 0) block [] 4) (opening : Met (contractOf opens) s s₁ a)
     (hearing : Met (contractOf hears) s₁ s₂ b) (reading : Met (contractOf reads) s₂ s₃ c) where
   ran : Ran ((CCall.On opens, a) ∷ (CCall.On hears, b) ∷ (CCall.On reads, c) ∷ []) s s₃
   ran = one (CCall.On opens) a opening (one (CCall.On hears) b hearing (one (CCall.On reads) c reading none))
@@ -111,7 +112,7 @@ module _ (s s₁ s₂ s₃ : List ℕ) (a b c : Said) (set : (0, s) ≡ setupCal
   pub told-run : (c .number ≡ 256 * 3) × (c .output ≡ 1 ∷ 0xAA ∷ 0xBB ∷ [])
   unfolding answerNumber
   told-run =
-      let f = run-is-ruled (replicate 109056 0) block [] 4 s set ran .answers .1 .1 .0 in
+      let f = run-is-ruled (replicate stateSize 0) block [] 4 s set ran .answers .1 .1 .0 in
       let e : answer (callOf reads) (run (callOf opens ∷ callOf hears ∷ []) (fresh (setupGiven block []) 4)) ≡ Wrote (1 ∷ 0xAA ∷ 0xBB ∷ []) =
       ap (λ (u : Setup). answer (callOf reads) (run (callOf opens ∷ callOf hears ∷ []) (fresh u 4))) block-says ∙ computed .0 in
       (f .0 ∙ ap answerNumber e, f .1 ∙ ap (λ (x : Answer). sets (replicate 3 0) 0 (answerBytes x)) e)
@@ -119,7 +120,7 @@ module _ (s s₁ s₂ s₃ : List ℕ) (a b c : Said) (set : (0, s) ≡ setupCal
   -- so a row of the table owns it
   pub its-owner : (i : ℕ) × (placeOf isOutput (view s₂ .setup) 150 ≡ some i) × Owner s₂ i
   its-owner =
-      run-read (held (replicate 109056 0) block [] 4 set ran-before) 150 (replicate 3 0) s₃ c reading
+      run-read (held (replicate stateSize 0) block [] 4 set ran-before) 150 (replicate 3 0) s₃ c reading
       (ap (λ (n : ℕ). n % 256) (told-run .0)) (ap (λ (x : List ℕ). getD x 0 0) (told-run .1))
 
   -- and the promise holds of it: what was read is the last word of the output's live owner
@@ -127,25 +128,25 @@ module _ (s s₁ s₂ s₃ : List ℕ) (a b c : Said) (set : (0, s) ≡ setupCal
   unfolding placeOf
   its-word =
       let there : placeOf isOutput (setupGiven block []) 150 ≡ some 0 = ap (λ (u : Setup). placeOf isOutput u 150) block-says in
-      output-is-the-last-word (replicate 109056 0) block [] 4 s set (omega arith) 150 0 there ran-before (refl, (refl, tt))
+      output-is-the-last-word (replicate stateSize 0) block [] 4 s set (omega arith) 150 0 there ran-before (refl, (refl, tt))
       (few-calls before (omega arith)) (replicate 3 0) s₃ c reading
 
 -- ---- with the expiry call before the read, the run byte means that the owner was heard
 
-module _ (s s₁ s₂ s₃ s₄ : List ℕ) (a b d c : Said) (set : (0, s) ≡ setupCall (replicate 109056 0) block [] 4) (opening : Met (contractOf opens) s s₁ a)
+module _ (s s₁ s₂ s₃ s₄ : List ℕ) (a b d c : Said) (set : (0, s) ≡ setupCall (replicate stateSize 0) block [] 4) (opening : Met (contractOf opens) s s₁ a)
     (hearing : Met (contractOf hears) s₁ s₂ b) (expiring : Met (contractOf expires) s₂ s₃ d) (reading : Met (contractOf reads) s₃ s₄ c) where
   pub its-owner-was-heard : Heard-lately 3000 (lastWord (setupGiven block []) 150 0 ((CCall.On opens, a) ∷ (CCall.On hears, b) ∷ (CCall.On expires, d) ∷ []))
   unfolding placeOf answerNumber
   its-owner-was-heard =
       let ran-all : Ran ((CCall.On opens, a) ∷ (CCall.On hears, b) ∷ (CCall.On expires, d) ∷ (CCall.On reads, c) ∷ []) s s₄ =
       one (CCall.On opens) a opening (one (CCall.On hears) b hearing (one (CCall.On expires) d expiring (one (CCall.On reads) c reading none))) in
-      let f = run-is-ruled (replicate 109056 0) block [] 4 s set ran-all .answers .1 .1 in
+      let f = run-is-ruled (replicate stateSize 0) block [] 4 s set ran-all .answers .1 .1 in
       let x : answer (callOf expires) (run (callOf opens ∷ callOf hears ∷ []) (fresh (setupGiven block []) 4)) ≡ Gone 0 =
       ap (λ (u : Setup). answer (callOf expires) (run (callOf opens ∷ callOf hears ∷ []) (fresh u 4))) block-says ∙ computed .1 in
       let y : answer (callOf reads) (run (callOf opens ∷ callOf hears ∷ callOf expires ∷ []) (fresh (setupGiven block []) 4)) ≡ Wrote (1 ∷ 0xAA ∷ 0xBB ∷ []) =
       ap (λ (u : Setup). answer (callOf reads) (run (callOf opens ∷ callOf hears ∷ callOf expires ∷ []) (fresh u 4))) block-says ∙ computed .2 in
       let there : placeOf isOutput (setupGiven block []) 150 ≡ some 0 = ap (λ (u : Setup). placeOf isOutput u 150) block-says in
-      run-byte-was-heard (replicate 109056 0) block [] 4 s set (omega arith) 150 0 there
+      run-byte-was-heard (replicate stateSize 0) block [] 4 s set (omega arith) 150 0 there
       (one (CCall.On opens) a opening (one (CCall.On hears) b hearing none)) (refl, (refl, tt)) (few-calls ((CCall.On opens, a) ∷ (CCall.On hears, b) ∷ []) (omega arith))
       3000 s₃ d expiring (ap (λ (n : ℕ). n % 256) (f .0 ∙ ap answerNumber x)) (replicate 3 0) s₄ c reading
       (ap (λ (n : ℕ). n % 256) (f .1 .0 .0 ∙ ap answerNumber y)) (ap (λ (l : List ℕ). getD l 0 0) (f .1 .0 .1 ∙ ap (λ (z : Answer). sets (replicate 3 0) 0 (answerBytes z)) y))

@@ -21,9 +21,10 @@ use Rattle.rules.specs.Removal.{expired, expireAnswer, expireCall}
 use Rattle.rules.specs.Host.{outputBytes, outputAt, outputAnswer, outputCall}
 use Rattle.rules.specs.Calls
 use Rattle.rules.specs.Calls.{next, run}
-use Rattle.layout.specs.Places.{setupIn, marksIn, dataIn}
+use Rattle.layout.specs.Places.{setupIn, marksIn, dataIn, marksAt, connectionsOf, assembliesOf}
 use Rattle.layout.specs.Setups.{setupOf}
-use Rattle.image.specs.Image.{view, tested, runIn, contentsOf}
+use Rattle.layout.specs.Bits.{runIn}
+use Rattle.image.specs.Image.{view, tested, contentsOf}
 use Rattle.image.specs.Fits.{few-assemblies, length-assemblies, is-sound}
 use Rattle.image.specs.TestLaws.{assemblies-in}
 use Rattle.faults.specs.RunBit.{ownerOf, Owned, run-has-owner, run-is-heard}
@@ -45,20 +46,20 @@ run-of (a ∷ ss) m d (suc i) h = run-of ss (drop 1 m) (drop 512 d) i (omega ari
 
 -- a row in use of the table that owns the output at a place
 abbrev pub Owner : List ℕ → ℕ → Type 0
-Owner s i = (k : ℕ) × (k < le 2 s 224) × (owns i (rowOf s k .fixed) ≡ true)
+Owner s i = (k : ℕ) × (k < connectionsOf s) × (owns i (rowOf s k .fixed) ≡ true)
 
 -- the marks stand from 240 on, one for each assembly; their number stands at 0
-marked : (s : List ℕ) → tested s ≡ true → (i : ℕ) → i < le 1 s 0 → le 1 s (240 + i) % 2 ≡ 1 → getD (view s .contents) i noContent .run ≡ true
+marked : (s : List ℕ) → tested s ≡ true → (i : ℕ) → i < assembliesOf s → le 1 s (marksAt + i) % 2 ≡ 1 → getD (view s .contents) i noContent .run ≡ true
 unfolding view
 marked s ok i h e =
     let n = length-assemblies s in
     let a = assemblies-in s in
     let f = few-assemblies (setupIn s) (is-sound s ok) in
-    let m : getD (marksIn s) i 0 ≡ le 1 s (240 + i) = getD-take 16 (drop 240 s) i 0 (omega arith) ∙ getD-drop 240 s i 0 ∙ sym (le-1 s (240 + i)) in
+    let m : getD (marksIn s) i 0 ≡ le 1 s (marksAt + i) = getD-take 16 (drop marksAt s) i 0 (omega arith) ∙ getD-drop marksAt s i 0 ∙ sym (le-1 s (marksAt + i)) in
     run-of (setupOf s .assemblies) (marksIn s) (dataIn s) i (omega arith) ∙ ap (λ (k : ℕ). toBool (k % 2)) m ∙ ap toBool e
 
 -- THE RUN BIT HAS A LIVE OWNER, by the places of docs/STATE.md
-pub run-byte : {s : List ℕ} → Held s → (i : ℕ) → i < le 1 s 0 → le 1 s (240 + i) % 2 ≡ 1 → (isOutput (shapeAt (setupOf s) i .kind) ≡ true) × Owner s i
+pub run-byte : {s : List ℕ} → Held s → (i : ℕ) → i < assembliesOf s → le 1 s (marksAt + i) % 2 ≡ 1 → (isOutput (shapeAt (setupOf s) i .kind) ≡ true) × Owner s i
 unfolding view
 run-byte {s} own i h e =
     let o = held-owned own i (marked s (held-passes own) i h e) in
@@ -70,7 +71,7 @@ late-refused time st n = rw n
 
 -- IT DOES NOT OUTLIVE A SILENT CONTROLLER: after an expiry call at a time, answered yes, the owner was heard at most its timeout before
 pub run-heard : {s : List ℕ} → Held s → (time : ℕ) (s′ : List ℕ) (a : Said) → Met (contractOf (HostCall.Expire time)) s s′ a → a .number % 256 ≡ 0
-    → (i : ℕ) → i < le 1 s′ 0 → le 1 s′ (240 + i) % 2 ≡ 1 → (k : ℕ) × (k < le 2 s′ 224) × (owns i (rowOf s′ k .fixed) && not (expired time (rowOf s′ k)) ≡ true)
+    → (i : ℕ) → i < assembliesOf s′ → le 1 s′ (marksAt + i) % 2 ≡ 1 → (k : ℕ) × (k < connectionsOf s′) × (owns i (rowOf s′ k .fixed) && not (expired time (rowOf s′ k)) ≡ true)
 run-heard {s} own time s′ a m e i h f =
     let g = agrees (CCall.On (HostCall.Expire time)) s (held-passes own) s′ a m in
     let r = held-reached own in

@@ -14,6 +14,7 @@ use Rattle.rules_laws.specs.ListLaws.{by-cases}
 use Rattle.rules.specs.State.{State}
 use Rattle.rules.specs.Answers.{Answer, Done, Wrote, Accepted, Gone, Refused, Failed, isYes, answerNumber, answerBytes}
 use Rattle.rules.specs.Message.{messageAnswer, messageCall}
+use Rattle.layout.specs.Places.{stateSize}
 use Rattle.routing.specs.Answered.{answered}
 use Rattle.image.specs.Image.{view, store, tested}
 use Rattle.image.specs.ViewLaws.{store-view}
@@ -72,11 +73,11 @@ nothing-written x out y = ap (sets out 0) (no-bytes x y)
 module _ (s s′ : List ℕ) (a : Said) (b : Bytes s) (n : No a) where
   sets-no : (block eds : List ℕ) (seed : ℕ) → Met (Sets block eds seed) s s′ a → s′ ≡ s
   sets-no block eds seed m =
-      by-cases (eqb (length s) 109056)
+      by-cases (eqb (length s) stateSize)
       (λ y. by-cases (accepted block eds)
-      (λ z. absurd (n (ap (λ (x : ℕ × List ℕ). x .0 % 256) (m ∙ sym (set-up s block eds seed (eqb-true (length s) 109056 y) z)))))
-      (λ z. ap (λ (x : ℕ × List ℕ). x .1) (m ∙ sym (bad-setup s block eds seed (eqb-true (length s) 109056 y) z))))
-      (λ y. ap (λ (x : ℕ × List ℕ). x .1) (m ∙ sym (other-size s block eds seed (eqb-false (length s) 109056 y))))
+      (λ z. absurd (n (ap (λ (x : ℕ × List ℕ). x .0 % 256) (m ∙ sym (set-up s block eds seed (eqb-true (length s) stateSize y) z)))))
+      (λ z. ap (λ (x : ℕ × List ℕ). x .1) (m ∙ sym (bad-setup s block eds seed (eqb-true (length s) stateSize y) z))))
+      (λ y. ap (λ (x : ℕ × List ℕ). x .1) (m ∙ sym (other-size s block eds seed (eqb-false (length s) stateSize y))))
 
   stored : tested s ≡ true → (st : State) → st ≡ view s → store st s ≡ s
   stored t st e = ap (λ (z : State). store z s) e ∙ store-view s t b

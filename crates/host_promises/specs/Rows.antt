@@ -4,26 +4,25 @@ use mathlib.Core.Bool.{Bool, true}
 use mathlib.Core.List.{List, [], _∷_}
 use mathlib.Core.Path.{_≡_, refl, sym, subst}
 use native.Mathlib.Omega.{arith}
-use lib.ListN.{length, getD, take, drop}
-use Rattle.cells.specs.Numbers.{le}
+use lib.ListN.{length, getD}
 use Rattle.tables.specs.Tables.{rows, row-at, length-rows}
 use Rattle.rules.specs.Lists.{any}
 use Rattle.rules_laws.specs.ListLaws.{by-cases}
 use Rattle.rules.specs.State.{State}
-use Rattle.layout.specs.Places.{tableIn}
-use Rattle.layout.specs.Rows.{decConn}
+use Rattle.layout.specs.Places.{tableIn, stateSize, rowSize, waitingOf, connectionsOf}
+use Rattle.layout.specs.Rows.{decConn, connAt, connsIn}
 use Rattle.image.specs.Image.{view}
 use Rattle.image.specs.Fits.{is-long, few-events, few-conns}
 use Rattle.rules.specs.declared.Conn.{Conn}
 use Rattle.faults.specs.Streams.{All-fed, streams-are-fed}
 use Rattle.host_runs.specs.Runs.{Held, held-passes, held-reached}
 
--- the number of connections stands at 224, a row of the table has 70 bytes
+-- the connection in a row, and those in use
 abbrev pub rowOf : List ℕ → ℕ → Conn
-rowOf s k = decConn (take 70 (drop (k * 70) (tableIn s)))
+rowOf s k = connAt (tableIn s) k
 
 abbrev pub conns : List ℕ → List Conn
-conns s = rows 70 decConn (le 2 s 224) (tableIn s)
+conns s = connsIn (connectionsOf s) (tableIn s)
 
 pub conns-view : (s : List ℕ) → view s .table ≡ conns s
 unfolding view
@@ -37,15 +36,15 @@ found-at p d (x ∷ l) e =
     (λ y. (0, omega arith, y))
     (λ n. let r = found-at p d l (cc) in (suc (r .0), (let h = r .1 in omega arith), r .2))
 
-pub row-found : (s : List ℕ) (p : Conn → Bool) → any p (conns s) ≡ true → (k : ℕ) × (k < le 2 s 224) × (p (rowOf s k) ≡ true)
+pub row-found : (s : List ℕ) (p : Conn → Bool) → any p (conns s) ≡ true → (k : ℕ) × (k < connectionsOf s) × (p (rowOf s k) ≡ true)
 row-found s p e =
     let r = found-at p (rowOf s 0) (conns s) e in
-    let n = length-rows 70 decConn (le 2 s 224) (tableIn s) in
-    let h : r .0 < le 2 s 224 = let a = r .1 in omega arith in
-    (r .0, h, subst (λ (c : Conn). p c ≡ true) (row-at 70 decConn (le 2 s 224) (tableIn s) (r .0) (rowOf s 0) h) (r .2))
+    let n = length-rows rowSize decConn (connectionsOf s) (tableIn s) in
+    let h : r .0 < connectionsOf s = let a = r .1 in omega arith in
+    (r .0, h, subst (λ (c : Conn). p c ≡ true) (row-at rowSize decConn (connectionsOf s) (tableIn s) (r .0) (rowOf s 0) h) (r .2))
 
 -- NOTHING GROWS: the buffer keeps its size, the table has at most 32 rows, at most 1,024 events wait
-pub nothing-grows : {s : List ℕ} → Held s → (length s ≡ 109056) × (le 2 s 224 ≤ 32) × (le 2 s 222 ≤ 1024)
+pub nothing-grows : {s : List ℕ} → Held s → (length s ≡ stateSize) × (connectionsOf s ≤ 32) × (waitingOf s ≤ 1024)
 nothing-grows {s} h = let ok = held-passes h in (is-long s ok, few-conns s ok, few-events s ok)
 
 -- STREAMS ARE FED: a row that only listens is multicast and has a row on its id that does not; a multicast row has one that produces

@@ -10,13 +10,14 @@ ghost use Rattle.cells.specs.Numbers.{le};
 ghost use Rattle.rules.specs.Attributes.{Gives, shortString, valueOf, single};
 ghost use Rattle.rules.specs.Objects.{identityAttributes, identity};
 ghost use Rattle.layout.specs.Setups.{identityOf};
+ghost use Rattle.layout.specs.Places.{setupSize};
 ghost use Rattle.image.specs.Image.{view};
 ghost use Rattle.application.specs.Outcomes.{Passed};
 ghost use Rattle.attributes.specs.Told.{told};
 ghost use Rattle.identity_object.specs.Table.{identityTable};
 
 fn name(r: &[u8], out: &mut [u8]) -> Given
-    requires { ⌜ (192 ≤ length (now r)) × (le 1 (now r) 2 ≤ 32) × (512 ≤ length (now out)) ⌝ }
+    requires { ⌜ (setupSize ≤ length (now r)) × (le 1 (now r) 2 ≤ 32) × (512 ≤ length (now out)) ⌝ }
     ensures { λ x. ⌜ (x, now (out .exit)) ≡ told (Gives (shortString (identityOf (now (r .entry)) .name))) (now (out .entry)) ⌝ }
 {
     let e = 46 + cells::u8_at(r, 2) as usize;
@@ -24,7 +25,7 @@ fn name(r: &[u8], out: &mut [u8]) -> Given
 }
 
 fn value(r: &[u8], status: u16, n: u32, out: &mut [u8]) -> Given
-    requires { ⌜ (192 ≤ length (now r)) × (le 1 (now r) 2 ≤ 32) × (512 ≤ length (now out)) ⌝ }
+    requires { ⌜ (setupSize ≤ length (now r)) × (le 1 (now r) 2 ≤ 32) × (512 ≤ length (now out)) ⌝ }
     ensures { λ x. ⌜ (x, now (out .exit)) ≡ told (valueOf n (identityTable (identityOf (now (r .entry))) status)) (now (out .entry)) ⌝ }
 {
     if n == 1 {
@@ -61,7 +62,7 @@ fn here(s: &[u8], service: u8, a: FirstAttribute, out: &mut [u8]) -> Given
     match attributes::wanted(service, a) {
         Asked::Attribute(n) => {
             let status = status::identity_status(s);
-            value(&s[0..192], status, n, out)
+            value(&s[0..layout::SETUP_SIZE], status, n, out)
         }
         Asked::Refused(f) => Given::Fails(f),
     }

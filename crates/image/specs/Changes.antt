@@ -18,14 +18,16 @@ use Rattle.rules.specs.State.{Content, Events, State, contentAt, withContents, 
 use Rattle.rules.specs.declared.Conn.{Conn}
 use Rattle.rules.specs.declared.Heard.{Heard}
 use Rattle.rules.specs.declared.Sent.{Sent}
-use Rattle.layout.specs.Places.{tableIn}
+use Rattle.layout.specs.Places.{tableIn, marksAt, tableAt, tableSize, eventsAt, dataFrom, rowSize, nextIdAt, ringAt, connectionsAt, ringWordOf, connectionsOf, markAt, assembliesOf}
 use Rattle.layout.specs.Rows.{encConn, encHeard, encSent}
 use Rattle.layout.specs.Cut.{cut}
+use Rattle.layout.specs.RowLaws.{bit-small}
+use Rattle.layout.specs.Bits.{wordOf, markOver}
 use Rattle.image.specs.Image.{store}
 use Rattle.image.specs.Fits.{Suits}
 use Rattle.image.specs.Updates.{noConn, produced-stored, late-stored, maxLate-stored, nextId-stored, fault-stored, heard-stored, sent-stored, appended-stored, removed-stored}
 use Rattle.image.specs.Writes.{withBytes, bytes-stored, mark-stored, pushed-stored, pushed-full-stored}
-use Rattle.image.specs.Holds.{Holds, Becomes, BecomesHeld, assemblies-held, conns-held, gone-held, waiting-held}
+use Rattle.image.specs.Holds.{Holds, Becomes, BecomesHeld, assemblies-held, conns-held, word-held, gone-held, waiting-held, fault-held}
 use Rattle.image.specs.Kept.{suits-counters, suits-events, records-append, records-drop}
 
 -- ---- the head
@@ -49,11 +51,15 @@ module _ (s : List ℕ) where
   pub maxLate-becomes : (v : ℕ) → Becomes s (put 8 s 208 v) (maxLateAs v)
   maxLate-becomes v st l h = ap (λ (z : List ℕ). put 8 z 208 v) (h .is) ∙ maxLate-stored st l (h .suits) v
 
-  pub nextId-becomes : (v : ℕ) → Becomes s (put 4 s 216 v) (withNextId v)
-  nextId-becomes v st l h = ap (λ (z : List ℕ). put 4 z 216 v) (h .is) ∙ nextId-stored st l (h .suits) v
+  pub nextId-becomes : (v : ℕ) → Becomes s (put 4 s nextIdAt v) (withNextId v)
+  nextId-becomes v st l h = ap (λ (z : List ℕ). put 4 z nextIdAt v) (h .is) ∙ nextId-stored st l (h .suits) v
 
-  pub fault-becomes : (b : Bool) → Becomes s (put 2 s 226 (ofBool b)) (withFault b)
-  fault-becomes b st l h = ap (λ (z : List ℕ). put 2 z 226 (ofBool b)) (h .is) ∙ fault-stored st l (h .suits) b
+  pub fault-becomes : (b : Bool) → Becomes s (put 4 s ringAt (ringWordOf s / 2 * 2 + ofBool b)) (withFault b)
+  fault-becomes b st l h =
+      let f = bit-small (st .fault) in
+      let e = word-held s st l h in
+      let word : ringWordOf s / 2 * 2 + ofBool b ≡ wordOf (length (st .events .waiting)) (st .events .gone) b = omega arith in
+      (λ j. put 4 (h .is j) ringAt (word j)) ∙ fault-stored st l (h .suits) b
 
 abbrev pub countersAs : ℕ → ℕ → ℕ → State → State
 countersAs produced late maxLate st = withCounters (record { produced = produced; late = late; maxLate = maxLate }) st
@@ -83,36 +89,36 @@ abbrev pub rowGone : ℕ → State → State
 rowGone i st = withTable (without (st .table) i) st
 
 module _ (s x : List ℕ) where
-  pub heard-becomes : (i : ℕ) (y : Heard) → i < le 2 s 224 → x ≡ sets (tableIn s) (i * 70 + 14) (encHeard (le 1 (tableIn s) (i * 70 + 28) / 4) y)
-      → Becomes s (putMid 256 2304 s x) (heardAs i y)
+  pub heard-becomes : (i : ℕ) (y : Heard) → i < connectionsOf s → x ≡ sets (tableIn s) (i * rowSize + 14) (encHeard (le 1 (tableIn s) (i * rowSize + 28) / 4) y)
+      → Becomes s (putMid tableAt tableSize s x) (heardAs i y)
   heard-becomes i y p e st l h =
       let n = conns-held s st l h in
-      ap (putMid 256 2304 s) e
-      ∙ ap (λ (z : List ℕ). putMid 256 2304 z (sets (tableIn z) (i * 70 + 14) (encHeard (le 1 (tableIn z) (i * 70 + 28) / 4) y))) (h .is)
+      ap (putMid tableAt tableSize s) e
+      ∙ ap (λ (z : List ℕ). putMid tableAt tableSize z (sets (tableIn z) (i * rowSize + 14) (encHeard (le 1 (tableIn z) (i * rowSize + 28) / 4) y))) (h .is)
       ∙ heard-stored st l (h .suits) i y (omega arith)
 
-  pub sent-becomes : (i : ℕ) (y : Sent) → i < le 2 s 224 → x ≡ sets (tableIn s) (i * 70 + 0) (encSent y) → Becomes s (putMid 256 2304 s x) (sentAs i y)
+  pub sent-becomes : (i : ℕ) (y : Sent) → i < connectionsOf s → x ≡ sets (tableIn s) (i * rowSize + 0) (encSent y) → Becomes s (putMid tableAt tableSize s x) (sentAs i y)
   sent-becomes i y p e st l h =
       let n = conns-held s st l h in
-      ap (putMid 256 2304 s) e
-      ∙ ap (λ (z : List ℕ). putMid 256 2304 z (sets (tableIn z) (i * 70 + 0) (encSent y))) (h .is)
+      ap (putMid tableAt tableSize s) e
+      ∙ ap (λ (z : List ℕ). putMid tableAt tableSize z (sets (tableIn z) (i * rowSize + 0) (encSent y))) (h .is)
       ∙ sent-stored st l (h .suits) i y (omega arith)
 
-  pub added-becomes : (n : ℕ) (c : Conn) → n ≡ le 2 s 224 → n < 32 → x ≡ sets (tableIn s) (n * 70 + 0) (encConn c)
-      → Becomes s (put 2 (putMid 256 2304 s x) 224 (n + 1)) (rowAdded c)
+  pub added-becomes : (n : ℕ) (c : Conn) → n ≡ connectionsOf s → n < 32 → x ≡ sets (tableIn s) (n * rowSize + 0) (encConn c)
+      → Becomes s (put 2 (putMid tableAt tableSize s x) connectionsAt (n + 1)) (rowAdded c)
   added-becomes n c en p e st l h =
       let q : n ≡ length (st .table) = en ∙ conns-held s st l h in
-      ap (λ (z : List ℕ). put 2 (putMid 256 2304 s z) 224 (n + 1)) e
-      ∙ (λ j. put 2 (putMid 256 2304 (h .is j) (sets (tableIn (h .is j)) (q j * 70 + 0) (encConn c))) 224 (q j + 1))
+      ap (λ (z : List ℕ). put 2 (putMid tableAt tableSize s z) connectionsAt (n + 1)) e
+      ∙ (λ j. put 2 (putMid tableAt tableSize (h .is j) (sets (tableIn (h .is j)) (q j * rowSize + 0) (encConn c))) connectionsAt (q j + 1))
       ∙ appended-stored st l (h .suits) c (omega arith)
 
-  pub gone-becomes : (n i : ℕ) → n ≡ le 2 s 224 → i < n → x ≡ cut n i (tableIn s)
-      → BecomesHeld s (put 2 (putMid 256 2304 s x) 224 (n - 1)) (rowGone i)
+  pub gone-becomes : (n i : ℕ) → n ≡ connectionsOf s → i < n → x ≡ cut n i (tableIn s)
+      → BecomesHeld s (put 2 (putMid tableAt tableSize s x) connectionsAt (n - 1)) (rowGone i)
   gone-becomes n i en p e st l o =
       let h = o .holds in
       let q : n ≡ length (st .table) = en ∙ conns-held s st l h in
-      ap (λ (z : List ℕ). put 2 (putMid 256 2304 s z) 224 (n - 1)) e
-      ∙ (λ j. put 2 (putMid 256 2304 (h .is j) (cut (q j) i (tableIn (h .is j)))) 224 (q j - 1))
+      ap (λ (z : List ℕ). put 2 (putMid tableAt tableSize s z) connectionsAt (n - 1)) e
+      ∙ (λ j. put 2 (putMid tableAt tableSize (h .is j) (cut (q j) i (tableIn (h .is j)))) connectionsAt (q j - 1))
       ∙ removed-stored st l (h .suits) i (omega arith) (o .fewer)
 
 -- ---- an assembly: as many other bytes, and other marks
@@ -128,24 +134,24 @@ markAs i run notified st = withContents (set (st .contents) i (marked run notifi
 
 module _ (s : List ℕ) (st : State) (l : List ℕ) (h : Holds s st l) where
   pub bytes-put : (i : ℕ) (d : List ℕ) → i < length (st .contents) → length d ≡ length (contentAt st i .bytes)
-      → sets s (35328 + i * 512) d ≡ store (bytesAs i d st) l
-  bytes-put i d p n = ap (λ (z : List ℕ). sets z (35328 + i * 512) d) (h .is) ∙ bytes-stored st l (h .suits) i d p n
+      → sets s (dataFrom + i * 512) d ≡ store (bytesAs i d st) l
+  bytes-put i d p n = ap (λ (z : List ℕ). sets z (dataFrom + i * 512) d) (h .is) ∙ bytes-stored st l (h .suits) i d p n
 
   pub mark-put : (i : ℕ) (run notified : Bool) → i < length (st .contents)
-      → put 1 s (240 + i) (ofBool run + 2 * ofBool notified) ≡ store (markAs i run notified st) l
+      → put 1 s (marksAt + i) (markOver run notified (markAt s i)) ≡ store (markAs i run notified st) l
   mark-put i run notified p =
-      ap (λ (z : List ℕ). put 1 z (240 + i) (ofBool run + 2 * ofBool notified)) (h .is)
+      ap (λ (z : List ℕ). put 1 z (marksAt + i) (markOver run notified (markAt z i))) (h .is)
       ∙ mark-stored st l (h .suits) i (marked run notified (contentAt st i)) p refl
 
 -- the same as contracts say it; bytes only where there are as many
 abbrev pub BytesBecome : ℕ → List ℕ → List ℕ → List ℕ → Type 0
 BytesBecome i d s s′ = (st : State) (l : List ℕ) → Holds s st l → length d ≡ length (contentAt st i .bytes) → s′ ≡ store (bytesAs i d st) l
 
-pub bytes-become : (s : List ℕ) (i : ℕ) (d : List ℕ) → i < le 1 s 0 → BytesBecome i d s (sets s (35328 + i * 512) d)
+pub bytes-become : (s : List ℕ) (i : ℕ) (d : List ℕ) → i < assembliesOf s → BytesBecome i d s (sets s (dataFrom + i * 512) d)
 bytes-become s i d p st l h n = let e = assemblies-held s st l h in bytes-put s st l h i d (omega arith) n
 
-pub mark-becomes : (s : List ℕ) (i : ℕ) (run notified : Bool) → i < le 1 s 0
-    → Becomes s (put 1 s (240 + i) (ofBool run + 2 * ofBool notified)) (markAs i run notified)
+pub mark-becomes : (s : List ℕ) (i : ℕ) (run notified : Bool) → i < assembliesOf s
+    → Becomes s (put 1 s (marksAt + i) (markOver run notified (markAt s i))) (markAs i run notified)
 mark-becomes s i run notified p st l h = let e = assemblies-held s st l h in mark-put s st l h i run notified (omega arith)
 
 -- ---- an event more
@@ -157,25 +163,30 @@ recordPushed e es = appended e (cond (ltb (length (es .waiting)) maxEvents) es (
 abbrev pub eventPushed : List ℕ → State → State
 eventPushed e st = withEvents (recordPushed e (st .events)) st
 
-module _ (s : List ℕ) (e : List ℕ) (whole : length e ≡ 32) (g n : ℕ) (eg : g ≡ le 2 s 220) (en : n ≡ le 2 s 222) where
-  pub push-room : n < 1024 → Becomes s (put 2 (sets s (2560 + ((g + n) % 1024) * 32) e) 222 (n + 1)) (eventPushed e)
+-- w is the ring's word
+module _ (s : List ℕ) (e : List ℕ) (whole : length e ≡ 32) (w : ℕ) (ew : w ≡ ringWordOf s) where
+  pub push-room : w / 2048 < 1024 → Becomes s (put 4 (sets s (eventsAt + ((w / 2 % 1024 + w / 2048) % 1024) * 32) e) ringAt (w + 2048)) (eventPushed e)
   unfolding appended
   push-room p st l h =
-      let a : g ≡ st .events .gone = eg ∙ gone-held s st l h in
-      let b : n ≡ length (st .events .waiting) = en ∙ waiting-held s st l h in
+      let a : w / 2 % 1024 ≡ st .events .gone = ap (λ (v : ℕ). v / 2 % 1024) ew ∙ gone-held s st l h in
+      let b : w / 2048 ≡ length (st .events .waiting) = ap (λ (v : ℕ). v / 2048) ew ∙ waiting-held s st l h in
+      let z = word-held s st l h in
+      let word : w + 2048 ≡ wordOf (length (st .events .waiting) + 1) (st .events .gone) (st .fault) = omega arith in
       let t : ltb (length (st .events .waiting)) 1024 ≡ true = lt-ltb (length (st .events .waiting)) 1024 (omega arith) in
-      (λ j. put 2 (sets (h .is j) (2560 + ((a j + b j) % 1024) * 32) e) 222 (b j + 1))
+      (λ j. put 4 (sets (h .is j) (eventsAt + ((a j + b j) % 1024) * 32) e) ringAt (word j))
       ∙ pushed-stored st l (h .suits) e whole (omega arith)
       ∙ ap (λ (v : Bool). store (withEvents (appended e (cond v (st .events) (oldestGone (st .events)))) st) l) (sym t)
 
-  pub push-full : 1024 ≤ n → Becomes s (put 2 (sets s (2560 + g * 32) e) 220 ((g + 1) % 1024)) (eventPushed e)
+  pub push-full : 1024 ≤ w / 2048
+      → Becomes s (put 4 (sets s (eventsAt + (w / 2 % 1024) * 32) e) ringAt (w / 2048 * 2048 + (w / 2 % 1024 + 1) % 1024 * 2 + w % 2)) (eventPushed e)
   unfolding appended oldestGone
   push-full p st l h =
-      let a : g ≡ st .events .gone = eg ∙ gone-held s st l h in
-      let b : n ≡ length (st .events .waiting) = en ∙ waiting-held s st l h in
+      let a : w / 2 % 1024 ≡ st .events .gone = ap (λ (v : ℕ). v / 2 % 1024) ew ∙ gone-held s st l h in
+      let b : w / 2048 ≡ length (st .events .waiting) = ap (λ (v : ℕ). v / 2048) ew ∙ waiting-held s st l h in
+      let f : w % 2 ≡ ofBool (st .fault) = ap (λ (v : ℕ). v % 2) ew ∙ fault-held s st l h in
       let m = h .suits .fits .waiting in
       let t : ltb (length (st .events .waiting)) 1024 ≡ false = le-ltb (length (st .events .waiting)) 1024 (omega arith) in
-      (λ j. put 2 (sets (h .is j) (2560 + a j * 32) e) 220 ((a j + 1) % 1024))
+      (λ j. put 4 (sets (h .is j) (eventsAt + a j * 32) e) ringAt (b j * 2048 + (a j + 1) % 1024 * 2 + f j))
       ∙ pushed-full-stored st l (h .suits) e whole (omega arith)
       ∙ ap (λ (v : Bool). store (withEvents (appended e (cond v (st .events) (oldestGone (st .events)))) st) l) (sym t)
 

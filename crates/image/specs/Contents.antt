@@ -1,36 +1,45 @@
 -- What assemblies hold, as marks and slots: what is written is read back, what was read is written again.
-use Prim.Native.Nat.{ℕ, zero, suc, _+_, _-_, _*_, _/_, _%_, _≤_, _<_}
+use Prim.Native.Nat.{ℕ, zero, suc, _-_, _*_, _≤_, _<_}
 use mathlib.Core.List.{List, [], _∷_, _++_, map}
 use mathlib.Core.Path.{_≡_, refl, ap, ap₂, _∙_}
 use native.Mathlib.Omega.{arith}
-use lib.ListN.{length, getD, take, drop, length-append, length-drop, take-append-drop, replicate, length-replicate}
+use lib.ListN.{length, getD, take, drop, set, length-append, length-drop, take-append-drop, replicate, length-replicate}
 use lib.Seq.{length-take-le, take-at, drop-at}
-use Rattle.cells.specs.Records.{toBool, ofBool, to-of}
-use Rattle.cells.specs.Back.{of-to}
 use Rattle.tables.specs.Slots.{storeSlots, fill-own, length-fill}
 use Rattle.rules.specs.State.{Shape, Content, noShape, noContent}
-use Rattle.layout.specs.RowLaws.{bit-small}
-use Rattle.image.specs.Image.{runIn, notifiedIn, contentsOf, record32, markOf, bytesOf}
+use Rattle.layout.specs.Bits.{runIn, notifiedIn, mark-own, mark-twice, run-of-mark, notified-of-mark}
+use Rattle.image.specs.Image.{contentsOf, record32, markOn, marksOver, bytesOf}
 use Rattle.image.specs.Fits.{Records32, none, one}
 
--- ---- marks are numbers
+-- ---- marks over those that were
 
-pub run-of-mark : (c : Content) → runIn (markOf c) ≡ c .run
-run-of-mark c = let a = bit-small (c .run) in let e : markOf c % 2 ≡ ofBool (c .run) = omega arith in ap toBool e ∙ to-of (c .run)
+pub length-marksOver : (cs : List Content) (m : List ℕ) → length cs ≤ length m → length (marksOver cs m) ≡ length m
+unfolding marksOver
+length-marksOver [] m h = refl
+length-marksOver (c ∷ cs) [] h = absurd (omega arith)
+length-marksOver (c ∷ cs) (x ∷ m) h = ap suc (length-marksOver cs m (omega arith))
 
-pub notified-of-mark : (c : Content) → notifiedIn (markOf c) ≡ c .notified
-notified-of-mark c =
-    let a = bit-small (c .run) in let b = bit-small (c .notified) in
-    let e : markOf c / 2 % 2 ≡ ofBool (c .notified) = omega arith in ap toBool e ∙ to-of (c .notified)
+-- a mark's two bits are read back
+pub run-over : (cs : List Content) (m : List ℕ) (i : ℕ) → i < length cs → runIn (getD (marksOver cs m) i 0) ≡ getD cs i noContent .run
+unfolding marksOver
+run-over [] m i p = absurd (omega arith)
+run-over (c ∷ cs) m zero p = run-of-mark (c .run) (c .notified) (getD m 0 0)
+run-over (c ∷ cs) m (suc i) p = run-over cs (drop 1 m) i (omega arith)
 
-pub of-to-mark : (n : ℕ) → n ≤ 3 → ofBool (runIn n) + 2 * ofBool (notifiedIn n) ≡ n
-of-to-mark n h =
-    let a : ofBool (runIn n) ≡ n % 2 = of-to (n % 2) (omega arith) in
-    let b : ofBool (notifiedIn n) ≡ n / 2 % 2 = of-to (n / 2 % 2) (omega arith) in
-    (λ i. a i + 2 * b i) ∙ omega arith
+pub notified-over : (cs : List Content) (m : List ℕ) (i : ℕ) → i < length cs → notifiedIn (getD (marksOver cs m) i 0) ≡ getD cs i noContent .notified
+unfolding marksOver
+notified-over [] m i p = absurd (omega arith)
+notified-over (c ∷ cs) m zero p = notified-of-mark (c .run) (c .notified) (getD m 0 0)
+notified-over (c ∷ cs) m (suc i) p = notified-over cs (drop 1 m) i (omega arith)
 
-pub mark-small : (c : Content) → markOf c ≤ 3
-mark-small c = let a = bit-small (c .run) in let b = bit-small (c .notified) in omega arith
+-- a mark over another: the bits that stand for nothing are the first one's
+pub marks-set : (cs : List Content) (m : List ℕ) (i : ℕ) (c : Content) → i < length cs
+    → set (marksOver cs m) i (markOn c (getD (marksOver cs m) i 0)) ≡ marksOver (set cs i c) m
+unfolding marksOver
+marks-set [] m i c p = absurd (omega arith)
+marks-set (x ∷ cs) m zero c p =
+    ap (λ (z : ℕ). z ∷ marksOver cs (drop 1 m)) (mark-twice (x .run) (x .notified) (c .run) (c .notified) (getD m 0 0))
+marks-set (x ∷ cs) m (suc i) c p = ap (λ (z : List ℕ). markOn x (getD m 0 0) ∷ z) (marks-set cs (drop 1 m) i c (omega arith))
 
 -- ---- lists of contents
 
@@ -39,14 +48,12 @@ unfolding contentsOf
 length-contentsOf [] m d = refl
 length-contentsOf (a ∷ ss) m d = ap suc (length-contentsOf ss (drop 1 m) (drop 512 d))
 
--- the marks of what was read are those that were read
-pub marks-back : (ss : List Shape) (m d : List ℕ) → ((i : ℕ) → i < length ss → getD m i 0 ≤ 3) → length ss ≤ length m
-    → map markOf (contentsOf ss m d) ≡ take (length ss) m
-unfolding contentsOf
-marks-back [] m d h g = refl
-marks-back (a ∷ ss) [] d h g = absurd (omega arith)
-marks-back (a ∷ ss) (x ∷ m) d h g =
-    ap₂ _∷_ (of-to-mark x (h 0 (omega arith))) (marks-back ss m (drop 512 d) (λ i p. h (suc i) (omega arith)) (omega arith))
+-- the marks of what was read, over those that were read, are these
+pub marks-back : (ss : List Shape) (m d : List ℕ) → length ss ≤ length m → marksOver (contentsOf ss m d) m ≡ m
+unfolding contentsOf marksOver
+marks-back [] m d g = refl
+marks-back (a ∷ ss) [] d g = absurd (omega arith)
+marks-back (a ∷ ss) (x ∷ m) d g = ap₂ _∷_ (mark-own x) (marks-back ss m (drop 512 d) (omega arith))
 
 pub data-back : (ss : List Shape) (m d : List ℕ) → storeSlots (map bytesOf (contentsOf ss m d)) d ≡ d
 unfolding contentsOf storeSlots
@@ -68,8 +75,8 @@ sized-back (a ∷ ss) m d h g (suc i) =
 pub contents-back : (ss : List Shape) (cs : List Content) (m d : List ℕ) → length cs ≡ length ss
     → ((i : ℕ) → length (getD cs i noContent .bytes) ≡ getD ss i noShape .size) → ((i : ℕ) → getD ss i noShape .size ≤ 512)
     → length ss * 512 ≤ length d
-    → contentsOf ss (map markOf cs ++ m) (storeSlots (map bytesOf cs) d) ≡ cs
-unfolding contentsOf storeSlots
+    → contentsOf ss (marksOver cs m) (storeSlots (map bytesOf cs) d) ≡ cs
+unfolding contentsOf storeSlots marksOver
 contents-back [] [] m d e z h g = refl
 contents-back [] (c ∷ cs) m d e z h g = absurd (omega arith)
 contents-back (a ∷ ss) [] m d e z h g = absurd (omega arith)
@@ -84,9 +91,10 @@ contents-back (a ∷ ss) (c ∷ cs) m d e z h g =
     let b : take (a .size) (take 512 ((x ++ s) ++ rest)) ≡ x =
     ap (take (a .size)) (take-at (x ++ s) rest 512 n) ∙ take-at x s (a .size) z0 in
     let l′ : length (drop 512 d) ≡ length d - 512 = length-drop 512 d in
-    ap₂ _∷_ (λ i. record { bytes = b i; run = run-of-mark c i; notified = notified-of-mark c i })
-    (ap (contentsOf ss (map markOf cs ++ m)) (drop-at (x ++ s) rest 512 n)
-    ∙ contents-back ss cs m (drop 512 d) (omega arith) (λ i. z (suc i)) (λ i. h (suc i)) (omega arith))
+    let old : ℕ = getD m 0 0 in
+    ap₂ _∷_ (λ i. record { bytes = b i; run = run-of-mark (c .run) (c .notified) old i; notified = notified-of-mark (c .run) (c .notified) old i })
+    (ap (contentsOf ss (marksOver cs (drop 1 m))) (drop-at (x ++ s) rest 512 n)
+    ∙ contents-back ss cs (drop 1 m) (drop 512 d) (omega arith) (λ i. z (suc i)) (λ i. h (suc i)) (omega arith))
 
 -- ---- records of 32 bytes
 

@@ -4,21 +4,25 @@ use mathlib.Core.Bool.{true}
 use mathlib.Core.List.{List, [], map}
 use mathlib.Core.Path.{_≡_, ap, sym, _∙_}
 use native.Mathlib.Omega.{arith}
-use lib.ListN.{length, getD, take, drop, length-map, List·getD-map, List·getD-append}
-use lib.Seq.{drop-drop, take-take, getD-drop, getD-take}
-use Rattle.cells.specs.Numbers.{le, drop-take}
+use lib.ListN.{length, getD, take, drop, length-map, List·getD-map}
+use lib.Seq.{drop-drop, take-take}
+use Rattle.cells.specs.Numbers.{drop-take}
+use Rattle.cells.specs.Records.{ofBool}
 use Rattle.cells.specs.Back.{Bytes}
 use Rattle.tables.specs.Tables.{rows, length-rows}
 use Rattle.tables.specs.Store.{row-stored}
 use Rattle.tables.specs.Slots.{slot-at}
 use Rattle.rules.specs.State.{Setup, State, noContent, shapeAt, contentAt}
-use Rattle.layout.specs.Places.{setupIn, marksIn, tableIn, dataIn}
+use Rattle.layout.specs.Places.{setupIn, marksIn, tableIn, dataIn, setupSize, dataFrom, dataSize, stateSize, rowSize, shapesAt, nextIdOf, ringWordOf, firstOf, waitingOf, faultOf, connectionsOf, producedOf, lateOf, maxLateOf, markAt, assembliesOf}
 use Rattle.layout.specs.Setups.{setupOf, decShape, shapeIn}
-use Rattle.layout.specs.Rows.{decConn, encConn}
+use Rattle.layout.specs.Rows.{decConn, encConn, connAt, connsIn}
 use Rattle.layout.specs.RowLaws.{length-encConn, dec-encConn}
-use Rattle.image.specs.Image.{view, store, tested, markOf, bytesOf, marksOf, tableOf, dataOf}
-use Rattle.image.specs.Fits.{Suits, few-assemblies, shape-short, shape-at, is-long, is-sound, shapes-good, few-conns, first-slot, few-events}
-use Rattle.image.specs.StoreLaws.{length-setupIn, length-store, few-contents, short-bytes, content-short, room, marks-of-store, table-of-store, data-of-store, setup-kept, assemblies-is, produced-is, late-is, maxLate-is, nextId-is, gone-is, waiting-is, conns-is}
+use Rattle.layout.specs.Bits.{wordOf, runIn, notifiedIn}
+use Rattle.image.specs.Image.{view, store, tested, bytesOf, marksOf, tableOf, dataOf}
+use Rattle.image.specs.RowsFit.{fits-at}
+use Rattle.image.specs.Fits.{Suits, few-assemblies, shape-short, shape-at, is-long, is-sound, shapes-good, few-conns, few-events}
+use Rattle.image.specs.Contents.{run-over, notified-over}
+use Rattle.image.specs.StoreLaws.{length-setupIn, length-store, few-contents, short-bytes, content-short, room, table-of-store, data-of-store, setup-kept, assemblies-is, produced-is, late-is, maxLate-is, nextId-is, word-is, gone-is, waiting-is, fault-is, conns-is, mark-is}
 use Rattle.image.specs.ViewLaws.{suits-view, store-view, table-read}
 use Rattle.image.specs.TestLaws.{assemblies-in}
 use Rattle.image.specs.Updates.{noConn}
@@ -34,25 +38,24 @@ Becomes s s′ f = (st : State) (l : List ℕ) → Holds s st l → s′ ≡ sto
 -- a held state that has no more connections than the buffer had when the call began: then a freed row is one that was in use
 pub record Held (s : List ℕ) (st : State) (l : List ℕ) : Type 0 where
   pub holds : Holds s st l
-  pub fewer : length (st .table) ≤ le 2 l 224
+  pub fewer : length (st .table) ≤ connectionsOf l
 
 abbrev pub BecomesHeld : List ℕ → List ℕ → (State → State) → Type 0
 BecomesHeld s s′ f = (st : State) (l : List ℕ) → Held s st l → s′ ≡ store (f st) l
 
 -- what code needs to know of the buffer, to stay inside
 pub record Ready (s : List ℕ) : Type 0 where
-  pub long : length s ≡ 109056
-  pub assemblies : le 1 s 0 ≤ 16
-  pub first : le 2 s 220 < 1024
-  pub events : le 2 s 222 ≤ 1024
-  pub conns : le 2 s 224 ≤ 32
+  pub long : length s ≡ stateSize
+  pub assemblies : assembliesOf s ≤ 16
+  pub events : waitingOf s ≤ 1024
+  pub conns : connectionsOf s ≤ 32
 
 -- no shape says more bytes than a slot has
 abbrev pub Slotted : List ℕ → Type 0
-Slotted s = (i : ℕ) → i < le 1 s 0 → shapeIn s i .size ≤ 512
+Slotted s = (i : ℕ) → i < assembliesOf s → shapeIn s i .size ≤ 512
 
 -- the setup's region is all there, and has at most 16 assemblies
-pub setup-ready : (s : List ℕ) → Ready s → (192 ≤ length (setupIn s)) × (le 1 (setupIn s) 0 ≤ 16)
+pub setup-ready : (s : List ℕ) → Ready s → (setupSize ≤ length (setupIn s)) × (assembliesOf (setupIn s) ≤ 16)
 setup-ready s r = (let n = length-setupIn s (r .long) in omega arith, let e = assemblies-in s in let a = r .assemblies in omega arith)
 
 -- a part of a part
@@ -64,8 +67,8 @@ part-in n k m x h =
 -- a shape is read from the setup's region, or from the whole buffer
 pub shape-in : (s : List ℕ) (i : ℕ) → i < 16 → shapeIn (setupIn s) i ≡ shapeIn s i
 shape-in s i h =
-    ap (λ (z : List ℕ). decShape (take 5 (drop (i * 5) z))) (drop-take 110 82 s)
-    ∙ ap decShape (part-in 5 (i * 5) 82 (drop 110 s) (omega arith))
+    ap (λ (z : List ℕ). decShape (take 5 (drop (i * 5) z))) (drop-take shapesAt 82 s)
+    ∙ ap decShape (part-in 5 (i * 5) 82 (drop shapesAt s) (omega arith))
 
 -- ---- a tested buffer holds its own state
 
@@ -75,7 +78,6 @@ module _ (s : List ℕ) (t : tested s ≡ true) where
       record {
         long = is-long s t;
         assemblies = let e = assemblies-in s in let f = few-assemblies (setupIn s) (is-sound s t) in omega arith;
-        first = first-slot s t;
         events = few-events s t;
         conns = few-conns s t;
       }
@@ -91,7 +93,7 @@ module _ (s : List ℕ) (t : tested s ≡ true) where
 
   pub held-tested : Bytes s → Held s (view s) s
   unfolding view
-  held-tested b = record { holds = holds-tested b; fewer = let e = length-rows 70 decConn (le 2 s 224) (tableIn s) in omega arith }
+  held-tested b = record { holds = holds-tested b; fewer = let e = length-rows rowSize decConn (connectionsOf s) (tableIn s) in omega arith }
 
 -- ---- what is read of a held state
 
@@ -99,40 +101,44 @@ module _ (s : List ℕ) (st : State) (l : List ℕ) (h : Holds s st l) where
   abbrev w : Suits st l
   w = h .suits
 
-  pub assemblies-held : le 1 s 0 ≡ length (st .contents)
-  assemblies-held = sym (assemblies-in s) ∙ ap (λ (z : List ℕ). le 1 (setupIn z) 0) (h .is) ∙ assemblies-is st l w
+  pub assemblies-held : assembliesOf s ≡ length (st .contents)
+  assemblies-held = sym (assemblies-in s) ∙ ap (λ (z : List ℕ). assembliesOf (setupIn z)) (h .is) ∙ assemblies-is st l w
 
-  pub produced-held : le 8 s 192 ≡ st .counters .produced
-  produced-held = ap (λ (z : List ℕ). le 8 z 192) (h .is) ∙ produced-is st l w
+  pub produced-held : producedOf s ≡ st .counters .produced
+  produced-held = ap (λ (z : List ℕ). producedOf z) (h .is) ∙ produced-is st l w
 
-  pub late-held : le 8 s 200 ≡ st .counters .late
-  late-held = ap (λ (z : List ℕ). le 8 z 200) (h .is) ∙ late-is st l w
+  pub late-held : lateOf s ≡ st .counters .late
+  late-held = ap (λ (z : List ℕ). lateOf z) (h .is) ∙ late-is st l w
 
-  pub maxLate-held : le 8 s 208 ≡ st .counters .maxLate
-  maxLate-held = ap (λ (z : List ℕ). le 8 z 208) (h .is) ∙ maxLate-is st l w
+  pub maxLate-held : maxLateOf s ≡ st .counters .maxLate
+  maxLate-held = ap (λ (z : List ℕ). maxLateOf z) (h .is) ∙ maxLate-is st l w
 
-  pub nextId-held : le 4 s 216 ≡ st .nextId
-  nextId-held = ap (λ (z : List ℕ). le 4 z 216) (h .is) ∙ nextId-is st l w
+  pub nextId-held : nextIdOf s ≡ st .nextId
+  nextId-held = ap (λ (z : List ℕ). nextIdOf z) (h .is) ∙ nextId-is st l w
 
-  pub gone-held : le 2 s 220 ≡ st .events .gone
-  gone-held = ap (λ (z : List ℕ). le 2 z 220) (h .is) ∙ gone-is st l w
+  pub word-held : ringWordOf s ≡ wordOf (length (st .events .waiting)) (st .events .gone) (st .fault)
+  word-held = ap (λ (z : List ℕ). ringWordOf z) (h .is) ∙ word-is st l w
 
-  pub waiting-held : le 2 s 222 ≡ length (st .events .waiting)
-  waiting-held = ap (λ (z : List ℕ). le 2 z 222) (h .is) ∙ waiting-is st l w
+  pub fault-held : faultOf s ≡ ofBool (st .fault)
+  fault-held = ap (λ (z : List ℕ). faultOf z) (h .is) ∙ fault-is st l w
 
-  pub conns-held : le 2 s 224 ≡ length (st .table)
-  conns-held = ap (λ (z : List ℕ). le 2 z 224) (h .is) ∙ conns-is st l w
+  pub gone-held : firstOf s ≡ st .events .gone
+  gone-held = ap (λ (z : List ℕ). firstOf z) (h .is) ∙ gone-is st l w
+
+  pub waiting-held : waitingOf s ≡ length (st .events .waiting)
+  waiting-held = ap (λ (z : List ℕ). waitingOf z) (h .is) ∙ waiting-is st l w
+
+  pub conns-held : connectionsOf s ≡ length (st .table)
+  conns-held = ap (λ (z : List ℕ). connectionsOf z) (h .is) ∙ conns-is st l w
 
   pub ready-held : Ready s
   ready-held =
       let a = assemblies-held in let b = few-contents st l w in
-      let c = gone-held in let d = w .fits .gone in
       let e = waiting-held in let f = w .fits .waiting in
       let g = conns-held in let i = w .fits .table in
       record {
         long = ap length (h .is) ∙ length-store st l w;
         assemblies = omega arith;
-        first = omega arith;
         events = omega arith;
         conns = omega arith;
       }
@@ -141,37 +147,36 @@ module _ (s : List ℕ) (st : State) (l : List ℕ) (h : Holds s st l) where
   pub setup-held : setupOf s ≡ st .setup
   setup-held = ap setupOf (h .is) ∙ setup-kept st l w ∙ sym (w .setup)
 
-  pub shape-held : (i : ℕ) → i < le 1 s 0 → shapeIn s i ≡ shapeAt (st .setup) i
+  pub shape-held : (i : ℕ) → i < assembliesOf s → shapeIn s i ≡ shapeAt (st .setup) i
   shape-held i p =
       let a = assemblies-in s in let b = ready-held .assemblies in
       sym (shape-in s i (omega arith)) ∙ sym (shape-at s i (omega arith)) ∙ ap (λ (u : Setup). shapeAt u i) setup-held
 
   -- the table, and a row of it
-  pub table-held : rows 70 decConn (le 2 s 224) (tableIn s) ≡ st .table
-  table-held = ap (λ (z : List ℕ). rows 70 decConn (le 2 z 224) (tableIn z)) (h .is) ∙ table-read st l w
+  pub table-held : connsIn (connectionsOf s) (tableIn s) ≡ st .table
+  table-held = ap (λ (z : List ℕ). connsIn (connectionsOf z) (tableIn z)) (h .is) ∙ table-read st l w
 
-  pub conn-held : (i : ℕ) → i < length (st .table) → decConn (take 70 (drop (i * 70) (tableIn s))) ≡ getD (st .table) i noConn
+  pub conn-held : (i : ℕ) → i < length (st .table) → connAt (tableIn s) i ≡ getD (st .table) i noConn
   unfolding tableOf
   conn-held i p =
-      ap (λ (z : List ℕ). decConn (take 70 (drop (i * 70) z))) (ap tableIn (h .is) ∙ table-of-store st l w)
-      ∙ ap decConn (row-stored 70 encConn length-encConn (le 2 l 224) (st .table) (tableIn l) i noConn p)
-      ∙ dec-encConn (getD (st .table) i noConn)
+      ap (λ (z : List ℕ). connAt z i) (ap tableIn (h .is) ∙ table-of-store st l w)
+      ∙ ap decConn (row-stored rowSize encConn length-encConn (connectionsOf l) (st .table) (tableIn l) i noConn p)
+      ∙ dec-encConn (getD (st .table) i noConn) (fits-at (st .table) (w .fits .rows) i)
 
   -- an assembly's mark and bytes
-  pub mark-held : (i : ℕ) → i < length (st .contents) → getD s (240 + i) 0 ≡ markOf (contentAt st i)
+  mark-held : (i : ℕ) → i < length (st .contents) → markAt s i ≡ getD (marksOf st l) i 0
+  mark-held i p = let f = few-contents st l w in ap (λ (z : List ℕ). markAt z i) (h .is) ∙ mark-is st l w i (omega arith)
+
+  pub run-held : (i : ℕ) → i < length (st .contents) → runIn (markAt s i) ≡ contentAt st i .run
   unfolding marksOf
-  mark-held i p =
-      let xs : List ℕ = map markOf (st .contents) in
-      let n = length-map (st .contents) markOf in
-      let f = few-contents st l w in
-      sym (getD-drop 240 s i 0)
-      ∙ sym (getD-take 16 (drop 240 s) i 0 (omega arith))
-      ∙ ap (λ (z : List ℕ). getD z i 0) (ap marksIn (h .is) ∙ marks-of-store st l w)
-      ∙ List·getD-append xs (drop (length xs) (marksIn l)) 0 i (omega arith)
-      ∙ List·getD-map markOf (st .contents) i noContent
+  run-held i p = ap runIn (mark-held i p) ∙ run-over (st .contents) (marksIn l) i p
+
+  pub notified-held : (i : ℕ) → i < length (st .contents) → notifiedIn (markAt s i) ≡ contentAt st i .notified
+  unfolding marksOf
+  notified-held i p = ap notifiedIn (mark-held i p) ∙ notified-over (st .contents) (marksIn l) i p
 
   pub bytes-held : (i : ℕ) → i < length (st .contents)
-      → take (length (contentAt st i .bytes)) (drop (35328 + i * 512) s) ≡ contentAt st i .bytes
+      → take (length (contentAt st i .bytes)) (drop (dataFrom + i * 512) s) ≡ contentAt st i .bytes
   unfolding dataOf
   bytes-held i p =
       let n : ℕ = length (contentAt st i .bytes) in
@@ -179,8 +184,8 @@ module _ (s : List ℕ) (st : State) (l : List ℕ) (h : Holds s st l) where
       let f = few-contents st l w in
       let m = length-map (st .contents) bytesOf in
       let a : getD (map bytesOf (st .contents)) i [] ≡ contentAt st i .bytes = List·getD-map bytesOf (st .contents) i noContent in
-      ap (take n) (sym (drop-drop (i * 512) 35328 s))
-      ∙ sym (part-in n (i * 512) 8192 (drop 35328 s) (omega arith))
+      ap (take n) (sym (drop-drop (i * 512) dataFrom s))
+      ∙ sym (part-in n (i * 512) dataSize (drop dataFrom s) (omega arith))
       ∙ ap (λ (z : List ℕ). take n (drop (i * 512) z)) (ap dataIn (h .is) ∙ data-of-store st l w)
       ∙ ap (λ (z : List ℕ). take (length z) (drop (i * 512) (dataOf st l))) (sym a)
       ∙ slot-at (map bytesOf (st .contents)) (dataIn l) i (short-bytes st l w) (room st l w) (omega arith)

@@ -1,30 +1,23 @@
 -- The lent state as rules' State: what the bytes say (view), a state written over a buffer (store), and the state test.
-use Prim.Native.Nat.{ℕ, _+_, _*_, _/_, _%_}
+use Prim.Native.Nat.{ℕ}
 use mathlib.Core.Bool.{Bool}
 use mathlib.Core.List.{List, [], _∷_, _++_, map}
 use lib.Dec.{eqb, leb, ltb}
 use lib.ListN.{length, getD, take, drop, replicate}
-use Rattle.cells.specs.Numbers.{le}
-use Rattle.cells.specs.Records.{encFields, toBool, ofBool}
+use Rattle.cells.specs.Records.{encFields, toBool}
 use Rattle.cells.specs.Back.{all}
 use Rattle.tables.specs.Tables.{rows}
 use Rattle.tables.specs.Store.{storeRows}
 use Rattle.tables.specs.Ring.{storeRing, ringOf}
-use Rattle.tables.specs.Slots.{storeSlots, fill}
+use Rattle.tables.specs.Slots.{storeSlots}
 use Rattle.tables.specs.Regions.{joined}
 use Rattle.rules.specs.State.{Shape, Content, State}
-use Rattle.layout.specs.Places.{setupIn, headIn, wHead, marksIn, tableIn, ringIn, dataIn, edsIn}
+use Rattle.layout.specs.Places.{setupIn, headIn, wHead, marksIn, tableIn, ringIn, dataIn, edsIn, stateSize, rowSize, headUsed, nextIdOf, ringWordOf, ringBound, firstOf, waitingOf, connectionsOf, faultOf, producedOf, lateOf, maxLateOf}
 use Rattle.layout.specs.Setups.{setupOf, goodSetup, goodShapes}
-use Rattle.layout.specs.Rows.{decConn, encConn, goodRow}
+use Rattle.layout.specs.Rows.{encConn, connsIn}
+use Rattle.layout.specs.Bits.{wordOf, runIn, notifiedIn, markOver}
 
 -- ---- the view
-
--- an assembly's mark: run, and two if an event waits
-abbrev pub runIn : ℕ → Bool
-runIn mark = toBool (mark % 2)
-
-abbrev pub notifiedIn : ℕ → Bool
-notifiedIn mark = toBool (mark / 2 % 2)
 
 -- what an assembly holds: its mark, and the first bytes of its slot
 abbrev pub contentOf : Shape → ℕ → List ℕ → Content
@@ -46,11 +39,11 @@ view l =
     record {
       setup = setupOf l;
       contents = contentsOf (setupOf l .assemblies) (marksIn l) (dataIn l);
-      table = rows 70 decConn (le 2 l 224) (tableIn l);
-      events = record { gone = le 2 l 220; waiting = ringOf 32 record32 asIs (le 2 l 220) (le 2 l 222) (ringIn l) };
-      fault = toBool (le 2 l 226);
-      nextId = le 4 l 216;
-      counters = record { produced = le 8 l 192; late = le 8 l 200; maxLate = le 8 l 208 };
+      table = connsIn (connectionsOf l) (tableIn l);
+      events = record { gone = firstOf l; waiting = ringOf 32 record32 asIs (firstOf l) (waitingOf l) (ringIn l) };
+      fault = toBool (faultOf l);
+      nextId = nextIdOf l;
+      counters = record { produced = producedOf l; late = lateOf l; maxLate = maxLateOf l };
     }
 
 -- ---- a state written over a buffer: every byte that no part of the state stands for stays, but rows that fell free are zero
@@ -61,26 +54,29 @@ listHead st =
     ∷ st .counters .late
     ∷ st .counters .maxLate
     ∷ st .nextId
-    ∷ st .events .gone
-    ∷ length (st .events .waiting)
+    ∷ wordOf (length (st .events .waiting)) (st .events .gone) (st .fault)
     ∷ length (st .table)
-    ∷ ofBool (st .fault)
     ∷ []
 
-abbrev pub markOf : Content → ℕ
-markOf c = ofBool (c .run) + 2 * ofBool (c .notified)
+abbrev pub markOn : Content → ℕ → ℕ
+markOn c old = markOver (c .run) (c .notified) old
+
+-- marks over those that were: each keeps the bits that stand for nothing
+unfoldable pub marksOver : List Content → List ℕ → List ℕ
+marksOver [] marks = marks
+marksOver (c ∷ rest) marks = markOn c (getD marks 0 0) ∷ marksOver rest (drop 1 marks)
 
 abbrev pub bytesOf : Content → List ℕ
 bytesOf c = c .bytes
 
 unfoldable pub headOf : State → List ℕ → List ℕ
-headOf st l = encFields wHead (listHead st) ++ drop 36 (headIn l)
+headOf st l = encFields wHead (listHead st) ++ drop headUsed (headIn l)
 
 unfoldable pub marksOf : State → List ℕ → List ℕ
-marksOf st l = fill (map markOf (st .contents)) (marksIn l)
+marksOf st l = marksOver (st .contents) (marksIn l)
 
 unfoldable pub tableOf : State → List ℕ → List ℕ
-tableOf st l = storeRows 70 encConn (le 2 l 224) (st .table) (tableIn l)
+tableOf st l = storeRows rowSize encConn (connectionsOf l) (st .table) (tableIn l)
 
 unfoldable pub eventsOf : State → List ℕ → List ℕ
 eventsOf st l = storeRing 32 record32 (st .events .gone) (st .events .waiting) (ringIn l)
@@ -96,25 +92,20 @@ store st l = joined (regionsOf st l)
 
 -- ---- the state test
 
--- the next id is not 0, the oldest event's slot is one of 1,024, at most 1,024 events, at most 32 connections, a fault mark of 0 or 1
+-- the next id is not 0, the ring's word is one, at most 32 connections
 abbrev pub testsHead : List ℕ → List Bool
-testsHead l = ltb 0 (le 4 l 216) ∷ ltb (le 2 l 220) 1024 ∷ leb (le 2 l 222) 1024 ∷ leb (le 2 l 224) 32 ∷ leb (le 2 l 226) 1 ∷ []
+testsHead l = ltb 0 (nextIdOf l) ∷ ltb (ringWordOf l) ringBound ∷ leb (connectionsOf l) 32 ∷ []
 
 unfoldable pub goodHead : List ℕ → Bool
 goodHead l = all (testsHead l)
 
-unfoldable pub goodMark : List ℕ → Bool
-goodMark b = leb (le 1 b 0) 3
-
--- the size; the setup; the head; the size of each assembly; the mark of each assembly; the flags of each connection
+-- the size; the setup; the head; the size of each assembly. No row and no mark is asked anything: each of their bytes is one value
 abbrev pub testsState : List ℕ → List Bool
 testsState l =
-    eqb (length l) 109056
+    eqb (length l) stateSize
     ∷ goodSetup (setupIn l)
     ∷ goodHead l
     ∷ goodShapes (setupIn l)
-    ∷ all (rows 1 goodMark (le 1 (setupIn l) 0) (marksIn l))
-    ∷ all (rows 70 goodRow (le 2 l 224) (tableIn l))
     ∷ []
 
 unfoldable pub tested : List ℕ → Bool

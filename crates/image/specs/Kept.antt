@@ -14,7 +14,12 @@ use Rattle.tables.specs.Tables.{without}
 use Rattle.rules.specs.State.{Content, Counters, Events, State, noContent, contentAt, withContents, withTable, withEvents, withFault, withNextId, withCounters}
 use Rattle.rules.specs.declared.Conn.{Conn}
 use Rattle.layout.specs.Setups.{shapeIn}
+use Rattle.layout.specs.Places.{marksAt, tableAt, tableSize, stateSize, ringAt, ringBound, connectionsAt, connectionsOf, assembliesOf}
+use Rattle.layout.specs.Rows.{RowFits}
+use Rattle.layout.specs.Bits.{word-fits}
+use Rattle.image.specs.RowsFit.{RowsFit, fits-at, fits-same, fits-set, fits-append, fits-without}
 use Rattle.image.specs.Fits.{Records32, none, one, Fits, Suits}
+use Rattle.image.specs.Updates.{noConn}
 use Rattle.image.specs.Holds.{Ready, Slotted, shape-in}
 
 -- ---- lists
@@ -47,28 +52,33 @@ module _ (st : State) (l : List ℕ) (w : Suits st l) where
   abbrev f : Fits st
   f = w .fits
 
-  pub suits-table : (cs : List Conn) → length cs ≤ 32 → Suits (withTable cs st) l
-  suits-table cs p =
+  pub suits-table : (cs : List Conn) → length cs ≤ 32 → RowsFit cs → Suits (withTable cs st) l
+  suits-table cs p q =
       record {
-        fits = record { contents = f .contents; sized = f .sized; table = p; gone = f .gone; waiting = f .waiting; records = f .records; id = f .id };
+        fits = record { contents = f .contents; sized = f .sized; table = p; rows = q; gone = f .gone; waiting = f .waiting; records = f .records; id = f .id };
         lent = w .lent;
         setup = w .setup;
       }
 
-  pub suits-row : (i : ℕ) (c : Conn) → Suits (withTable (set (st .table) i c) st) l
-  suits-row i c = suits-table (set (st .table) i c) (let e = length-set (st .table) i c in let t = f .table in omega arith)
+  -- a row of which nothing changes that never does
+  pub suits-row : (i : ℕ) (c : Conn) → c .fixed ≡ getD (st .table) i noConn .fixed → Suits (withTable (set (st .table) i c) st) l
+  suits-row i c e =
+      suits-table (set (st .table) i c) (let n = length-set (st .table) i c in let t = f .table in omega arith)
+      (fits-set (st .table) i c (fits-same (getD (st .table) i noConn) c e (fits-at (st .table) (f .rows) i)) (f .rows))
 
-  pub suits-appended : (c : Conn) → length (st .table) < 32 → Suits (withTable (st .table ++ (c ∷ [])) st) l
-  suits-appended c p = suits-table (st .table ++ (c ∷ [])) (let e = length-append (st .table) (c ∷ []) in omega arith)
+  pub suits-appended : (c : Conn) → RowFits c → length (st .table) < 32 → Suits (withTable (st .table ++ (c ∷ [])) st) l
+  suits-appended c q p =
+      suits-table (st .table ++ (c ∷ [])) (let e = length-append (st .table) (c ∷ []) in omega arith) (fits-append (st .table) c q (f .rows))
 
   pub suits-removed : (i : ℕ) → Suits (withTable (without (st .table) i) st) l
-  suits-removed i = suits-table (without (st .table) i) (let e = length-without (st .table) i in let t = f .table in omega arith)
+  suits-removed i =
+      suits-table (without (st .table) i) (let e = length-without (st .table) i in let t = f .table in omega arith) (fits-without (st .table) i (f .rows))
 
   pub suits-contents : (cs : List Content) → length cs ≡ length (st .contents)
       → ((i : ℕ) → length (getD cs i noContent .bytes) ≡ length (contentAt st i .bytes)) → Suits (withContents cs st) l
   suits-contents cs n e =
       record {
-        fits = record { contents = n ∙ f .contents; sized = λ i. e i ∙ f .sized i; table = f .table; gone = f .gone; waiting = f .waiting; records = f .records; id = f .id };
+        fits = record { contents = n ∙ f .contents; sized = λ i. e i ∙ f .sized i; table = f .table; rows = f .rows; gone = f .gone; waiting = f .waiting; records = f .records; id = f .id };
         lent = w .lent;
         setup = w .setup;
       }
@@ -79,7 +89,7 @@ module _ (st : State) (l : List ℕ) (w : Suits st l) where
   pub suits-events : (es : Events) → es .gone < 1024 → length (es .waiting) ≤ 1024 → Records32 (es .waiting) → Suits (withEvents es st) l
   suits-events es g n r =
       record {
-        fits = record { contents = f .contents; sized = f .sized; table = f .table; gone = g; waiting = n; records = r; id = f .id };
+        fits = record { contents = f .contents; sized = f .sized; table = f .table; rows = f .rows; gone = g; waiting = n; records = r; id = f .id };
         lent = w .lent;
         setup = w .setup;
       }
@@ -87,7 +97,7 @@ module _ (st : State) (l : List ℕ) (w : Suits st l) where
   pub suits-fault : (b : Bool) → Suits (withFault b st) l
   suits-fault b =
       record {
-        fits = record { contents = f .contents; sized = f .sized; table = f .table; gone = f .gone; waiting = f .waiting; records = f .records; id = f .id };
+        fits = record { contents = f .contents; sized = f .sized; table = f .table; rows = f .rows; gone = f .gone; waiting = f .waiting; records = f .records; id = f .id };
         lent = w .lent;
         setup = w .setup;
       }
@@ -95,7 +105,7 @@ module _ (st : State) (l : List ℕ) (w : Suits st l) where
   pub suits-nextId : (v : ℕ) → 0 < v → Suits (withNextId v st) l
   suits-nextId v p =
       record {
-        fits = record { contents = f .contents; sized = f .sized; table = f .table; gone = f .gone; waiting = f .waiting; records = f .records; id = p };
+        fits = record { contents = f .contents; sized = f .sized; table = f .table; rows = f .rows; gone = f .gone; waiting = f .waiting; records = f .records; id = p };
         lent = w .lent;
         setup = w .setup;
       }
@@ -103,7 +113,7 @@ module _ (st : State) (l : List ℕ) (w : Suits st l) where
   pub suits-counters : (n : Counters) → Suits (withCounters n st) l
   suits-counters n =
       record {
-        fits = record { contents = f .contents; sized = f .sized; table = f .table; gone = f .gone; waiting = f .waiting; records = f .records; id = f .id };
+        fits = record { contents = f .contents; sized = f .sized; table = f .table; rows = f .rows; gone = f .gone; waiting = f .waiting; records = f .records; id = f .id };
         lent = w .lent;
         setup = w .setup;
       }
@@ -111,93 +121,67 @@ module _ (st : State) (l : List ℕ) (w : Suits st l) where
 -- ---- buffers
 
 -- the same bytes before the marks: the same bounds
-module _ (s s′ : List ℕ) (len : length s′ ≡ length s) (same : take 240 s′ ≡ take 240 s) where
+module _ (s s′ : List ℕ) (len : length s′ ≡ length s) (same : take marksAt s′ ≡ take marksAt s) where
   pub ready-same : Ready s → Ready s′
   ready-same r =
       record {
         long = len ∙ r .long;
-        assemblies = rw (le-same 1 s′ s 0 240 (omega arith) same) (r .assemblies);
-        first = rw (le-same 2 s′ s 220 240 (omega arith) same) (r .first);
-        events = rw (le-same 2 s′ s 222 240 (omega arith) same) (r .events);
-        conns = rw (le-same 2 s′ s 224 240 (omega arith) same) (r .conns);
+        assemblies = rw (le-same 1 s′ s 0 marksAt (omega arith) same) (r .assemblies);
+        events = rw (le-same 4 s′ s ringAt marksAt (omega arith) same) (r .events);
+        conns = rw (le-same 2 s′ s connectionsAt marksAt (omega arith) same) (r .conns);
       }
 
-  pub conns-same : le 2 s′ 224 ≡ le 2 s 224
-  conns-same = le-same 2 s′ s 224 240 (omega arith) same
+  pub conns-same : connectionsOf s′ ≡ connectionsOf s
+  conns-same = le-same 2 s′ s connectionsAt marksAt (omega arith) same
 
 -- the same setup: the same shapes
-pub slotted-same : (s s′ : List ℕ) → take 192 s′ ≡ take 192 s → le 1 s 0 ≤ 16 → Slotted s → Slotted s′
+pub slotted-same : (s s′ : List ℕ) → take 192 s′ ≡ take 192 s → assembliesOf s ≤ 16 → Slotted s → Slotted s′
 slotted-same s s′ same b t i h =
-    let n : le 1 s′ 0 ≡ le 1 s 0 = le-same 1 s′ s 0 192 (omega arith) same in
+    let n : assembliesOf s′ ≡ assembliesOf s = le-same 1 s′ s 0 192 (omega arith) same in
     let g : shapeIn s i .size ≤ 512 = t i (omega arith) in
     let e : shapeIn s i ≡ shapeIn s′ i = sym (shape-in s i (omega arith)) ∙ ap (λ (z : List ℕ). shapeIn z i) (sym same) ∙ shape-in s′ i (omega arith) in
     rw e at g
 
 -- stores behind the head, and a region put back behind it
-pub ready-sets : (s : List ℕ) (at : ℕ) (bs : List ℕ) → 240 ≤ at → Ready s → Ready (sets s at bs)
-ready-sets s at bs h = ready-same s (sets s at bs) (length-sets s at bs) (take-sets 240 s at bs h)
+pub ready-sets : (s : List ℕ) (at : ℕ) (bs : List ℕ) → marksAt ≤ at → Ready s → Ready (sets s at bs)
+ready-sets s at bs h = ready-same s (sets s at bs) (length-sets s at bs) (take-sets marksAt s at bs h)
 
-pub ready-mid : (s : List ℕ) (a k : ℕ) (x : List ℕ) → 240 ≤ a → a ≤ 109056 → length x ≡ length (midOf a k s) → Ready s → Ready (putMid a k s x)
+pub ready-mid : (s : List ℕ) (a k : ℕ) (x : List ℕ) → marksAt ≤ a → a ≤ stateSize → length x ≡ length (midOf a k s) → Ready s → Ready (putMid a k s x)
 ready-mid s a k x h g n r =
     let long = r .long in
     ready-same s (putMid a k s x) (same-len-mid a k s x n)
-    (sym (take-take 240 a (putMid a k s x) h) ∙ ap (take 240) (take-put a k s x (omega arith)) ∙ take-take 240 a s h) r
+    (sym (take-take marksAt a (putMid a k s x) h) ∙ ap (take marksAt) (take-put a k s x (omega arith)) ∙ take-take marksAt a s h) r
 
 -- the head's numbers
 module _ (s : List ℕ) (r : Ready s) where
-  pub ready-conns : (n : ℕ) → n ≤ 32 → Ready (put 2 s 224 n)
+  pub ready-conns : (n : ℕ) → n ≤ 32 → Ready (put 2 s connectionsAt n)
   ready-conns n h =
       let long = r .long in
       record {
-        long = length-put 2 s 224 n ∙ r .long;
-        assemblies = rw (le-put-before 1 2 s 0 224 n (omega arith)) (r .assemblies);
-        first = rw (le-put-before 2 2 s 220 224 n (omega arith)) (r .first);
-        events = rw (le-put-before 2 2 s 222 224 n (omega arith)) (r .events);
-        conns = rw (le-put-same 1 s 224 n (omega arith)) h;
+        long = length-put 2 s connectionsAt n ∙ r .long;
+        assemblies = rw (le-put-before 1 2 s 0 connectionsAt n (omega arith)) (r .assemblies);
+        events = rw (le-put-before 4 2 s ringAt connectionsAt n (omega arith)) (r .events);
+        conns = rw (le-put-same 1 s connectionsAt n (omega arith)) h;
       }
 
-  pub ready-events : (n : ℕ) → n ≤ 1024 → Ready (put 2 s 222 n)
-  ready-events n h =
+  pub ready-ring : (v : ℕ) → v < ringBound → Ready (put 4 s ringAt v)
+  ready-ring v h =
       let long = r .long in
       record {
-        long = length-put 2 s 222 n ∙ r .long;
-        assemblies = rw (le-put-before 1 2 s 0 222 n (omega arith)) (r .assemblies);
-        first = rw (le-put-before 2 2 s 220 222 n (omega arith)) (r .first);
-        events = rw (le-put-same 1 s 222 n (omega arith)) h;
-        conns = rw (le-put-after 2 2 s 224 222 n (omega arith)) (r .conns);
-      }
-
-  pub ready-first : (n : ℕ) → n < 1024 → Ready (put 2 s 220 n)
-  ready-first n h =
-      let long = r .long in
-      record {
-        long = length-put 2 s 220 n ∙ r .long;
-        assemblies = rw (le-put-before 1 2 s 0 220 n (omega arith)) (r .assemblies);
-        first = rw (le-put-same 1 s 220 n (omega arith)) h;
-        events = rw (le-put-after 2 2 s 222 220 n (omega arith)) (r .events);
-        conns = rw (le-put-after 2 2 s 224 220 n (omega arith)) (r .conns);
+        long = length-put 4 s ringAt v ∙ r .long;
+        assemblies = rw (le-put-before 1 4 s 0 ringAt v (omega arith)) (r .assemblies);
+        events = rw (le-put-same 3 s ringAt v (omega arith)) (word-fits v h .0);
+        conns = rw (le-put-after 2 4 s connectionsAt ringAt v (omega arith)) (r .conns);
       }
 
   -- a number that bounds nothing: a counter, the next id
-  pub ready-low : (k at v : ℕ) → 192 ≤ at → at + k ≤ 220 → Ready (put k s at v)
+  pub ready-low : (k at v : ℕ) → 192 ≤ at → at + k ≤ ringAt → Ready (put k s at v)
   ready-low k at v h g =
       record {
         long = length-put k s at v ∙ r .long;
         assemblies = rw (le-put-before 1 k s 0 at v (omega arith)) (r .assemblies);
-        first = rw (le-put-after 2 k s 220 at v (omega arith)) (r .first);
-        events = rw (le-put-after 2 k s 222 at v (omega arith)) (r .events);
-        conns = rw (le-put-after 2 k s 224 at v (omega arith)) (r .conns);
-      }
-
-  -- the fault mark
-  pub ready-fault : (v : ℕ) → Ready (put 2 s 226 v)
-  ready-fault v =
-      record {
-        long = length-put 2 s 226 v ∙ r .long;
-        assemblies = rw (le-put-before 1 2 s 0 226 v (omega arith)) (r .assemblies);
-        first = rw (le-put-before 2 2 s 220 226 v (omega arith)) (r .first);
-        events = rw (le-put-before 2 2 s 222 226 v (omega arith)) (r .events);
-        conns = rw (le-put-before 2 2 s 224 226 v (omega arith)) (r .conns);
+        events = rw (le-put-after 4 k s ringAt at v (omega arith)) (r .events);
+        conns = rw (le-put-after 2 k s connectionsAt at v (omega arith)) (r .conns);
       }
 
 -- ---- what a change in place keeps: the bounds, the setup, and a number of connections
@@ -205,89 +189,79 @@ module _ (s : List ℕ) (r : Ready s) where
 pub record Kept (n : ℕ) (s s′ : List ℕ) : Type 0 where
   pub ready : Ready s′
   pub setup : take 192 s′ ≡ take 192 s
-  pub conns : le 2 s′ 224 ≡ n
+  pub conns : connectionsOf s′ ≡ n
 
 pub kept-slotted : (n : ℕ) (s s′ : List ℕ) → Ready s → Kept n s s′ → Slotted s → Slotted s′
 kept-slotted n s s′ r k = slotted-same s s′ (k .setup) (r .assemblies)
 
 -- as many assemblies as before
-pub kept-few : (n : ℕ) (s s′ : List ℕ) → Kept n s s′ → le 1 s′ 0 ≡ le 1 s 0
+pub kept-few : (n : ℕ) (s s′ : List ℕ) → Kept n s s′ → assembliesOf s′ ≡ assembliesOf s
 kept-few n s s′ k = le-same 1 s′ s 0 192 (omega arith) (k .setup)
 
-pub kept-none : (s : List ℕ) → Ready s → Kept (le 2 s 224) s s
+pub kept-none : (s : List ℕ) → Ready s → Kept (connectionsOf s) s s
 kept-none s r = record { ready = r; setup = refl; conns = refl }
 
 module _ (s : List ℕ) (r : Ready s) where
   -- stores behind the head
-  pub kept-sets : (at : ℕ) (bs : List ℕ) → 240 ≤ at → Kept (le 2 s 224) s (sets s at bs)
+  pub kept-sets : (at : ℕ) (bs : List ℕ) → marksAt ≤ at → Kept (connectionsOf s) s (sets s at bs)
   kept-sets at bs h =
       record {
         ready = ready-sets s at bs h r;
         setup = take-sets 192 s at bs (omega arith);
-        conns = conns-same s (sets s at bs) (length-sets s at bs) (take-sets 240 s at bs h);
+        conns = conns-same s (sets s at bs) (length-sets s at bs) (take-sets marksAt s at bs h);
       }
 
   -- the table's region put back, and put back with another count
-  module _ (x : List ℕ) (n : length x ≡ length (midOf 256 2304 s)) where
-    mid-same : (k : ℕ) → k ≤ 256 → take k (putMid 256 2304 s x) ≡ take k s
+  module _ (x : List ℕ) (n : length x ≡ length (midOf tableAt tableSize s)) where
+    mid-same : (k : ℕ) → k ≤ 256 → take k (putMid tableAt tableSize s x) ≡ take k s
     mid-same k h =
         let long = r .long in
-        sym (take-take k 256 (putMid 256 2304 s x) h) ∙ ap (take k) (take-put 256 2304 s x (omega arith)) ∙ take-take k 256 s h
+        sym (take-take k 256 (putMid tableAt tableSize s x) h) ∙ ap (take k) (take-put tableAt tableSize s x (omega arith)) ∙ take-take k 256 s h
 
-    pub kept-table : Kept (le 2 s 224) s (putMid 256 2304 s x)
+    pub kept-table : Kept (connectionsOf s) s (putMid tableAt tableSize s x)
     kept-table =
         record {
-          ready = ready-mid s 256 2304 x (omega arith) (omega arith) n r;
+          ready = ready-mid s tableAt tableSize x (omega arith) (omega arith) n r;
           setup = mid-same 192 (omega arith);
-          conns = conns-same s (putMid 256 2304 s x) (same-len-mid 256 2304 s x n) (mid-same 240 (omega arith));
+          conns = conns-same s (putMid tableAt tableSize s x) (same-len-mid tableAt tableSize s x n) (mid-same marksAt (omega arith));
         }
 
-    pub kept-counted : (m : ℕ) → m ≤ 32 → Kept m s (put 2 (putMid 256 2304 s x) 224 m)
+    pub kept-counted : (m : ℕ) → m ≤ 32 → Kept m s (put 2 (putMid tableAt tableSize s x) connectionsAt m)
     kept-counted m h =
-        let s₁ : List ℕ = putMid 256 2304 s x in
+        let s₁ : List ℕ = putMid tableAt tableSize s x in
         let long = kept-table .ready .long in
         record {
           ready = ready-conns s₁ (kept-table .ready) m h;
-          setup = take-put-le 2 s₁ 224 m 192 (omega arith) ∙ kept-table .setup;
-          conns = le-put-same 1 s₁ 224 m (omega arith);
+          setup = take-put-le 2 s₁ connectionsAt m 192 (omega arith) ∙ kept-table .setup;
+          conns = le-put-same 1 s₁ connectionsAt m (omega arith);
         }
 
   -- one of the head's other numbers
-  pub kept-low : (k at v : ℕ) → 192 ≤ at → at + k ≤ 220 → Kept (le 2 s 224) s (put k s at v)
+  pub kept-low : (k at v : ℕ) → 192 ≤ at → at + k ≤ ringAt → Kept (connectionsOf s) s (put k s at v)
   kept-low k at v h g =
-      record { ready = ready-low s r k at v h g; setup = take-put-le k s at v 192 h; conns = le-put-after 2 k s 224 at v (omega arith) }
+      record { ready = ready-low s r k at v h g; setup = take-put-le k s at v 192 h; conns = le-put-after 2 k s connectionsAt at v (omega arith) }
 
-  pub kept-fault : (v : ℕ) → Kept (le 2 s 224) s (put 2 s 226 v)
-  kept-fault v = record { ready = ready-fault s r v; setup = take-put-le 2 s 226 v 192 (omega arith); conns = le-put-before 2 2 s 224 226 v (omega arith) }
+  -- the ring's word, and an event's record before it
+  pub kept-ring : (v : ℕ) → v < ringBound → Kept (connectionsOf s) s (put 4 s ringAt v)
+  kept-ring v h = record { ready = ready-ring s r v h; setup = take-put-le 4 s ringAt v 192 (omega arith); conns = le-put-after 2 4 s connectionsAt ringAt v (omega arith) }
 
-  -- an event's record, and then the count or the first slot
-  pub kept-room : (at : ℕ) (bs : List ℕ) (v : ℕ) → 240 ≤ at → v ≤ 1024 → Kept (le 2 s 224) s (put 2 (sets s at bs) 222 v)
-  kept-room at bs v h g =
+  pub kept-pushed : (at : ℕ) (bs : List ℕ) (v : ℕ) → marksAt ≤ at → v < ringBound → Kept (connectionsOf s) s (put 4 (sets s at bs) ringAt v)
+  kept-pushed at bs v h g =
       let k = kept-sets at bs h in
       let s₁ : List ℕ = sets s at bs in
       record {
-        ready = ready-events s₁ (k .ready) v g;
-        setup = take-put-le 2 s₁ 222 v 192 (omega arith) ∙ k .setup;
-        conns = le-put-after 2 2 s₁ 224 222 v (omega arith) ∙ k .conns;
-      }
-
-  pub kept-full : (at : ℕ) (bs : List ℕ) (v : ℕ) → 240 ≤ at → v < 1024 → Kept (le 2 s 224) s (put 2 (sets s at bs) 220 v)
-  kept-full at bs v h g =
-      let k = kept-sets at bs h in
-      let s₁ : List ℕ = sets s at bs in
-      record {
-        ready = ready-first s₁ (k .ready) v g;
-        setup = take-put-le 2 s₁ 220 v 192 (omega arith) ∙ k .setup;
-        conns = le-put-after 2 2 s₁ 224 220 v (omega arith) ∙ k .conns;
+        ready = ready-ring s₁ (k .ready) v g;
+        setup = take-put-le 4 s₁ ringAt v 192 (omega arith) ∙ k .setup;
+        conns = le-put-after 2 4 s₁ connectionsAt ringAt v (omega arith) ∙ k .conns;
       }
 
   -- a number behind the head
-  pub kept-put : (k at v : ℕ) → 240 ≤ at → Kept (le 2 s 224) s (put k s at v)
+  pub kept-put : (k at v : ℕ) → marksAt ≤ at → Kept (connectionsOf s) s (put k s at v)
   unfolding put
   kept-put k at v h = kept-sets at (bytesLe k v) h
 
   -- the three counters
-  pub kept-counters : (p q m : ℕ) → Kept (le 2 s 224) s (put 8 (put 8 (put 8 s 192 p) 200 q) 208 m)
+  pub kept-counters : (p q m : ℕ) → Kept (connectionsOf s) s (put 8 (put 8 (put 8 s 192 p) 200 q) 208 m)
   kept-counters p q m =
       let k₁ = kept-low 8 192 p (omega arith) (omega arith) in
       let s₁ : List ℕ = put 8 s 192 p in
@@ -296,7 +270,7 @@ module _ (s : List ℕ) (r : Ready s) where
       record {
         ready = ready-low s₂ r₂ 8 208 m (omega arith) (omega arith);
         setup = take-put-le 8 s₂ 208 m 192 (omega arith) ∙ take-put-le 8 s₁ 200 q 192 (omega arith) ∙ k₁ .setup;
-        conns = le-put-after 2 8 s₂ 224 208 m (omega arith) ∙ le-put-after 2 8 s₁ 224 200 q (omega arith) ∙ k₁ .conns;
+        conns = le-put-after 2 8 s₂ connectionsAt 208 m (omega arith) ∙ le-put-after 2 8 s₁ connectionsAt 200 q (omega arith) ∙ k₁ .conns;
       }
 
 -- a bool that code takes as a number

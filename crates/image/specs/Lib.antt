@@ -1,4 +1,5 @@
 pub mod Image
+pub mod RowsFit
 pub mod Fits
 pub mod Contents
 pub mod StoreLaws
@@ -12,4 +13,3 @@ pub mod Holds
 pub mod Kept
 pub mod Changes
 pub mod Lift
-pub mod Searches

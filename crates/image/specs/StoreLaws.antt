@@ -1,32 +1,34 @@
 -- A stored state: the sizes of its regions, its regions, and its numbers.
-use Prim.Native.Nat.{ℕ, _+_, _*_, _-_, _≤_}
+use Prim.Native.Nat.{ℕ, _+_, _*_, _-_, _/_, _%_, _≤_, _<_}
 use mathlib.Core.List.{List, [], _++_, append-assoc, map}
 use mathlib.Core.Path.{_≡_, ap, ap₂, sym, _∙_}
 use native.Mathlib.Omega.{arith}
 use lib.Dec.{T}
 use lib.ListN.{length, getD, take, drop, length-append, length-drop, length-map, List·getD-map}
-use lib.Seq.{length-take-le}
+use lib.Seq.{length-take-le, getD-drop, getD-take}
 use borrow.Rule.Slice.PartMut.{midOf}
-use Rattle.cells.specs.Numbers.{le}
+use Rattle.cells.specs.Numbers.{le, le-1}
 use Rattle.cells.specs.Records.{encFields, decFields, ofBool, sum, Laid, dec-enc, length-encFields}
 use Rattle.tables.specs.Store.{length-storeRows}
 use Rattle.tables.specs.Ring.{length-ring}
-use Rattle.tables.specs.Slots.{Short, length-storeSlots, length-fill}
+use Rattle.tables.specs.Slots.{Short, length-storeSlots}
 use Rattle.tables.specs.Regions.{joined, Sized, none, one, start, length-joined, region-at}
 use Rattle.rules.specs.State.{Setup, State, noContent, shapeAt, contentAt}
-use Rattle.layout.specs.Places.{widths, setupIn, headIn, wHead, marksIn, tableIn, ringIn, dataIn, edsIn}
+use Rattle.layout.specs.Places.{widths, setupIn, headIn, wHead, marksIn, tableIn, ringIn, dataIn, edsIn, marksAt, tableAt, tableSize, eventsAt, eventsSize, dataFrom, dataSize, edsAt, stateSize, rowSize, headUsed, nextIdOf, ringWordOf, firstOf, waitingOf, connectionsOf, faultOf, producedOf, lateOf, maxLateOf, markAt, assembliesOf}
 use Rattle.layout.specs.Setups.{setupOf, setupFrom}
 use Rattle.layout.specs.Rows.{encConn}
 use Rattle.layout.specs.RowLaws.{length-encConn}
-use Rattle.image.specs.Image.{listHead, markOf, bytesOf, record32, headOf, marksOf, tableOf, eventsOf, dataOf, regionsOf, store}
+use Rattle.layout.specs.Bits.{wordOf, waiting-of-word, first-of-word, fault-of-word}
+use Rattle.image.specs.Image.{listHead, bytesOf, record32, headOf, marksOf, tableOf, eventsOf, dataOf, regionsOf, store}
 use Rattle.image.specs.Fits.{Suits, few-assemblies, length-assemblies, size-short}
+use Rattle.image.specs.Contents.{length-marksOver}
 
 -- a region of a buffer that is long enough
 pub mid-long : (a k : ℕ) (l : List ℕ) → a + k ≤ length l → length (midOf a k l) ≡ k
 mid-long a k l h = length-take-le k (drop a l) (rw length-drop (omega arith))
 
 -- the regions of a buffer of the whole size
-module _ (l : List ℕ) (long : length l ≡ 109056) where
+module _ (l : List ℕ) (long : length l ≡ stateSize) where
   pub length-setupIn : length (setupIn l) ≡ 192
   length-setupIn = mid-long 0 192 l (omega arith)
 
@@ -34,28 +36,28 @@ module _ (l : List ℕ) (long : length l ≡ 109056) where
   length-headIn = mid-long 192 48 l (omega arith)
 
   pub length-marksIn : length (marksIn l) ≡ 16
-  length-marksIn = mid-long 240 16 l (omega arith)
+  length-marksIn = mid-long marksAt 16 l (omega arith)
 
-  pub length-tableIn : length (tableIn l) ≡ 2304
-  length-tableIn = mid-long 256 2304 l (omega arith)
+  pub length-tableIn : length (tableIn l) ≡ tableSize
+  length-tableIn = mid-long tableAt tableSize l (omega arith)
 
-  pub length-ringIn : length (ringIn l) ≡ 32768
-  length-ringIn = mid-long 2560 32768 l (omega arith)
+  pub length-ringIn : length (ringIn l) ≡ eventsSize
+  length-ringIn = mid-long eventsAt eventsSize l (omega arith)
 
-  pub length-dataIn : length (dataIn l) ≡ 8192
-  length-dataIn = mid-long 35328 8192 l (omega arith)
+  pub length-dataIn : length (dataIn l) ≡ dataSize
+  length-dataIn = mid-long dataFrom dataSize l (omega arith)
 
   pub length-edsIn : length (edsIn l) ≡ 65536
-  length-edsIn = mid-long 43520 65536 l (omega arith)
+  length-edsIn = mid-long edsAt 65536 l (omega arith)
 
 -- any numbers in the head
-pub length-head : (vs l : List ℕ) → length l ≡ 109056 → T (Laid wHead vs) → length (encFields wHead vs ++ drop 36 (headIn l)) ≡ 48
+pub length-head : (vs l : List ℕ) → length l ≡ stateSize → T (Laid wHead vs) → length (encFields wHead vs ++ drop headUsed (headIn l)) ≡ 48
 unfolding sum
 length-head vs l long t =
     let a = length-headIn l long in
-    let b : length (drop 36 (headIn l)) ≡ 12 = length-drop 36 (headIn l) ∙ omega arith in
-    let c : length (encFields wHead vs) ≡ 36 = length-encFields wHead vs t in
-    length-append (encFields wHead vs) (drop 36 (headIn l)) ∙ omega arith
+    let b : length (drop headUsed (headIn l)) ≡ 14 = length-drop headUsed (headIn l) ∙ omega arith in
+    let c : length (encFields wHead vs) ≡ headUsed = length-encFields wHead vs t in
+    length-append (encFields wHead vs) (drop headUsed (headIn l)) ∙ omega arith
 
 -- a slot of a region
 pub slot-long : (r : List ℕ) (i size : ℕ) → i * size + size ≤ length r → length (take size (drop (i * size) r)) ≡ size
@@ -65,7 +67,7 @@ module _ (st : State) (l : List ℕ) (w : Suits st l) where
   -- at most 16 assemblies, each in its slot
   pub few-contents : length (st .contents) ≤ 16
   few-contents =
-      let a : length (st .setup .assemblies) ≡ le 1 (setupIn l) 0 = ap (λ (u : Setup). length (u .assemblies)) (w .setup) ∙ length-assemblies l in
+      let a : length (st .setup .assemblies) ≡ assembliesOf (setupIn l) = ap (λ (u : Setup). length (u .assemblies)) (w .setup) ∙ length-assemblies l in
       let b = few-assemblies (setupIn l) (w .lent .sound) in let c = w .fits .contents in omega arith
 
   pub content-short : (i : ℕ) → length (contentAt st i .bytes) ≤ 512
@@ -87,20 +89,20 @@ module _ (st : State) (l : List ℕ) (w : Suits st l) where
   pub length-marksOf : length (marksOf st l) ≡ 16
   unfolding marksOf
   length-marksOf =
-      let a = length-marksIn l (w .lent .long) in let m = length-map (st .contents) markOf in let b = few-contents in
-      length-fill (map markOf (st .contents)) (marksIn l) (omega arith) ∙ a
+      let a = length-marksIn l (w .lent .long) in let b = few-contents in
+      length-marksOver (st .contents) (marksIn l) (omega arith) ∙ a
 
-  pub length-tableOf : length (tableOf st l) ≡ 2304
+  pub length-tableOf : length (tableOf st l) ≡ tableSize
   unfolding tableOf
   length-tableOf =
       let n = length-tableIn l (w .lent .long) in let a = w .fits .table in let b = w .lent .conns in
-      length-storeRows 70 encConn length-encConn (le 2 l 224) (st .table) (tableIn l) (omega arith) (omega arith) ∙ n
+      length-storeRows rowSize encConn length-encConn (connectionsOf l) (st .table) (tableIn l) (omega arith) (omega arith) ∙ n
 
-  pub length-eventsOf : length (eventsOf st l) ≡ 32768
+  pub length-eventsOf : length (eventsOf st l) ≡ eventsSize
   unfolding eventsOf
   length-eventsOf = length-ring 32 record32 (st .events .gone) (st .events .waiting) (ringIn l) ∙ length-ringIn l (w .lent .long)
 
-  pub length-dataOf : length (dataOf st l) ≡ 8192
+  pub length-dataOf : length (dataOf st l) ≡ dataSize
   unfolding dataOf
   length-dataOf = length-storeSlots (map bytesOf (st .contents)) (dataIn l) short-bytes room ∙ length-dataIn l (w .lent .long)
 
@@ -109,7 +111,7 @@ module _ (st : State) (l : List ℕ) (w : Suits st l) where
       let n = w .lent .long in
       one (length-setupIn l n) (one length-headOf (one length-marksOf (one length-tableOf (one length-eventsOf (one length-dataOf (one (length-edsIn l n) none))))))
 
-  pub length-store : length (store st l) ≡ 109056
+  pub length-store : length (store st l) ≡ stateSize
   unfolding store sum
   length-store = length-joined sized
 
@@ -148,36 +150,47 @@ module _ (st : State) (l : List ℕ) (w : Suits st l) where
   unfolding store joined headOf
   head-of-store =
       let e : List ℕ = encFields wHead (listHead st) in
-      let p : List ℕ = drop 36 (headIn l) in
+      let p : List ℕ = drop headUsed (headIn l) in
       let q : List ℕ = marksOf st l ++ (tableOf st l ++ (eventsOf st l ++ (dataOf st l ++ (edsIn l ++ [])))) in
       ap (λ (z : List ℕ). decFields wHead (setupIn l ++ z) 192) (append-assoc e p q)
       ∙ dec-enc wHead (listHead st) tt (setupIn l) (p ++ q) 192 (length-setupIn l (w .lent .long))
 
-  pub produced-is : le 8 (store st l) 192 ≡ st .counters .produced
+  pub produced-is : producedOf (store st l) ≡ st .counters .produced
   produced-is = ap (λ (vs : List ℕ). getD vs 0 0) head-of-store
 
-  pub late-is : le 8 (store st l) 200 ≡ st .counters .late
+  pub late-is : lateOf (store st l) ≡ st .counters .late
   late-is = ap (λ (vs : List ℕ). getD vs 1 0) head-of-store
 
-  pub maxLate-is : le 8 (store st l) 208 ≡ st .counters .maxLate
+  pub maxLate-is : maxLateOf (store st l) ≡ st .counters .maxLate
   maxLate-is = ap (λ (vs : List ℕ). getD vs 2 0) head-of-store
 
-  pub nextId-is : le 4 (store st l) 216 ≡ st .nextId
+  pub nextId-is : nextIdOf (store st l) ≡ st .nextId
   nextId-is = ap (λ (vs : List ℕ). getD vs 3 0) head-of-store
 
-  pub gone-is : le 2 (store st l) 220 ≡ st .events .gone
-  gone-is = ap (λ (vs : List ℕ). getD vs 4 0) head-of-store
+  pub word-is : ringWordOf (store st l) ≡ wordOf (length (st .events .waiting)) (st .events .gone) (st .fault)
+  word-is = ap (λ (vs : List ℕ). getD vs 4 0) head-of-store
 
-  pub waiting-is : le 2 (store st l) 222 ≡ length (st .events .waiting)
-  waiting-is = ap (λ (vs : List ℕ). getD vs 5 0) head-of-store
+  pub gone-is : firstOf (store st l) ≡ st .events .gone
+  gone-is = ap (λ (v : ℕ). v / 2 % 1024) word-is ∙ first-of-word (length (st .events .waiting)) (st .events .gone) (st .fault) (w .fits .gone)
 
-  pub conns-is : le 2 (store st l) 224 ≡ length (st .table)
-  conns-is = ap (λ (vs : List ℕ). getD vs 6 0) head-of-store
+  pub waiting-is : waitingOf (store st l) ≡ length (st .events .waiting)
+  waiting-is = ap (λ (v : ℕ). v / 2048) word-is ∙ waiting-of-word (length (st .events .waiting)) (st .events .gone) (st .fault) (w .fits .gone)
 
-  pub fault-is : le 2 (store st l) 226 ≡ ofBool (st .fault)
-  fault-is = ap (λ (vs : List ℕ). getD vs 7 0) head-of-store
+  pub fault-is : faultOf (store st l) ≡ ofBool (st .fault)
+  fault-is = ap (λ (v : ℕ). v % 2) word-is ∙ fault-of-word (length (st .events .waiting)) (st .events .gone) (st .fault) (w .fits .gone)
+
+  pub conns-is : connectionsOf (store st l) ≡ length (st .table)
+  conns-is = ap (λ (vs : List ℕ). getD vs 5 0) head-of-store
+
+  -- ---- a mark
+  pub mark-is : (i : ℕ) → i < 16 → markAt (store st l) i ≡ getD (marksOf st l) i 0
+  mark-is i h =
+      le-1 (store st l) (marksAt + i)
+      ∙ sym (getD-drop marksAt (store st l) i 0)
+      ∙ sym (getD-take 16 (drop marksAt (store st l)) i 0 h)
+      ∙ ap (λ (z : List ℕ). getD z i 0) marks-of-store
 
   pub assemblies-is : le 1 (setupIn (store st l)) 0 ≡ length (st .contents)
   assemblies-is =
-      ap (λ (r : List ℕ). le 1 r 0) setup-of-store
+      ap (λ (r : List ℕ). assembliesOf r) setup-of-store
       ∙ sym (w .fits .contents ∙ ap (λ (u : Setup). length (u .assemblies)) (w .setup) ∙ length-assemblies l)

@@ -9,7 +9,7 @@ use lib.ListN.{length, getD, drop, set, length-append, length-set}
 use lib.Seq.{sets, length-sets}
 use borrow.Rule.Slice.PartMut.{putMid}
 use Rattle.cells.specs.Numbers.{le, put, bytesLe, length-bytesLe, sets-left}
-use Rattle.cells.specs.Records.{encFields, ofBool, sum, offset, Laid, length-encFields}
+use Rattle.cells.specs.Records.{encFields, sum, offset, Laid, length-encFields}
 use Rattle.tables.specs.Tables.{without}
 use Rattle.tables.specs.Store.{storeRows-set, row-stored}
 use Rattle.tables.specs.Grow.{storeRows-push, storeRows-cut}
@@ -20,10 +20,11 @@ use Rattle.rules.specs.State.{State, withTable, withFault, withNextId, withCoun
 use Rattle.rules.specs.declared.Conn.{Conn}
 use Rattle.rules.specs.declared.Heard.{Heard}
 use Rattle.rules.specs.declared.Sent.{Sent}
-use Rattle.layout.specs.Places.{widths, setupIn, headIn, wHead, tableIn, edsIn}
-use Rattle.layout.specs.Rows.{encConn, encHeard, encSent, roleOf, flagsOf, decConn}
+use Rattle.layout.specs.Places.{widths, setupIn, headIn, wHead, tableIn, edsIn, tableAt, tableSize, rowSize, headUsed, nextIdAt, ringAt, connectionsAt, connectionsOf}
+use Rattle.layout.specs.Rows.{encConn, encHeard, encSent, carriedOf, flagsOf, decConn}
 use Rattle.layout.specs.RowLaws.{length-encConn, length-encHeard, length-encSent, enc-heard, enc-sent, flags-stored, in-row, bit-small}
 use Rattle.layout.specs.Cut.{cut, length-cut}
+use Rattle.layout.specs.Bits.{wordOf}
 use Rattle.image.specs.Image.{listHead, headOf, marksOf, tableOf, eventsOf, dataOf, regionsOf, store}
 use Rattle.image.specs.Fits.{Suits}
 use Rattle.image.specs.StoreLaws.{sized, table-of-store, length-tableIn, length-tableOf}
@@ -49,13 +50,13 @@ fewer (x ∷ xs) (suc i) h = let e = fewer xs i (omega arith) in omega arith
 
 -- one number of the head
 pub head-put : (rs : List (List ℕ)) (vs p : List ℕ) → Sized widths rs → getD rs 1 [] ≡ encFields wHead vs ++ p → T (Laid wHead vs)
-    → (k v : ℕ) → k < 8 → offset wHead k + getD wHead k 0 ≤ 36
+    → (k v : ℕ) → k < 6 → offset wHead k + getD wHead k 0 ≤ headUsed
     → put (getD wHead k 0) (joined rs) (192 + offset wHead k) v ≡ joined (set rs 1 (encFields wHead (set vs k v) ++ p))
 unfolding put start sum
 head-put rs vs p z e t k v h b =
     let bs : List ℕ = bytesLe (getD wHead k 0) v in
     let n : length bs ≡ getD wHead k 0 = length-bytesLe (getD wHead k 0) v in
-    let m : length (encFields wHead vs) ≡ 36 = length-encFields wHead vs t in
+    let m : length (encFields wHead vs) ≡ headUsed = length-encFields wHead vs t in
     region-sets 1 (offset wHead k) bs z (omega arith) (omega arith)
     ∙ ap (λ (x : List ℕ). joined (set rs 1 x))
     (ap (λ (x : List ℕ). sets x (offset wHead k) bs) e
@@ -67,123 +68,124 @@ module _ (st : State) (l : List ℕ) (w : Suits st l) where
 
   pub produced-stored : (v : ℕ) → put 8 (store st l) 192 v ≡ store (withCounters (record { produced = v; late = st .counters .late; maxLate = st .counters .maxLate }) st) l
   unfolding store headOf marksOf tableOf eventsOf dataOf offset
-  produced-stored v = head-put (regionsOf st l) (listHead st) (drop 36 (headIn l)) (sized st l w) refl tt 0 v (omega arith) (omega arith)
+  produced-stored v = head-put (regionsOf st l) (listHead st) (drop headUsed (headIn l)) (sized st l w) refl tt 0 v (omega arith) (omega arith)
 
   pub late-stored : (v : ℕ) → put 8 (store st l) 200 v ≡ store (withCounters (record { produced = st .counters .produced; late = v; maxLate = st .counters .maxLate }) st) l
   unfolding store headOf marksOf tableOf eventsOf dataOf offset
-  late-stored v = head-put (regionsOf st l) (listHead st) (drop 36 (headIn l)) (sized st l w) refl tt 1 v (omega arith) (omega arith)
+  late-stored v = head-put (regionsOf st l) (listHead st) (drop headUsed (headIn l)) (sized st l w) refl tt 1 v (omega arith) (omega arith)
 
   pub maxLate-stored : (v : ℕ) → put 8 (store st l) 208 v ≡ store (withCounters (record { produced = st .counters .produced; late = st .counters .late; maxLate = v }) st) l
   unfolding store headOf marksOf tableOf eventsOf dataOf offset
-  maxLate-stored v = head-put (regionsOf st l) (listHead st) (drop 36 (headIn l)) (sized st l w) refl tt 2 v (omega arith) (omega arith)
+  maxLate-stored v = head-put (regionsOf st l) (listHead st) (drop headUsed (headIn l)) (sized st l w) refl tt 2 v (omega arith) (omega arith)
 
-  pub nextId-stored : (v : ℕ) → put 4 (store st l) 216 v ≡ store (withNextId v st) l
+  pub nextId-stored : (v : ℕ) → put 4 (store st l) nextIdAt v ≡ store (withNextId v st) l
   unfolding store headOf marksOf tableOf eventsOf dataOf offset
-  nextId-stored v = head-put (regionsOf st l) (listHead st) (drop 36 (headIn l)) (sized st l w) refl tt 3 v (omega arith) (omega arith)
+  nextId-stored v = head-put (regionsOf st l) (listHead st) (drop headUsed (headIn l)) (sized st l w) refl tt 3 v (omega arith) (omega arith)
 
-  pub fault-stored : (b : Bool) → put 2 (store st l) 226 (ofBool b) ≡ store (withFault b st) l
+  pub fault-stored : (b : Bool) → put 4 (store st l) ringAt (wordOf (length (st .events .waiting)) (st .events .gone) b) ≡ store (withFault b st) l
   unfolding store headOf marksOf tableOf eventsOf dataOf offset
-  fault-stored b = head-put (regionsOf st l) (listHead st) (drop 36 (headIn l)) (sized st l w) refl tt 7 (ofBool b) (omega arith) (omega arith)
+  fault-stored b =
+      head-put (regionsOf st l) (listHead st) (drop headUsed (headIn l)) (sized st l w) refl tt 4 (wordOf (length (st .events .waiting)) (st .events .gone) b) (omega arith) (omega arith)
 
   -- ---- a row of the table
 
   -- the table's region put back with other bytes, of as many rows
   table-changed : (x : List ℕ) (cs : List Conn) → length cs ≡ length (st .table) → x ≡ tableOf (withTable cs st) l
-      → putMid 256 2304 (store st l) x ≡ store (withTable cs st) l
+      → putMid tableAt tableSize (store st l) x ≡ store (withTable cs st) l
   unfolding store headOf marksOf tableOf eventsOf dataOf start
   table-changed x cs n e =
       region-put 3 x (sized st l w) (omega arith)
-      ∙ (λ j. joined (setupIn l ∷ (encFields wHead (set (listHead st) 6 (sym n j)) ++ drop 36 (headIn l)) ∷ marksOf st l ∷ e j ∷ eventsOf st l ∷ dataOf st l ∷ edsIn l ∷ []))
+      ∙ (λ j. joined (setupIn l ∷ (encFields wHead (set (listHead st) 5 (sym n j)) ++ drop headUsed (headIn l)) ∷ marksOf st l ∷ e j ∷ eventsOf st l ∷ dataOf st l ∷ edsIn l ∷ []))
 
-  -- the role that stands in a row's flags
-  pub role-stored : (i : ℕ) → i < length (st .table) → le 1 (tableOf st l) (i * 70 + 28) / 4 ≡ roleOf (getD (st .table) i noConn .fixed)
+  -- multicast and the input, which stand in a row's flags
+  pub carried-stored : (i : ℕ) → i < length (st .table) → le 1 (tableOf st l) (i * rowSize + 28) / 4 ≡ carriedOf (getD (st .table) i noConn .fixed)
   unfolding tableOf
-  role-stored i p =
+  carried-stored i p =
       let c : Conn = getD (st .table) i noConn in
       let a = bit-small (c .heard .any) in let b = bit-small (c .heard .anycip) in
-      let e : le 1 (tableOf st l) (i * 70 + 28) ≡ flagsOf (roleOf (c .fixed)) (c .heard) =
-      sym (in-row 1 70 28 (tableOf st l) (i * 70) (omega arith))
-      ∙ ap (λ (z : List ℕ). le 1 z 28) (row-stored 70 encConn length-encConn (le 2 l 224) (st .table) (tableIn l) i noConn p)
+      let e : le 1 (tableOf st l) (i * rowSize + 28) ≡ flagsOf (carriedOf (c .fixed)) (c .heard) =
+      sym (in-row 1 rowSize 28 (tableOf st l) (i * rowSize) (omega arith))
+      ∙ ap (λ (z : List ℕ). le 1 z 28) (row-stored rowSize encConn length-encConn (connectionsOf l) (st .table) (tableIn l) i noConn p)
       ∙ flags-stored c in
       omega arith
 
   heard-row : (i : ℕ) (h : Heard) → i < length (st .table)
-      → sets (tableOf st l) (i * 70 + 14) (encHeard (roleOf (getD (st .table) i noConn .fixed)) h)
+      → sets (tableOf st l) (i * rowSize + 14) (encHeard (carriedOf (getD (st .table) i noConn .fixed)) h)
       ≡ tableOf (withTable (set (st .table) i (withHeard h (getD (st .table) i noConn))) st) l
   unfolding tableOf
   heard-row i h p =
       let c : Conn = getD (st .table) i noConn in
-      storeRows-set 70 encConn length-encConn (le 2 l 224) (st .table) (tableIn l) i 14 (encHeard (roleOf (c .fixed)) h) (withHeard h c) noConn p
-      (let e = length-encHeard (roleOf (c .fixed)) h in omega arith) (enc-heard c h)
+      storeRows-set rowSize encConn length-encConn (connectionsOf l) (st .table) (tableIn l) i 14 (encHeard (carriedOf (c .fixed)) h) (withHeard h c) noConn p
+      (let e = length-encHeard (carriedOf (c .fixed)) h in omega arith) (enc-heard c h)
 
   pub heard-stored : (i : ℕ) (h : Heard) → i < length (st .table)
-      → putMid 256 2304 (store st l) (sets (tableIn (store st l)) (i * 70 + 14) (encHeard (le 1 (tableIn (store st l)) (i * 70 + 28) / 4) h))
+      → putMid tableAt tableSize (store st l) (sets (tableIn (store st l)) (i * rowSize + 14) (encHeard (le 1 (tableIn (store st l)) (i * rowSize + 28) / 4) h))
       ≡ store (withTable (set (st .table) i (withHeard h (getD (st .table) i noConn))) st) l
   heard-stored i h p =
       let c : Conn = getD (st .table) i noConn in
-      ap (λ (z : List ℕ). putMid 256 2304 (store st l) (sets z (i * 70 + 14) (encHeard (le 1 z (i * 70 + 28) / 4) h))) (table-of-store st l w)
-      ∙ ap (λ (n : ℕ). putMid 256 2304 (store st l) (sets (tableOf st l) (i * 70 + 14) (encHeard n h))) (role-stored i p)
-      ∙ table-changed (sets (tableOf st l) (i * 70 + 14) (encHeard (roleOf (c .fixed)) h)) (set (st .table) i (withHeard h c))
+      ap (λ (z : List ℕ). putMid tableAt tableSize (store st l) (sets z (i * rowSize + 14) (encHeard (le 1 z (i * rowSize + 28) / 4) h))) (table-of-store st l w)
+      ∙ ap (λ (n : ℕ). putMid tableAt tableSize (store st l) (sets (tableOf st l) (i * rowSize + 14) (encHeard n h))) (carried-stored i p)
+      ∙ table-changed (sets (tableOf st l) (i * rowSize + 14) (encHeard (carriedOf (c .fixed)) h)) (set (st .table) i (withHeard h c))
       (length-set (st .table) i (withHeard h c)) (heard-row i h p)
 
   sent-row : (i : ℕ) (x : Sent) → i < length (st .table)
-      → sets (tableOf st l) (i * 70 + 0) (encSent x) ≡ tableOf (withTable (set (st .table) i (withSent x (getD (st .table) i noConn))) st) l
+      → sets (tableOf st l) (i * rowSize + 0) (encSent x) ≡ tableOf (withTable (set (st .table) i (withSent x (getD (st .table) i noConn))) st) l
   unfolding tableOf
   sent-row i x p =
       let c : Conn = getD (st .table) i noConn in
-      storeRows-set 70 encConn length-encConn (le 2 l 224) (st .table) (tableIn l) i 0 (encSent x) (withSent x c) noConn p
+      storeRows-set rowSize encConn length-encConn (connectionsOf l) (st .table) (tableIn l) i 0 (encSent x) (withSent x c) noConn p
       (let e = length-encSent x in omega arith) (enc-sent c x)
 
   pub sent-stored : (i : ℕ) (x : Sent) → i < length (st .table)
-      → putMid 256 2304 (store st l) (sets (tableIn (store st l)) (i * 70 + 0) (encSent x))
+      → putMid tableAt tableSize (store st l) (sets (tableIn (store st l)) (i * rowSize + 0) (encSent x))
       ≡ store (withTable (set (st .table) i (withSent x (getD (st .table) i noConn))) st) l
   sent-stored i x p =
       let c : Conn = getD (st .table) i noConn in
-      ap (λ (z : List ℕ). putMid 256 2304 (store st l) (sets z (i * 70 + 0) (encSent x))) (table-of-store st l w)
-      ∙ table-changed (sets (tableOf st l) (i * 70 + 0) (encSent x)) (set (st .table) i (withSent x c)) (length-set (st .table) i (withSent x c)) (sent-row i x p)
+      ap (λ (z : List ℕ). putMid tableAt tableSize (store st l) (sets z (i * rowSize + 0) (encSent x))) (table-of-store st l w)
+      ∙ table-changed (sets (tableOf st l) (i * rowSize + 0) (encSent x)) (set (st .table) i (withSent x c)) (length-set (st .table) i (withSent x c)) (sent-row i x p)
 
   -- ---- a row more, and a row less: the table's region put back, then the count
 
-  table-counted : (x : List ℕ) (n : ℕ) (cs : List Conn) → n ≡ length cs → x ≡ tableOf (withTable cs st) l → length x ≡ 2304
-      → put 2 (putMid 256 2304 (store st l) x) 224 n ≡ store (withTable cs st) l
+  table-counted : (x : List ℕ) (n : ℕ) (cs : List Conn) → n ≡ length cs → x ≡ tableOf (withTable cs st) l → length x ≡ tableSize
+      → put 2 (putMid tableAt tableSize (store st l) x) connectionsAt n ≡ store (withTable cs st) l
   unfolding store headOf marksOf tableOf eventsOf dataOf start offset
   table-counted x n cs en ex lx =
       let z : Sized widths (set (regionsOf st l) 3 x) = sized-set 3 x (sized st l w) lx in
-      ap (λ (s : List ℕ). put 2 s 224 n) (region-put 3 x (sized st l w) (omega arith))
-      ∙ head-put (set (regionsOf st l) 3 x) (listHead st) (drop 36 (headIn l)) z refl tt 6 n (omega arith) (omega arith)
-      ∙ (λ j. joined (setupIn l ∷ (encFields wHead (set (listHead st) 6 (en j)) ++ drop 36 (headIn l)) ∷ marksOf st l ∷ ex j ∷ eventsOf st l ∷ dataOf st l ∷ edsIn l ∷ []))
+      ap (λ (s : List ℕ). put 2 s connectionsAt n) (region-put 3 x (sized st l w) (omega arith))
+      ∙ head-put (set (regionsOf st l) 3 x) (listHead st) (drop headUsed (headIn l)) z refl tt 5 n (omega arith) (omega arith)
+      ∙ (λ j. joined (setupIn l ∷ (encFields wHead (set (listHead st) 5 (en j)) ++ drop headUsed (headIn l)) ∷ marksOf st l ∷ ex j ∷ eventsOf st l ∷ dataOf st l ∷ edsIn l ∷ []))
 
   appended-row : (c : Conn) → length (st .table) < 32
-      → sets (tableOf st l) (length (st .table) * 70 + 0) (encConn c) ≡ tableOf (withTable (st .table ++ (c ∷ [])) st) l
+      → sets (tableOf st l) (length (st .table) * rowSize + 0) (encConn c) ≡ tableOf (withTable (st .table ++ (c ∷ [])) st) l
   unfolding tableOf
   appended-row c p =
       let n = length-tableIn l (w .lent .long) in
-      ap (λ (k : ℕ). sets (tableOf st l) k (encConn c)) (let q : length (st .table) * 70 + 0 ≡ length (st .table) * 70 = omega arith in q)
-      ∙ storeRows-push 70 encConn length-encConn (le 2 l 224) (st .table) c (tableIn l) (omega arith)
+      ap (λ (k : ℕ). sets (tableOf st l) k (encConn c)) (let q : length (st .table) * rowSize + 0 ≡ length (st .table) * rowSize = omega arith in q)
+      ∙ storeRows-push rowSize encConn length-encConn (connectionsOf l) (st .table) c (tableIn l) (omega arith)
 
   pub appended-stored : (c : Conn) → length (st .table) < 32
-      → put 2 (putMid 256 2304 (store st l) (sets (tableIn (store st l)) (length (st .table) * 70 + 0) (encConn c))) 224 (length (st .table) + 1)
+      → put 2 (putMid tableAt tableSize (store st l) (sets (tableIn (store st l)) (length (st .table) * rowSize + 0) (encConn c))) connectionsAt (length (st .table) + 1)
       ≡ store (withTable (st .table ++ (c ∷ [])) st) l
   appended-stored c p =
       let n : ℕ = length (st .table) in
-      let x : List ℕ = sets (tableOf st l) (n * 70 + 0) (encConn c) in
-      ap (λ (z : List ℕ). put 2 (putMid 256 2304 (store st l) (sets z (n * 70 + 0) (encConn c))) 224 (n + 1)) (table-of-store st l w)
+      let x : List ℕ = sets (tableOf st l) (n * rowSize + 0) (encConn c) in
+      ap (λ (z : List ℕ). put 2 (putMid tableAt tableSize (store st l) (sets z (n * rowSize + 0) (encConn c))) connectionsAt (n + 1)) (table-of-store st l w)
       ∙ table-counted x (n + 1) (st .table ++ (c ∷ [])) (sym (length-append (st .table) (c ∷ []))) (appended-row c p)
-      (length-sets (tableOf st l) (n * 70 + 0) (encConn c) ∙ length-tableOf st l w)
+      (length-sets (tableOf st l) (n * rowSize + 0) (encConn c) ∙ length-tableOf st l w)
 
-  removed-rows : (i : ℕ) → i < length (st .table) → length (st .table) ≤ le 2 l 224
+  removed-rows : (i : ℕ) → i < length (st .table) → length (st .table) ≤ connectionsOf l
       → cut (length (st .table)) i (tableOf st l) ≡ tableOf (withTable (without (st .table) i) st) l
   unfolding tableOf cut
-  removed-rows i p h = storeRows-cut 70 encConn length-encConn (le 2 l 224) (st .table) (tableIn l) i p h
+  removed-rows i p h = storeRows-cut rowSize encConn length-encConn (connectionsOf l) (st .table) (tableIn l) i p h
 
-  pub removed-stored : (i : ℕ) → i < length (st .table) → length (st .table) ≤ le 2 l 224
-      → put 2 (putMid 256 2304 (store st l) (cut (length (st .table)) i (tableIn (store st l)))) 224 (length (st .table) - 1)
+  pub removed-stored : (i : ℕ) → i < length (st .table) → length (st .table) ≤ connectionsOf l
+      → put 2 (putMid tableAt tableSize (store st l) (cut (length (st .table)) i (tableIn (store st l)))) connectionsAt (length (st .table) - 1)
       ≡ store (withTable (without (st .table) i) st) l
   removed-stored i p h =
       let n : ℕ = length (st .table) in
       let x : List ℕ = cut n i (tableOf st l) in
       let lt = length-tableOf st l w in
       let f = w .fits .table in
-      ap (λ (z : List ℕ). put 2 (putMid 256 2304 (store st l) (cut n i z)) 224 (n - 1)) (table-of-store st l w)
+      ap (λ (z : List ℕ). put 2 (putMid tableAt tableSize (store st l) (cut n i z)) connectionsAt (n - 1)) (table-of-store st l w)
       ∙ table-counted x (n - 1) (without (st .table) i) (fewer (st .table) i p) (removed-rows i p h)
       (length-cut (tableOf st l) n i p f (omega arith) ∙ lt)

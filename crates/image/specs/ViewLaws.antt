@@ -1,28 +1,28 @@
 -- View and store: what is stored is read back, and a tested buffer's own state written over it changes nothing.
 use Prim.Native.Nat.{ℕ, zero, suc, _+_, _*_, _-_, _%_, _≤_, _<_}
 use mathlib.Core.Bool.{true}
-use mathlib.Core.List.{List, [], _∷_, _++_, map}
+use mathlib.Core.List.{List, [], _∷_, _++_}
 use mathlib.Core.Path.{_≡_, refl, ap, ap₂, sym, _∙_}
 use native.Mathlib.Omega.{arith}
-use lib.ListN.{length, getD, take, drop, length-drop, take-append-drop}
-use lib.Seq.{length-take-le, take-take, getD-drop}
+use lib.ListN.{length, take, drop, length-drop, take-append-drop}
+use lib.Seq.{length-take-le, take-take}
 use borrow.Rule.Slice.PartMut.{midOf}
-use Rattle.cells.specs.Numbers.{le, le-1, le-take}
 use Rattle.cells.specs.Records.{encFields, decFields, toBool, to-of, sum}
-use Rattle.cells.specs.Back.{Bytes, enc-dec, of-to, bytes-take, bytes-drop}
+use Rattle.cells.specs.Back.{Bytes, enc-dec, bytes-take, bytes-drop}
 use Rattle.tables.specs.Tables.{rows, length-rows}
-use Rattle.tables.specs.Store.{store-rows, rows-stored}
+use Rattle.tables.specs.Store.{store-rows}
 use Rattle.tables.specs.Ring.{ringOf, length-ringOf, store-ring}
 use Rattle.tables.specs.RingRead.{ring-read}
-use Rattle.tables.specs.Slots.{fill, fill-own}
 use Rattle.tables.specs.Regions.{joined, start, regions, joined-regions, regions-at}
 use Rattle.rules.specs.State.{Shape, State}
-use Rattle.layout.specs.Places.{widths, setupIn, headIn, wHead, marksIn, tableIn, ringIn, dataIn, edsIn}
+use Rattle.layout.specs.Places.{widths, setupIn, headIn, wHead, marksIn, tableIn, ringIn, dataIn, edsIn, headAt, tableAt, tableSize, eventsAt, eventsSize, stateSize, rowSize, headUsed, nextIdOf, ringWordOf, firstOf, waitingOf, connectionsOf, faultOf, producedOf, lateOf, maxLateOf}
 use Rattle.layout.specs.Setups.{setupOf}
-use Rattle.layout.specs.Rows.{decConn, encConn}
-use Rattle.layout.specs.RowLaws.{length-encConn, dec-encConn, enc-decConn}
-use Rattle.image.specs.Image.{contentsOf, record32, asIs, view, listHead, markOf, headOf, marksOf, tableOf, eventsOf, dataOf, store, tested}
-use Rattle.image.specs.Fits.{Records32, none, one, Fits, Suits, few-assemblies, length-assemblies, size-short, is-long, is-sound, some-id, first-slot, few-events, few-conns, fault-bit, shapes-good, mark-good, row-good, lent}
+use Rattle.layout.specs.Rows.{decConn, encConn, rowAt, connsIn}
+use Rattle.layout.specs.RowLaws.{enc-decConn}
+use Rattle.layout.specs.Bits.{wordOf, of-to-word}
+use Rattle.image.specs.Image.{contentsOf, record32, asIs, view, listHead, headOf, marksOf, tableOf, eventsOf, dataOf, store, tested}
+use Rattle.image.specs.RowsFit.{rows-fit, rows-read}
+use Rattle.image.specs.Fits.{Records32, none, one, Fits, Suits, few-assemblies, length-assemblies, size-short, is-long, is-sound, some-id, first-slot, few-events, few-conns, shapes-good, lent}
 use Rattle.image.specs.Contents.{length-contentsOf, marks-back, data-back, sized-back, contents-back, length-record32, record32-own, records-back}
 use Rattle.image.specs.StoreLaws.{mid-long, slot-long, length-marksIn, length-ringIn, length-dataIn, content-short, few-contents, marks-of-store, table-of-store, ring-of-store, data-of-store, setup-kept, produced-is, late-is, maxLate-is, nextId-is, gone-is, waiting-is, conns-is, fault-is}
 
@@ -49,16 +49,16 @@ module _ (st : State) (l : List ℕ) (w : Suits st l) where
       let b = w .fits .contents in
       let n = length-dataIn l (w .lent .long) in
       (λ i. contentsOf (u i .assemblies) (marks-of-store st l w i) (data-of-store st l w i))
-      ∙ contents-back (st .setup .assemblies) (st .contents) (drop (length (map markOf (st .contents))) (marksIn l)) (dataIn l) b (w .fits .sized)
+      ∙ contents-back (st .setup .assemblies) (st .contents) (marksIn l) (dataIn l) b (w .fits .sized)
       (λ i. let c = content-short st l w i in let d = w .fits .sized i in omega arith) (omega arith)
 
-  pub table-read : rows 70 decConn (le 2 (store st l) 224) (tableIn (store st l)) ≡ st .table
+  pub table-read : connsIn (connectionsOf (store st l)) (tableIn (store st l)) ≡ st .table
   unfolding tableOf
   table-read =
-      ap₂ (rows 70 decConn) (conns-is st l w) (table-of-store st l w)
-      ∙ rows-stored 70 encConn length-encConn decConn dec-encConn (le 2 l 224) (st .table) (tableIn l)
+      ap₂ (connsIn) (conns-is st l w) (table-of-store st l w)
+      ∙ rows-read (connectionsOf l) (st .table) (tableIn l) (w .fits .rows)
 
-  pub waiting-read : ringOf 32 record32 asIs (le 2 (store st l) 220) (le 2 (store st l) 222) (ringIn (store st l)) ≡ st .events .waiting
+  pub waiting-read : ringOf 32 record32 asIs (firstOf (store st l)) (waitingOf (store st l)) (ringIn (store st l)) ≡ st .events .waiting
   unfolding eventsOf
   waiting-read =
       let n = length-ringIn l (w .lent .long) in
@@ -70,7 +70,7 @@ module _ (st : State) (l : List ℕ) (w : Suits st l) where
   unfolding view
   view-store =
       let u : setupOf (store st l) ≡ st .setup = setup-kept st l w ∙ sym (w .setup) in
-      let b : toBool (le 2 (store st l) 226) ≡ st .fault = ap toBool (fault-is st l w) ∙ to-of (st .fault) in
+      let b : toBool (faultOf (store st l)) ≡ st .fault = ap toBool (fault-is st l w) ∙ to-of (st .fault) in
       λ i. record {
         setup = u i;
         contents = contents-read i;
@@ -82,7 +82,7 @@ module _ (st : State) (l : List ℕ) (w : Suits st l) where
       }
 
 -- ---- what a tested buffer says fits
-ring-records : (f n : ℕ) (r : List ℕ) → f < 1024 → 32768 ≤ length r → Records32 (ringOf 32 record32 asIs f n r)
+ring-records : (f n : ℕ) (r : List ℕ) → f < 1024 → eventsSize ≤ length r → Records32 (ringOf 32 record32 asIs f n r)
 unfolding ringOf
 ring-records f zero r h g = none
 ring-records f (suc n) r h g =
@@ -102,10 +102,11 @@ module _ (l : List ℕ) (ok : tested l ≡ true) where
       record {
         contents = length-contentsOf ss (marksIn l) (dataIn l);
         sized = sized-back ss (marksIn l) (dataIn l) (size-short l (shapes-good l ok)) room-for-all;
-        table = rw (length-rows 70 decConn (le 2 l 224) (tableIn l)) (few-conns l ok);
+        table = rw (length-rows rowSize decConn (connectionsOf l) (tableIn l)) (few-conns l ok);
+        rows = rows-fit (connectionsOf l) (tableIn l);
         gone = first-slot l ok;
-        waiting = rw (length-ringOf 32 record32 asIs (le 2 l 220) (le 2 l 222) (ringIn l)) (few-events l ok);
-        records = ring-records (le 2 l 220) (le 2 l 222) (ringIn l) (first-slot l ok) (omega arith);
+        waiting = rw (length-ringOf 32 record32 asIs (firstOf l) (waitingOf l) (ringIn l)) (few-events l ok);
+        records = ring-records (firstOf l) (waitingOf l) (ringIn l) (first-slot l ok) (omega arith);
         id = some-id l ok;
       }
 
@@ -118,7 +119,7 @@ module _ (l : List ℕ) (ok : tested l ≡ true) where
     mid-bytes : (a k i size : ℕ) → Bytes (take size (drop (i * size) (midOf a k l)))
     mid-bytes a k i size = bytes-take size (drop (i * size) (midOf a k l)) (bytes-drop (i * size) (midOf a k l) (bytes-take k (drop a l) (bytes-drop a l b)))
 
-    mid-cut : (a k i size : ℕ) → a + k ≤ 109056 → i * size + size ≤ k → length (take size (drop (i * size) (midOf a k l))) ≡ size
+    mid-cut : (a k i size : ℕ) → a + k ≤ stateSize → i * size + size ≤ k → length (take size (drop (i * size) (midOf a k l))) ≡ size
     mid-cut a k i size p q =
         let n = is-long l ok in
         let e : length (midOf a k l) ≡ k = mid-long a k l (omega arith) in
@@ -128,20 +129,20 @@ module _ (l : List ℕ) (ok : tested l ≡ true) where
     unfolding headOf view sum
     head-back =
         let n = is-long l ok in
-        let e : listHead (view l) ≡ decFields wHead l 192 =
+        let word : wordOf (length (ringOf 32 record32 asIs (firstOf l) (waitingOf l) (ringIn l))) (firstOf l) (toBool (faultOf l)) ≡ ringWordOf l =
+        ap (λ (k : ℕ). wordOf k (firstOf l) (toBool (faultOf l))) (length-ringOf 32 record32 asIs (firstOf l) (waitingOf l) (ringIn l)) ∙ of-to-word (ringWordOf l) in
+        let e : listHead (view l) ≡ decFields wHead l headAt =
         λ i.
-        le 8 l 192
-        ∷ le 8 l 200
-        ∷ le 8 l 208
-        ∷ le 4 l 216
-        ∷ le 2 l 220
-        ∷ length-ringOf 32 record32 asIs (le 2 l 220) (le 2 l 222) (ringIn l) i
-        ∷ length-rows 70 decConn (le 2 l 224) (tableIn l) i
-        ∷ of-to (le 2 l 226) (fault-bit l ok) i
+        producedOf l
+        ∷ lateOf l
+        ∷ maxLateOf l
+        ∷ nextIdOf l
+        ∷ word i
+        ∷ length-rows rowSize decConn (connectionsOf l) (tableIn l) i
         ∷ [] in
-        ap (λ (z : List ℕ). z ++ drop 36 (headIn l))
-        (ap (encFields wHead) e ∙ enc-dec wHead tt l 192 b (omega arith) ∙ sym (take-take 36 48 (drop 192 l) (omega arith)))
-        ∙ take-append-drop 36 (headIn l)
+        ap (λ (z : List ℕ). z ++ drop headUsed (headIn l))
+        (ap (encFields wHead) e ∙ enc-dec wHead tt l 192 b (omega arith) ∙ sym (take-take headUsed 48 (drop 192 l) (omega arith)))
+        ∙ take-append-drop headUsed (headIn l)
 
     marks-same : marksOf (view l) l ≡ marksIn l
     unfolding marksOf view
@@ -150,27 +151,20 @@ module _ (l : List ℕ) (ok : tested l ≡ true) where
         let c = length-assemblies l in
         let f = few-assemblies (setupIn l) (is-sound l ok) in
         let n = length-marksIn l (is-long l ok) in
-        let g : (i : ℕ) → i < length ss → getD (marksIn l) i 0 ≤ 3 = λ i h. mark-at i (omega arith) in
-        ap (λ (z : List ℕ). fill z (marksIn l)) (marks-back ss (marksIn l) (dataIn l) g (omega arith)) ∙ fill-own (length ss) (marksIn l)
-      where
-        mark-at : (i : ℕ) → i < le 1 (setupIn l) 0 → getD (marksIn l) i 0 ≤ 3
-        mark-at i h =
-            let e : le 1 (take 1 (drop (i * 1) (marksIn l))) 0 ≡ getD (marksIn l) i 0 =
-            le-take 1 (drop (i * 1) (marksIn l)) 1 0 (omega arith) ∙ le-1 (drop (i * 1) (marksIn l)) 0 ∙ getD-drop (i * 1) (marksIn l) 0 0 ∙ ap (λ (k : ℕ). getD (marksIn l) k 0) (omega arith) in
-            rw e at (mark-good l ok i h)
+        marks-back ss (marksIn l) (dataIn l) (omega arith)
 
     table-same : tableOf (view l) l ≡ tableIn l
     unfolding tableOf view
     table-same =
         let f = few-conns l ok in
-        store-rows 70 encConn decConn (le 2 l 224) (tableIn l)
-        (λ i g. enc-decConn (take 70 (drop (i * 70) (tableIn l))) (row-good l ok i g) (mid-bytes 256 2304 i 70) (mid-cut 256 2304 i 70 (omega arith) (omega arith)))
+        store-rows rowSize encConn decConn (connectionsOf l) (tableIn l)
+        (λ i g. enc-decConn (rowAt (tableIn l) i) (mid-bytes tableAt tableSize i rowSize) (mid-cut tableAt tableSize i rowSize (omega arith) (omega arith)))
 
     pub events-same : eventsOf (view l) l ≡ ringIn l
     unfolding eventsOf view
     events-same =
-        store-ring 32 record32 asIs (le 2 l 220) (le 2 l 222) (ringIn l) (first-slot l ok) (let q = length-ringIn l (is-long l ok) in omega arith)
-        (λ i g. record32-own (take 32 (drop (i * 32) (ringIn l))) (mid-cut 2560 32768 i 32 (omega arith) (omega arith)))
+        store-ring 32 record32 asIs (firstOf l) (waitingOf l) (ringIn l) (first-slot l ok) (let q = length-ringIn l (is-long l ok) in omega arith)
+        (λ i g. record32-own (take 32 (drop (i * 32) (ringIn l))) (mid-cut eventsAt eventsSize i 32 (omega arith) (omega arith)))
 
     data-same : dataOf (view l) l ≡ dataIn l
     unfolding dataOf view

@@ -14,7 +14,8 @@ ghost use lib.Seq.{sets};
 ghost use Rattle.cells.specs.Numbers.{le};
 ghost use Rattle.cells.specs.Records.{putFields, ofBool};
 ghost use Rattle.layout.specs.Cut.{cut};
-ghost use Rattle.layout.specs.Rows.{wSent, wHeard, wFixed, wLow, wHigh, ofDue, ofKind, listSent, listHeard, listFixed, encSent, encHeard, encConn};
+ghost use Rattle.layout.specs.Rows.{wSent, wHeard, wFixed, wLow, wHigh, ofDue, roleOf, listSent, listHeard, listFixed, encSent, encHeard, encConn};
+ghost use Rattle.layout.specs.Places.{tableSize, rowSize};
 
 // ---- numbers for what is no number
 
@@ -28,33 +29,35 @@ fn due_number(d: Due) -> u64
     }
 }
 
-fn kind_number(k: Kind) -> u8
-    ensures { λ r. ⌜ r ≡ ofKind k ⌝ }
+// An owner's output, or what the kind is.
+fn role_number(k: Kind, output: u8) -> u8
+    ensures { λ r. ⌜ r ≡ roleOf k output ⌝ }
 {
     match k {
-        Kind::Owner => 0,
-        Kind::InputOnly => 1,
-        Kind::ListenOnly => 2,
+        Kind::Owner => output,
+        Kind::InputOnly => 254,
+        Kind::ListenOnly => 255,
     }
 }
 
-fn flags_number(role: u8, any: bool, anycip: bool) -> u8
-    requires { ⌜ role ≤ 63 ⌝ }
-    ensures { λ r. ⌜ r ≡ 4 * role + (ofBool any + 2 * ofBool anycip) ⌝ }
+fn carried_number(multicast: bool, input: u8) -> u8
+    requires { ⌜ input ≤ 31 ⌝ }
+    ensures { λ r. ⌜ r ≡ ofBool multicast + 2 * input ⌝ }
 {
-    4 * role + ((any as u8) + 2 * (anycip as u8))
+    (multicast as u8) + 2 * input
 }
 
-fn role_number(k: Kind, multicast: bool) -> u8
-    ensures { λ r. ⌜ r ≡ ofKind k + 3 * ofBool multicast ⌝ }
+fn flags_number(carried: u8, any: bool, anycip: bool) -> u8
+    requires { ⌜ carried ≤ 63 ⌝ }
+    ensures { λ r. ⌜ r ≡ 4 * carried + (ofBool any + 2 * ofBool anycip) ⌝ }
 {
-    kind_number(k) + 3 * (multicast as u8)
+    4 * carried + ((any as u8) + 2 * (anycip as u8))
 }
 
 // ---- a row written
 
 fn put_sent_in(row: &mut [u8], s: Sent)
-    requires { ⌜ (70 ≤ length (now row)) × (ofDue (s .due) < 18446744073709551616) ⌝ }
+    requires { ⌜ (rowSize ≤ length (now row)) × (ofDue (s .due) < 18446744073709551616) ⌝ }
     ensures { λ _. ⌜ now (row .exit) ≡ putFields wSent (now (row .entry)) 0 (listSent s) ⌝ }
 {
     let d = s.due;
@@ -63,36 +66,34 @@ fn put_sent_in(row: &mut [u8], s: Sent)
     cells::put_u16(row, 12, s.cip);
 }
 
-fn put_heard_in(row: &mut [u8], role: u8, h: Heard)
-    requires { ⌜ (70 ≤ length (now row)) × (role ≤ 63) ⌝ }
-    ensures { λ _. ⌜ now (row .exit) ≡ putFields wHeard (now (row .entry)) 14 (listHeard role h) ⌝ }
+fn put_heard_in(row: &mut [u8], carried: u8, h: Heard)
+    requires { ⌜ (rowSize ≤ length (now row)) × (carried ≤ 63) ⌝ }
+    ensures { λ _. ⌜ now (row .exit) ≡ putFields wHeard (now (row .entry)) 14 (listHeard carried h) ⌝ }
 {
     cells::put_u16(row, 14, h.cip);
     cells::put_u64(row, 16, h.until);
     cells::put_u32(row, 24, h.sequence);
-    cells::put_u8(row, 28, flags_number(role, h.any, h.anycip));
+    cells::put_u8(row, 28, flags_number(carried, h.any, h.anycip));
 }
 
 fn put_fixed_low(
     row: &mut [u8],
-    input: u8,
-    output: u8,
+    role: u8,
     port: u16,
     otid: u32,
     originator: u32,
     toid: u32,
     otrpi: u32,
 )
-    requires { ⌜ 70 ≤ length (now row) ⌝ }
-    ensures { λ _. ⌜ now (row .exit) ≡ putFields wLow (now (row .entry)) 29 (input ∷ output ∷ port ∷ otid ∷ originator ∷ toid ∷ otrpi ∷ []) ⌝ }
+    requires { ⌜ rowSize ≤ length (now row) ⌝ }
+    ensures { λ _. ⌜ now (row .exit) ≡ putFields wLow (now (row .entry)) 29 (role ∷ port ∷ otid ∷ originator ∷ toid ∷ otrpi ∷ []) ⌝ }
 {
-    cells::put_u8(row, 29, input);
-    cells::put_u8(row, 30, output);
-    cells::put_u16(row, 31, port);
-    cells::put_u32(row, 33, otid);
-    cells::put_u32(row, 37, originator);
-    cells::put_u32(row, 41, toid);
-    cells::put_u32(row, 45, otrpi);
+    cells::put_u8(row, 29, role);
+    cells::put_u16(row, 30, port);
+    cells::put_u32(row, 32, otid);
+    cells::put_u32(row, 36, originator);
+    cells::put_u32(row, 40, toid);
+    cells::put_u32(row, 44, otrpi);
 }
 
 fn put_fixed_high(
@@ -105,26 +106,26 @@ fn put_fixed_high(
     owner: u32,
     multiplier: u8,
 )
-    requires { ⌜ 70 ≤ length (now row) ⌝ }
-    ensures { λ _. ⌜ now (row .exit) ≡ putFields wHigh (now (row .entry)) 49 (torpi ∷ address ∷ local ∷ serial ∷ vendor ∷ owner ∷ multiplier ∷ []) ⌝ }
+    requires { ⌜ rowSize ≤ length (now row) ⌝ }
+    ensures { λ _. ⌜ now (row .exit) ≡ putFields wHigh (now (row .entry)) 48 (torpi ∷ address ∷ local ∷ serial ∷ vendor ∷ owner ∷ multiplier ∷ []) ⌝ }
 {
-    cells::put_u32(row, 49, torpi);
-    cells::put_u32(row, 53, address);
-    cells::put_u32(row, 57, local);
-    cells::put_u16(row, 61, serial);
-    cells::put_u16(row, 63, vendor);
-    cells::put_u32(row, 65, owner);
-    cells::put_u8(row, 69, multiplier);
+    cells::put_u32(row, 48, torpi);
+    cells::put_u32(row, 52, address);
+    cells::put_u32(row, 56, local);
+    cells::put_u16(row, 60, serial);
+    cells::put_u16(row, 62, vendor);
+    cells::put_u32(row, 64, owner);
+    cells::put_u8(row, 68, multiplier);
 }
 
 fn put_fixed_in(row: &mut [u8], f: Fixed)
-    requires { ⌜ 70 ≤ length (now row) ⌝ }
+    requires { ⌜ rowSize ≤ length (now row) ⌝ }
     ensures { λ _. ⌜ now (row .exit) ≡ putFields wFixed (now (row .entry)) 29 (listFixed f) ⌝ }
 {
+    let k = f.kind;
     put_fixed_low(
         row,
-        f.input,
-        f.output,
+        role_number(k, f.output),
         f.dest.port,
         f.otid.0,
         f.originator,
@@ -144,46 +145,45 @@ fn put_fixed_in(row: &mut [u8], f: Fixed)
 }
 
 fn put_conn_in(row: &mut [u8], c: Conn)
-    requires { ⌜ (70 ≤ length (now row)) × (ofDue (c .sent .due) < 18446744073709551616) ⌝ }
+    requires { ⌜ (rowSize ≤ length (now row)) × (ofDue (c .sent .due) < 18446744073709551616) × (c .fixed .input ≤ 31) ⌝ }
     ensures { λ _. ⌜ now (row .exit) ≡ sets (now (row .entry)) 0 (encConn c) ⌝ }
 {
     let f = c.fixed;
-    let k = f.kind;
     let h = c.heard;
     let s = c.sent;
     put_sent_in(row, s);
-    put_heard_in(row, role_number(k, f.multicast), h);
+    put_heard_in(row, carried_number(f.multicast, f.input), h);
     put_fixed_in(row, f);
 }
 
 // ---- rows of the table's region
 
 pub fn put_sent_at(r: &mut [u8], i: usize, s: Sent)
-    requires { ⌜ (i < 32) × (2304 ≤ length (now r)) × (ofDue (s .due) < 18446744073709551616) ⌝ }
-    ensures { λ _. ⌜ now (r .exit) ≡ sets (now (r .entry)) (i * 70 + 0) (encSent s) ⌝ }
+    requires { ⌜ (i < 32) × (tableSize ≤ length (now r)) × (ofDue (s .due) < 18446744073709551616) ⌝ }
+    ensures { λ _. ⌜ now (r .exit) ≡ sets (now (r .entry)) (i * rowSize + 0) (encSent s) ⌝ }
 {
-    let a = i * 70;
-    let e = a + 70;
+    let a = i * layout::ROW;
+    let e = a + layout::ROW;
     put_sent_in(&mut r[a..e], s);
 }
 
-// The kind and the multicast bit beside the two marks of the flags stay.
+// The multicast bit and the input beside the two marks of the flags stay.
 pub fn put_heard_at(r: &mut [u8], i: usize, h: Heard)
-    requires { ⌜ (i < 32) × (2304 ≤ length (now r)) ⌝ }
-    ensures { λ _. ⌜ now (r .exit) ≡ sets (now (r .entry)) (i * 70 + 14) (encHeard (le 1 (now (r .entry)) (i * 70 + 28) / 4) h) ⌝ }
+    requires { ⌜ (i < 32) × (tableSize ≤ length (now r)) ⌝ }
+    ensures { λ _. ⌜ now (r .exit) ≡ sets (now (r .entry)) (i * rowSize + 14) (encHeard (le 1 (now (r .entry)) (i * rowSize + 28) / 4) h) ⌝ }
 {
-    let a = i * 70;
-    let e = a + 70;
-    let role = cells::u8_at(r, a + 28) / 4;
-    put_heard_in(&mut r[a..e], role, h);
+    let a = i * layout::ROW;
+    let e = a + layout::ROW;
+    let carried = cells::u8_at(r, a + 28) / 4;
+    put_heard_in(&mut r[a..e], carried, h);
 }
 
 pub fn put_conn_at(r: &mut [u8], i: usize, c: Conn)
-    requires { ⌜ (i < 32) × (2304 ≤ length (now r)) × (ofDue (c .sent .due) < 18446744073709551616) ⌝ }
-    ensures { λ _. ⌜ now (r .exit) ≡ sets (now (r .entry)) (i * 70 + 0) (encConn c) ⌝ }
+    requires { ⌜ (i < 32) × (tableSize ≤ length (now r)) × (ofDue (c .sent .due) < 18446744073709551616) × (c .fixed .input ≤ 31) ⌝ }
+    ensures { λ _. ⌜ now (r .exit) ≡ sets (now (r .entry)) (i * rowSize + 0) (encConn c) ⌝ }
 {
-    let a = i * 70;
-    let e = a + 70;
+    let a = i * layout::ROW;
+    let e = a + layout::ROW;
     put_conn_in(&mut r[a..e], c);
 }
 
@@ -191,11 +191,11 @@ pub fn put_conn_at(r: &mut [u8], i: usize, c: Conn)
 
 // Row i of n gone: the rows behind it move down, and the last row's place is zero.
 pub fn cut_row(r: &mut [u8], n: usize, i: usize)
-    requires { ⌜ (i < n) × (n ≤ 32) × (2304 ≤ length (now r)) ⌝ }
+    requires { ⌜ (i < n) × (n ≤ 32) × (tableSize ≤ length (now r)) ⌝ }
     ensures { λ _. ⌜ now (r .exit) ≡ cut n i (now (r .entry)) ⌝ }
 {
-    let to = i * 70;
-    let last = (n - 1) * 70;
-    cells::move_down(r, to, to + 70, last - to);
-    cells::zero(r, last, 70);
+    let to = i * layout::ROW;
+    let last = (n - 1) * layout::ROW;
+    cells::move_down(r, to, to + layout::ROW, last - to);
+    cells::zero(r, last, layout::ROW);
 }

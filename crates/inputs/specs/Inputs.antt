@@ -15,16 +15,17 @@ use Rattle.rules.specs.Answers.{Done, Refused, NoAssembly, TooLong, settled}
 use Rattle.rules.specs.Checks.{placeOf}
 use Rattle.rules.specs.Host.{filled, setInputAt, inputSet, setInputAnswer, setInputEffect, setInputCall, kindTest}
 use Rattle.layout.specs.Setups.{shapeIn, setupOf}
+use Rattle.layout.specs.Places.{dataFrom, assembliesOf}
 use Rattle.image.specs.Image.{view, store, tested}
 use Rattle.image.specs.Holds.{Holds, holds-tested}
 use Rattle.image.specs.Changes.{bytesAs, bytes-put}
 use Rattle.image.specs.Lift.{lifted}
 use Rattle.application.specs.Places.{inputSetAt}
 use Rattle.application.specs.Ways.{left-done, left-no, left-same}
-use Rattle.image.specs.Searches.{change-at-place}
+use Rattle.searches.specs.Searches.{change-at-place}
 use Rattle.application.specs.Assemblies.{in-contents, size-is, setup-size}
 
-module _ (s : List ℕ) (t : tested s ≡ true) (b : Bytes s) (i : ℕ) (p : i < le 1 s 0) where
+module _ (s : List ℕ) (t : tested s ≡ true) (b : Bytes s) (i : ℕ) (p : i < assembliesOf s) where
   abbrev h : Holds s (view s) s
   h = holds-tested s t b
 
@@ -37,7 +38,7 @@ module _ (s : List ℕ) (t : tested s ≡ true) (b : Bytes s) (i : ℕ) (p : i <
         left-no s t (inputSetAt i d) b TooLong
         (ap (λ (x : Bool). settled (cond x Done (Refused TooLong)) (inputSet d (view s) (some i)) (view s)) (lt-leb (length d) (shapeAt (view s .setup) i .size) (omega arith)))
 
-    pub input-set : length d ≤ n → (s₁ s₂ : List ℕ) → s₁ ≡ sets s (35328 + i * 512) d → s₂ ≡ sets s₁ (35328 + i * 512 + length d) (replicate (n - length d) 0)
+    pub input-set : length d ≤ n → (s₁ s₂ : List ℕ) → s₁ ≡ sets s (dataFrom + i * 512) d → s₂ ≡ sets s₁ (dataFrom + i * 512 + length d) (replicate (n - length d) 0)
         → (0, s₂) ≡ lifted (inputSetAt i d) s
     input-set g s₁ s₂ e₁ e₂ =
         let m = (setup-size s t b i p) in
@@ -49,7 +50,7 @@ module _ (s : List ℕ) (t : tested s ≡ true) (b : Bytes s) (i : ℕ) (p : i <
         ∙ ap (λ (z : List Content). store (withContents z (view s)) s) (sym (change-at-place (filled (shapeAt (view s .setup) i .size) d) noContent (view s .contents) i)) in
         left-done s t (inputSetAt i d) s₂ (inputSet d (view s) (some i))
         (ap (λ (x : Bool). settled (cond x Done (Refused TooLong)) (inputSet d (view s) (some i)) (view s)) (le-leb (length d) (shapeAt (view s .setup) i .size) (omega arith)))
-        (e₂ ∙ ap (λ (z : List ℕ). sets z (35328 + i * 512 + length d) zs) e₁ ∙ sym (sets-append s (35328 + i * 512) d zs)
+        (e₂ ∙ ap (λ (z : List ℕ). sets z (dataFrom + i * 512 + length d) zs) e₁ ∙ sym (sets-append s (dataFrom + i * 512) d zs)
         ∙ bytes-put s (view s) s h i (d ++ zs) (in-contents s t b i p) (omega arith) ∙ left)
 
 -- ---- the call, by the place that was found

@@ -3,17 +3,17 @@ use application::answers::Outcome;
 use layout::Found;
 ghost use mathlib.Core.Path.{_≡_};
 ghost use Prim.Native.Nat.{_+_, _≤_, _<_};
-ghost use lib.ListN.{length, replicate};
+ghost use lib.ListN.{replicate};
 ghost use lib.Seq.{sets};
-ghost use Rattle.cells.specs.Numbers.{le};
 ghost use Rattle.rules.specs.Host.{setInputCall};
+ghost use Rattle.layout.specs.Places.{assembliesOf};
 ghost use Rattle.image.specs.Lift.{lifted};
 ghost use Rattle.application.specs.Outcomes.{outcomeNumber, Passed};
 ghost use Rattle.application.specs.Places.{inputSetAt};
 
 // The input at that place takes the bytes; the rest of it is zero.
 fn fill_input(s: &mut [u8], i: usize, d: &[u8]) -> Outcome
-    requires { ⌜ Passed (now s) × (i < le 1 (now s) 0) ⌝ }
+    requires { ⌜ Passed (now s) × (i < assembliesOf (now s)) ⌝ }
     ensures { λ r. ⌜ (outcomeNumber r, now (s .exit)) ≡ lifted (inputSetAt i (now (d .entry))) (now (s .entry)) ⌝ }
 {
     let n = layout::size_at(s, i) as usize;
@@ -21,8 +21,8 @@ fn fill_input(s: &mut [u8], i: usize, d: &[u8]) -> Outcome
     if m > n {
         return Outcome::TooLong;
     }
-    let a = 35328 + i * 512;
-    cells::copy_in(s, a, d);
+    let a = layout::DATA + i * layout::SLOT;
+    copies::copy_in(s, a, d);
     cells::zero(s, a + m, n - m);
     Outcome::Done
 }
@@ -31,7 +31,7 @@ pub fn set_input(s: &mut [u8], instance: u32, d: &[u8]) -> Outcome
     requires { ⌜ Passed (now s) ⌝ }
     ensures { λ r. ⌜ (outcomeNumber r, now (s .exit)) ≡ lifted (setInputCall instance (now (d .entry))) (now (s .entry)) ⌝ }
 {
-    let f = places::find(&s[0..192], 1, instance);
+    let f = places::find(&s[0..layout::SETUP_SIZE], 1, instance);
     match f {
         Found::Nowhere => Outcome::NoAssembly,
         Found::At(i) => fill_input(s, i, d),

@@ -1,12 +1,15 @@
--- A connection's row, 70 bytes: what produce changes (14), what its originator's frames change (15), what never changes (41).
--- Every number's every pattern of bytes is a value; the flags alone are tested.
-use Prim.Native.Nat.{ℕ, _+_, _-_, _*_, _/_, _%_}
+-- A connection's row: what produce changes (14), what its originator's frames change (15), what never changes (40).
+-- Every pattern of a row's bytes is one connection, so that no row needs a test.
+use Prim.Native.Nat.{ℕ, _+_, _-_, _*_, _/_, _%_, _≤_}
 use mathlib.Core.Bool.{Bool, cond}
 use mathlib.Core.List.{List, [], _∷_, _++_}
-use lib.Dec.{eqb, leb}
+use mathlib.Core.Path.{_≡_}
+use lib.Dec.{eqb, ltb}
 use lib.ListN.{getD, take, drop}
 use Rattle.cells.specs.Numbers.{le}
+use Rattle.cells.specs.Pick.{pick}
 use Rattle.cells.specs.Records.{encFields, decFields, toBool, ofBool}
+use Rattle.tables.specs.Tables.{rows}
 use Rattle.rules.specs.declared.Kind.{Kind}
 use Rattle.rules.specs.declared.Kind.the-variants.{Owner, InputOnly, ListenOnly}
 use Rattle.rules.specs.declared.Fixed.{Fixed}
@@ -15,10 +18,11 @@ use Rattle.rules.specs.declared.Due.{Due}
 use Rattle.rules.specs.declared.Due.the-variants.{Never, At}
 use Rattle.rules.specs.declared.Sent.{Sent}
 use Rattle.rules.specs.declared.Conn.{Conn}
+use Rattle.layout.specs.Places.{rowSize}
 
 -- the row at a place of the table's region
 abbrev pub rowAt : List ℕ → ℕ → List ℕ
-rowAt r i = take 70 (drop (i * 70) r)
+rowAt r i = take rowSize (drop (i * rowSize) r)
 
 -- ---- sent: due time 8 at 0, sequence 4 at 8, CIP sequence 2 at 12
 
@@ -44,27 +48,19 @@ asSent vs = record { sequence = getD vs 1 0; cip = getD vs 2 0; due = toDue (get
 abbrev pub wHeard : List ℕ
 wHeard = 2 ∷ 8 ∷ 4 ∷ 1 ∷ []
 
-abbrev pub ofKind : Kind → ℕ
-ofKind Owner = 0
-ofKind InputOnly = 1
-ofKind ListenOnly = 2
+-- of the fixed part: whether its T→O is multicast, and its input's place
+abbrev pub carriedOf : Fixed → ℕ
+carriedOf f = ofBool (f .multicast) + 2 * f .input
 
-abbrev pub toKind : ℕ → Kind
-toKind n = cond (eqb n 0) Owner (cond (eqb n 1) InputOnly ListenOnly)
-
--- kind and multicast, of the fixed part
-abbrev pub roleOf : Fixed → ℕ
-roleOf f = ofKind (f .kind) + 3 * ofBool (f .multicast)
-
--- and whether there was any sequence and any CIP sequence: 0 to 23
+-- and whether there was any sequence and any CIP sequence
 abbrev pub flagsOf : ℕ → Heard → ℕ
-flagsOf role h = 4 * role + (ofBool (h .any) + 2 * ofBool (h .anycip))
-
-abbrev pub kindIn : ℕ → Kind
-kindIn flags = toKind (flags / 4 % 3)
+flagsOf carried h = 4 * carried + (ofBool (h .any) + 2 * ofBool (h .anycip))
 
 abbrev pub multicastIn : ℕ → Bool
-multicastIn flags = toBool (flags / 4 / 3)
+multicastIn flags = toBool (flags / 4 % 2)
+
+abbrev pub inputIn : ℕ → ℕ
+inputIn flags = flags / 4 / 2
 
 abbrev pub anyIn : ℕ → Bool
 anyIn flags = toBool (flags % 2)
@@ -73,7 +69,7 @@ abbrev pub anycipIn : ℕ → Bool
 anycipIn flags = toBool (flags / 2 % 2)
 
 abbrev pub listHeard : ℕ → Heard → List ℕ
-listHeard role h = h .cip ∷ h .until ∷ h .sequence ∷ flagsOf role h ∷ []
+listHeard carried h = h .cip ∷ h .until ∷ h .sequence ∷ flagsOf carried h ∷ []
 
 abbrev pub asHeard : List ℕ → Heard
 asHeard vs =
@@ -85,24 +81,44 @@ asHeard vs =
       cip = getD vs 0 0;
     }
 
--- ---- fixed: input 1 at 29, output 1 at 30, destination port 2 at 31, O→T id 4 at 33, originator address 4 at 37, T→O id 4 at 41,
--- O→T RPI 4 at 45, T→O RPI 4 at 49, destination address 4 at 53, local address 4 at 57, connection serial 2 at 61, vendor 2 at 63,
--- originator serial 4 at 65, multiplier 1 at 69
+-- ---- fixed: role 1 at 29, destination port 2 at 30, O→T id 4 at 32, originator address 4 at 36, T→O id 4 at 40, O→T RPI 4 at 44,
+-- T→O RPI 4 at 48, destination address 4 at 52, local address 4 at 56, connection serial 2 at 60, vendor 2 at 62, originator serial
+-- 4 at 64, multiplier 1 at 68
+
+-- an owner's output, or 254 for input-only, 255 for listen-only
+abbrev pub roleOf : Kind → ℕ → ℕ
+roleOf Owner output = output
+roleOf InputOnly output = 254
+roleOf ListenOnly output = 255
+
+abbrev pub kindIn : ℕ → Kind
+kindIn role = pick (ltb role 254) Owner (pick (eqb role 254) InputOnly ListenOnly)
+
+abbrev pub outputIn : ℕ → ℕ
+outputIn role = pick (ltb role 254) role 0
+
+-- what can be stored: an owner's output below 254, and no output but the first of one that owns none; an open makes no other
+abbrev pub RoleFits : Kind → ℕ → Type 0
+RoleFits Owner output = output ≤ 253
+RoleFits InputOnly output = output ≡ 0
+RoleFits ListenOnly output = output ≡ 0
+
+abbrev pub RowFits : Conn → Type 0
+RowFits c = RoleFits (c .fixed .kind) (c .fixed .output)
 
 abbrev pub wFixed : List ℕ
-wFixed = 1 ∷ 1 ∷ 2 ∷ 4 ∷ 4 ∷ 4 ∷ 4 ∷ 4 ∷ 4 ∷ 4 ∷ 2 ∷ 2 ∷ 4 ∷ 1 ∷ []
+wFixed = 1 ∷ 2 ∷ 4 ∷ 4 ∷ 4 ∷ 4 ∷ 4 ∷ 4 ∷ 4 ∷ 2 ∷ 2 ∷ 4 ∷ 1 ∷ []
 
 -- the same in two halves, as code writes them
 abbrev pub wLow : List ℕ
-wLow = 1 ∷ 1 ∷ 2 ∷ 4 ∷ 4 ∷ 4 ∷ 4 ∷ []
+wLow = 1 ∷ 2 ∷ 4 ∷ 4 ∷ 4 ∷ 4 ∷ []
 
 abbrev pub wHigh : List ℕ
 wHigh = 4 ∷ 4 ∷ 4 ∷ 2 ∷ 2 ∷ 4 ∷ 1 ∷ []
 
 abbrev pub listFixed : Fixed → List ℕ
 listFixed f =
-    f .input
-    ∷ f .output
+    roleOf (f .kind) (f .output)
     ∷ f .dest .port
     ∷ f .otid .0
     ∷ f .originator
@@ -120,19 +136,19 @@ listFixed f =
 abbrev pub asFixed : ℕ → List ℕ → Fixed
 asFixed flags vs =
     record {
-      kind = kindIn flags;
-      triad = record { serial = getD vs 10 0; vendor = getD vs 11 0; originator = getD vs 12 0 };
-      originator = getD vs 4 0;
-      otid = record { 0 = getD vs 3 0 };
-      toid = record { 0 = getD vs 5 0 };
-      otrpi = getD vs 6 0;
-      multiplier = getD vs 13 0;
-      torpi = getD vs 7 0;
-      input = getD vs 0 0;
-      output = getD vs 1 0;
-      dest = record { address = getD vs 8 0; port = getD vs 2 0 };
+      kind = kindIn (getD vs 0 0);
+      triad = record { serial = getD vs 9 0; vendor = getD vs 10 0; originator = getD vs 11 0 };
+      originator = getD vs 3 0;
+      otid = record { 0 = getD vs 2 0 };
+      toid = record { 0 = getD vs 4 0 };
+      otrpi = getD vs 5 0;
+      multiplier = getD vs 12 0;
+      torpi = getD vs 6 0;
+      input = inputIn flags;
+      output = outputIn (getD vs 0 0);
+      dest = record { address = getD vs 7 0; port = getD vs 1 0 };
       multicast = multicastIn flags;
-      local = getD vs 9 0;
+      local = getD vs 8 0;
     }
 
 -- ---- a row's bytes, and what a row says
@@ -141,13 +157,13 @@ unfoldable pub encSent : Sent → List ℕ
 encSent s = encFields wSent (listSent s)
 
 unfoldable pub encHeard : ℕ → Heard → List ℕ
-encHeard role h = encFields wHeard (listHeard role h)
+encHeard carried h = encFields wHeard (listHeard carried h)
 
 unfoldable pub encFixed : Fixed → List ℕ
 encFixed f = encFields wFixed (listFixed f)
 
 abbrev pub encConn : Conn → List ℕ
-encConn c = encSent (c .sent) ++ (encHeard (roleOf (c .fixed)) (c .heard) ++ encFixed (c .fixed))
+encConn c = encSent (c .sent) ++ (encHeard (carriedOf (c .fixed)) (c .heard) ++ encFixed (c .fixed))
 
 unfoldable pub decSent : List ℕ → Sent
 decSent row = asSent (decFields wSent row 0)
@@ -161,6 +177,12 @@ decFixed row = asFixed (le 1 row 28) (decFields wFixed row 29)
 abbrev pub decConn : List ℕ → Conn
 decConn row = record { fixed = decFixed row; heard = decHeard row; sent = decSent row }
 
--- what the state test asks of a row in use
-unfoldable pub goodRow : List ℕ → Bool
-goodRow row = leb (le 1 row 28) 23
+-- the connection at a place of the table's region, and the first n: whole, and what never changes of them
+abbrev pub connAt : List ℕ → ℕ → Conn
+connAt r i = decConn (rowAt r i)
+
+abbrev pub connsIn : ℕ → List ℕ → List Conn
+connsIn n r = rows rowSize decConn n r
+
+abbrev pub fixedsIn : ℕ → List ℕ → List Fixed
+fixedsIn n r = rows rowSize decFixed n r

@@ -11,7 +11,7 @@ use Rattle.tables.specs.Tables.{rows}
 use Rattle.rules.specs.declared.AssemblyKind.{AssemblyKind}
 use Rattle.rules.specs.declared.AssemblyKind.the-variants.{Input, Output, Config}
 use Rattle.rules.specs.State.{Identity, Shape, Setup}
-use Rattle.layout.specs.Places.{setupIn, edsIn}
+use Rattle.layout.specs.Places.{setupIn, edsIn, shapesAt, shapeSize, assembliesOf}
 
 -- a shape, 5 bytes: instance 2 at 0, size 2 at 2, kind 1 at 4 (2 output, 3 configuration, else input)
 abbrev pub kindNamed : ℕ → AssemblyKind
@@ -22,7 +22,11 @@ decShape b = record { instance = le 2 b 0; kind = kindNamed (le 1 b 4); size = l
 
 -- the shape at a place of a setup region, of which there are 16
 abbrev pub shapeIn : List ℕ → ℕ → Shape
-shapeIn r i = decShape (take 5 (drop (i * 5) (drop 110 r)))
+shapeIn r i = decShape (take shapeSize (drop (i * shapeSize) (drop shapesAt r)))
+
+-- all that there are, in their order
+abbrev pub shapesOf : List ℕ → List Shape
+shapesOf r = rows shapeSize decShape (assembliesOf r) (drop shapesAt r)
 
 -- vendor 2 at 8, device type 2 at 10, product code 2 at 12, major 1 at 14, minor 1 at 15, serial 4 at 16, name at 46, its length 1 at 2
 abbrev pub identityOf : List ℕ → Identity
@@ -56,7 +60,7 @@ setupFrom r e =
       mac = take 6 (drop 40 r);
       eds = edsOf (le 4 r 4) e;
       edsName = take (le 1 r 3) (drop 78 r);
-      assemblies = rows 5 decShape (le 1 r 0) (drop 110 r);
+      assemblies = shapesOf r;
     }
 
 unfoldable pub setupOf : List ℕ → Setup
@@ -65,7 +69,7 @@ setupOf l = setupFrom (setupIn l) (edsIn l)
 -- what the state test asks of it: at most 16 assemblies, a transfer limit of at least 1, names of at most 32 bytes, an EDS of at
 -- most 65,535 bytes; and no assembly of more than 512 bytes
 abbrev pub testsSetup : List ℕ → List Bool
-testsSetup r = leb (le 1 r 0) 16 ∷ ltb 0 (le 1 r 1) ∷ leb (le 1 r 2) 32 ∷ leb (le 1 r 3) 32 ∷ leb (le 4 r 4) 65536 ∷ []
+testsSetup r = leb (assembliesOf r) 16 ∷ ltb 0 (le 1 r 1) ∷ leb (le 1 r 2) 32 ∷ leb (le 1 r 3) 32 ∷ leb (le 4 r 4) 65536 ∷ []
 
 unfoldable pub goodSetup : List ℕ → Bool
 goodSetup r = all (testsSetup r)
@@ -74,4 +78,4 @@ unfoldable pub goodShape : List ℕ → Bool
 goodShape b = leb (le 2 b 2) 512
 
 unfoldable pub goodShapes : List ℕ → Bool
-goodShapes r = all (rows 5 goodShape (le 1 r 0) (drop 110 r))
+goodShapes r = all (rows shapeSize goodShape (assembliesOf r) (drop shapesAt r))

@@ -1,5 +1,5 @@
 // The lent state's rows and shapes, as code reads them. specs/Places.antt says where the regions stand, specs/Rows.antt what a
-// connection's row holds, specs/Setups.antt what was set up. Every function here is given the region that it works on.
+// connection's row holds, specs/Setups.antt what was set up. Functions of rows and shapes are given the region that they work on.
 use ids::OtId;
 use ids::ToId;
 use ids::Triad;
@@ -13,9 +13,58 @@ use rules::Socket;
 ghost use mathlib.Core.Path.{_≡_};
 ghost use Prim.Native.Nat.{ℕ, _*_, _≤_, _<_};
 ghost use lib.ListN.{length};
-ghost use Rattle.rules.specs.State.{isOwner};
+ghost use Rattle.cells.specs.Records.{toBool};
+ghost use Rattle.rules.specs.State.{isOwner, isListener};
+ghost use Rattle.layout.specs.Places.{setupSize, marksAt, tableAt, tableSize, rowSize, firstOf, waitingOf, faultOf, markAt};
+ghost use Rattle.layout.specs.Bits.{runIn, notifiedIn};
 ghost use Rattle.layout.specs.Setups.{kindNamed, shapeIn};
-ghost use Rattle.layout.specs.Rows.{rowAt, toDue, toKind, kindIn, multicastIn, anyIn, anycipIn, decSent, decHeard, decFixed};
+ghost use Rattle.layout.specs.Rows.{rowAt, ofDue, toDue, kindIn, outputIn, multicastIn, inputIn, anyIn, anycipIn, decSent, decHeard, decFixed};
+
+// ---- where the regions and their numbers stand, as specs/Places.antt has them
+
+pub const STATE_SIZE: usize = 109056;
+
+pub const SETUP_SIZE: usize = 192;
+
+pub const PRODUCED: usize = 192;
+
+pub const LATE: usize = 200;
+
+pub const MAX_LATE: usize = 208;
+
+pub const NEXT_ID: usize = 216;
+
+pub const RING: usize = 220;
+
+pub const CONNECTIONS: usize = 224;
+
+pub const MARKS: usize = 240;
+
+pub const TABLE: usize = 256;
+
+pub const EVENTS: usize = 2560;
+
+pub const DATA: usize = 35328;
+
+pub const EDS: usize = 43520;
+
+// What the ring's word is below.
+pub const RING_BOUND: u32 = 2099200;
+
+// A connection's row, an event's record, an assembly's bytes; the first shape's numbers, and how far the next one is.
+pub const ROW: usize = 69;
+
+pub const RECORD: usize = 32;
+
+pub const SLOT: usize = 512;
+
+pub const INSTANCES: usize = 110;
+
+pub const SIZES: usize = 112;
+
+pub const KINDS: usize = 114;
+
+pub const SHAPE: usize = 5;
 
 // Where a search along the rows, or along the shapes, found the first that it looks for.
 pub enum Found {
@@ -44,28 +93,37 @@ fn due_of(n: u64) -> Due
     Due::At(n - 1)
 }
 
-fn kind_of(n: u8) -> Kind
-    ensures { λ r. ⌜ r ≡ toKind n ⌝ }
+fn kind_in(role: u8) -> Kind
+    ensures { λ r. ⌜ r ≡ kindIn role ⌝ }
 {
-    if n == 0 {
+    if role < 254 {
         return Kind::Owner;
     }
-    if n == 1 {
+    if role == 254 {
         return Kind::InputOnly;
     }
     Kind::ListenOnly
 }
 
-fn kind_in(flags: u8) -> Kind
-    ensures { λ r. ⌜ r ≡ kindIn flags ⌝ }
+fn output_in(role: u8) -> u8
+    ensures { λ r. ⌜ r ≡ outputIn role ⌝ }
 {
-    kind_of(flags / 4 % 3)
+    if role < 254 {
+        return role;
+    }
+    0
 }
 
 fn multicast_in(flags: u8) -> bool
     ensures { λ r. ⌜ r ≡ multicastIn flags ⌝ }
 {
-    flags / 4 / 3 != 0
+    flags / 4 % 2 != 0
+}
+
+fn input_in(flags: u8) -> u8
+    ensures { λ r. ⌜ r ≡ inputIn flags ⌝ }
+{
+    flags / 4 / 2
 }
 
 fn any_in(flags: u8) -> bool
@@ -83,52 +141,53 @@ fn anycip_in(flags: u8) -> bool
 // ---- a row read
 
 fn triad_of(row: &[u8]) -> Triad
-    requires { ⌜ 70 ≤ length (now row) ⌝ }
+    requires { ⌜ rowSize ≤ length (now row) ⌝ }
     ensures { λ r. ⌜ r ≡ decFixed (now (row .entry)) .triad ⌝ }
 {
     Triad {
-        serial: cells::u16_at(row, 61),
-        vendor: cells::u16_at(row, 63),
-        originator: cells::u32_at(row, 65),
+        serial: cells::u16_at(row, 60),
+        vendor: cells::u16_at(row, 62),
+        originator: cells::u32_at(row, 64),
     }
 }
 
 fn dest_of(row: &[u8]) -> Socket
-    requires { ⌜ 70 ≤ length (now row) ⌝ }
+    requires { ⌜ rowSize ≤ length (now row) ⌝ }
     ensures { λ r. ⌜ r ≡ decFixed (now (row .entry)) .dest ⌝ }
 {
     Socket {
-        address: cells::u32_at(row, 53),
-        port: cells::u16_at(row, 31),
+        address: cells::u32_at(row, 52),
+        port: cells::u16_at(row, 30),
     }
 }
 
 fn fixed_of(row: &[u8]) -> Fixed
-    requires { ⌜ 70 ≤ length (now row) ⌝ }
+    requires { ⌜ rowSize ≤ length (now row) ⌝ }
     ensures { λ r. ⌜ r ≡ decFixed (now (row .entry)) ⌝ }
 {
     let flags = cells::u8_at(row, 28);
+    let role = cells::u8_at(row, 29);
     let triad = triad_of(row);
     let dest = dest_of(row);
     Fixed {
-        kind: kind_in(flags),
+        kind: kind_in(role),
         triad: triad,
-        originator: cells::u32_at(row, 37),
-        otid: OtId(cells::u32_at(row, 33)),
-        toid: ToId(cells::u32_at(row, 41)),
-        otrpi: cells::u32_at(row, 45),
-        multiplier: cells::u8_at(row, 69),
-        torpi: cells::u32_at(row, 49),
-        input: cells::u8_at(row, 29),
-        output: cells::u8_at(row, 30),
+        originator: cells::u32_at(row, 36),
+        otid: OtId(cells::u32_at(row, 32)),
+        toid: ToId(cells::u32_at(row, 40)),
+        otrpi: cells::u32_at(row, 44),
+        multiplier: cells::u8_at(row, 68),
+        torpi: cells::u32_at(row, 48),
+        input: input_in(flags),
+        output: output_in(role),
         dest: dest,
         multicast: multicast_in(flags),
-        local: cells::u32_at(row, 57),
+        local: cells::u32_at(row, 56),
     }
 }
 
 fn heard_of(row: &[u8]) -> Heard
-    requires { ⌜ 70 ≤ length (now row) ⌝ }
+    requires { ⌜ rowSize ≤ length (now row) ⌝ }
     ensures { λ r. ⌜ r ≡ decHeard (now (row .entry)) ⌝ }
 {
     let flags = cells::u8_at(row, 28);
@@ -142,7 +201,7 @@ fn heard_of(row: &[u8]) -> Heard
 }
 
 fn sent_of(row: &[u8]) -> Sent
-    requires { ⌜ 70 ≤ length (now row) ⌝ }
+    requires { ⌜ rowSize ≤ length (now row) ⌝ }
     ensures { λ r. ⌜ r ≡ decSent (now (row .entry)) ⌝ }
 {
     let due = due_of(cells::u64_at(row, 0));
@@ -156,59 +215,127 @@ fn sent_of(row: &[u8]) -> Sent
 // ---- rows of the table's region
 
 pub fn fixed_at(r: &[u8], i: usize) -> Fixed
-    requires { ⌜ (i < 32) × (2304 ≤ length (now r)) ⌝ }
+    requires { ⌜ (i < 32) × (tableSize ≤ length (now r)) ⌝ }
     ensures { λ x. ⌜ x ≡ decFixed (rowAt (now (r .entry)) i) ⌝ }
 {
-    let a = i * 70;
-    let e = a + 70;
+    let a = i * ROW;
+    let e = a + ROW;
     fixed_of(&r[a..e])
 }
 
 pub fn heard_at(r: &[u8], i: usize) -> Heard
-    requires { ⌜ (i < 32) × (2304 ≤ length (now r)) ⌝ }
+    requires { ⌜ (i < 32) × (tableSize ≤ length (now r)) ⌝ }
     ensures { λ x. ⌜ x ≡ decHeard (rowAt (now (r .entry)) i) ⌝ }
 {
-    let a = i * 70;
-    let e = a + 70;
+    let a = i * ROW;
+    let e = a + ROW;
     heard_of(&r[a..e])
 }
 
 pub fn sent_at(r: &[u8], i: usize) -> Sent
-    requires { ⌜ (i < 32) × (2304 ≤ length (now r)) ⌝ }
+    requires { ⌜ (i < 32) × (tableSize ≤ length (now r)) ⌝ }
     ensures { λ x. ⌜ x ≡ decSent (rowAt (now (r .entry)) i) ⌝ }
 {
-    let a = i * 70;
-    let e = a + 70;
+    let a = i * ROW;
+    let e = a + ROW;
     sent_of(&r[a..e])
 }
 
 // What a search along the table compares, without the rest of the row.
 pub fn otid_at(r: &[u8], i: usize) -> OtId
-    requires { ⌜ (i < 32) × (2304 ≤ length (now r)) ⌝ }
+    requires { ⌜ (i < 32) × (tableSize ≤ length (now r)) ⌝ }
     ensures { λ x. ⌜ x ≡ decFixed (rowAt (now (r .entry)) i) .otid ⌝ }
 {
-    OtId(cells::u32_at(r, i * 70 + 33))
+    OtId(cells::u32_at(r, i * ROW + 32))
 }
 
 pub fn originator_at(r: &[u8], i: usize) -> u32
-    requires { ⌜ (i < 32) × (2304 ≤ length (now r)) ⌝ }
+    requires { ⌜ (i < 32) × (tableSize ≤ length (now r)) ⌝ }
     ensures { λ x. ⌜ x ≡ decFixed (rowAt (now (r .entry)) i) .originator ⌝ }
 {
-    cells::u32_at(r, i * 70 + 37)
+    cells::u32_at(r, i * ROW + 36)
+}
+
+pub fn toid_at(r: &[u8], i: usize) -> ToId
+    requires { ⌜ (i < 32) × (tableSize ≤ length (now r)) ⌝ }
+    ensures { λ x. ⌜ x ≡ decFixed (rowAt (now (r .entry)) i) .toid ⌝ }
+{
+    ToId(cells::u32_at(r, i * ROW + 40))
+}
+
+pub fn torpi_at(r: &[u8], i: usize) -> u32
+    requires { ⌜ (i < 32) × (tableSize ≤ length (now r)) ⌝ }
+    ensures { λ x. ⌜ x ≡ decFixed (rowAt (now (r .entry)) i) .torpi ⌝ }
+{
+    cells::u32_at(r, i * ROW + 48)
+}
+
+pub fn triad_at(r: &[u8], i: usize) -> Triad
+    requires { ⌜ (i < 32) × (tableSize ≤ length (now r)) ⌝ }
+    ensures { λ x. ⌜ x ≡ decFixed (rowAt (now (r .entry)) i) .triad ⌝ }
+{
+    Triad {
+        serial: cells::u16_at(r, i * ROW + 60),
+        vendor: cells::u16_at(r, i * ROW + 62),
+        originator: cells::u32_at(r, i * ROW + 64),
+    }
+}
+
+pub fn multicast_at(r: &[u8], i: usize) -> bool
+    requires { ⌜ (i < 32) × (tableSize ≤ length (now r)) ⌝ }
+    ensures { λ x. ⌜ x ≡ decFixed (rowAt (now (r .entry)) i) .multicast ⌝ }
+{
+    multicast_in(cells::u8_at(r, i * ROW + 28))
+}
+
+pub fn input_at(r: &[u8], i: usize) -> u8
+    requires { ⌜ (i < 32) × (tableSize ≤ length (now r)) ⌝ }
+    ensures { λ x. ⌜ x ≡ decFixed (rowAt (now (r .entry)) i) .input ⌝ }
+{
+    input_in(cells::u8_at(r, i * ROW + 28))
+}
+
+pub fn output_at(r: &[u8], i: usize) -> u8
+    requires { ⌜ (i < 32) × (tableSize ≤ length (now r)) ⌝ }
+    ensures { λ x. ⌜ x ≡ decFixed (rowAt (now (r .entry)) i) .output ⌝ }
+{
+    output_in(cells::u8_at(r, i * ROW + 29))
+}
+
+pub fn owns_at(r: &[u8], i: usize) -> bool
+    requires { ⌜ (i < 32) × (tableSize ≤ length (now r)) ⌝ }
+    ensures { λ x. ⌜ x ≡ isOwner (decFixed (rowAt (now (r .entry)) i) .kind) ⌝ }
+{
+    cells::u8_at(r, i * ROW + 29) < 254
+}
+
+pub fn listens_at(r: &[u8], i: usize) -> bool
+    requires { ⌜ (i < 32) × (tableSize ≤ length (now r)) ⌝ }
+    ensures { λ x. ⌜ x ≡ isListener (decFixed (rowAt (now (r .entry)) i) .kind) ⌝ }
+{
+    cells::u8_at(r, i * ROW + 29) > 254
 }
 
 pub fn until_at(r: &[u8], i: usize) -> u64
-    requires { ⌜ (i < 32) × (2304 ≤ length (now r)) ⌝ }
+    requires { ⌜ (i < 32) × (tableSize ≤ length (now r)) ⌝ }
     ensures { λ x. ⌜ x ≡ decHeard (rowAt (now (r .entry)) i) .until ⌝ }
 {
-    cells::u64_at(r, i * 70 + 16)
+    cells::u64_at(r, i * ROW + 16)
 }
 
 pub fn due_at(r: &[u8], i: usize) -> Due
-    requires { ⌜ (i < 32) × (2304 ≤ length (now r)) ⌝ }
+    requires { ⌜ (i < 32) × (tableSize ≤ length (now r)) ⌝ }
     ensures { λ x. ⌜ x ≡ decSent (rowAt (now (r .entry)) i) .due ⌝ }
 {
-    due_of(cells::u64_at(r, i * 70))
+    due_of(cells::u64_at(r, i * ROW))
+}
+
+// 0 for never, else the due time and one.
+pub fn due_number_at(r: &[u8], i: usize) -> u64
+    requires { ⌜ (i < 32) × (tableSize ≤ length (now r)) ⌝ }
+    ensures { λ x. ⌜ x ≡ ofDue (decSent (rowAt (now (r .entry)) i) .due) ⌝ }
+{
+    cells::u64_at(r, i * ROW)
 }
 
 // ---- shapes, in the setup's region
@@ -226,22 +353,60 @@ fn kind_named(n: u8) -> AssemblyKind
 }
 
 pub fn instance_at(r: &[u8], i: usize) -> u16
-    requires { ⌜ (i < 16) × (192 ≤ length (now r)) ⌝ }
+    requires { ⌜ (i < 16) × (setupSize ≤ length (now r)) ⌝ }
     ensures { λ x. ⌜ x ≡ shapeIn (now (r .entry)) i .instance ⌝ }
 {
-    cells::u16_at(r, i * 5 + 110)
+    cells::u16_at(r, i * SHAPE + INSTANCES)
 }
 
 pub fn size_at(r: &[u8], i: usize) -> u16
-    requires { ⌜ (i < 16) × (192 ≤ length (now r)) ⌝ }
+    requires { ⌜ (i < 16) × (setupSize ≤ length (now r)) ⌝ }
     ensures { λ x. ⌜ x ≡ shapeIn (now (r .entry)) i .size ⌝ }
 {
-    cells::u16_at(r, i * 5 + 112)
+    cells::u16_at(r, i * SHAPE + SIZES)
 }
 
 pub fn kind_at(r: &[u8], i: usize) -> AssemblyKind
-    requires { ⌜ (i < 16) × (192 ≤ length (now r)) ⌝ }
+    requires { ⌜ (i < 16) × (setupSize ≤ length (now r)) ⌝ }
     ensures { λ x. ⌜ x ≡ shapeIn (now (r .entry)) i .kind ⌝ }
 {
-    kind_named(cells::u8_at(r, i * 5 + 114))
+    kind_named(cells::u8_at(r, i * SHAPE + KINDS))
+}
+
+// ---- the ring's word and the marks, in the whole state
+
+pub fn events_waiting(s: &[u8]) -> u32
+    requires { ⌜ marksAt ≤ length (now s) ⌝ }
+    ensures { λ x. ⌜ x ≡ waitingOf (now (s .entry)) ⌝ }
+{
+    cells::u32_at(s, RING) / 2048
+}
+
+pub fn first_slot(s: &[u8]) -> u32
+    requires { ⌜ marksAt ≤ length (now s) ⌝ }
+    ensures { λ x. ⌜ x ≡ firstOf (now (s .entry)) ⌝ }
+{
+    cells::u32_at(s, RING) / 2 % 1024
+}
+
+pub fn faulty(s: &[u8]) -> bool
+    requires { ⌜ marksAt ≤ length (now s) ⌝ }
+    ensures { λ x. ⌜ x ≡ toBool (faultOf (now (s .entry))) ⌝ }
+{
+    cells::u32_at(s, RING) % 2 != 0
+}
+
+pub fn runs(s: &[u8], i: usize) -> bool
+    requires { ⌜ (i < 16) × (tableAt ≤ length (now s)) ⌝ }
+    ensures { λ x. ⌜ x ≡ runIn (markAt (now (s .entry)) i) ⌝ }
+{
+    cells::u8_at(s, MARKS + i) % 2 != 0
+}
+
+// Whether the host was told that there is something to read, and has not read it.
+pub fn told(s: &[u8], i: usize) -> bool
+    requires { ⌜ (i < 16) × (tableAt ≤ length (now s)) ⌝ }
+    ensures { λ x. ⌜ x ≡ notifiedIn (markAt (now (s .entry)) i) ⌝ }
+{
+    cells::u8_at(s, MARKS + i) / 2 % 2 != 0
 }

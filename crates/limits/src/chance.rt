@@ -46,27 +46,16 @@ fn mend_names(s: &mut [u8]) {
 
 fn mend_counts(s: &mut [u8]) {
     memory::put(s, 216, 1);
-    below(s, 221, 4);
-    below(s, 223, 4);
+    below(s, 222, 32);
+    memory::put(s, 223, 0);
     below(s, 224, 33);
     memory::put(s, 225, 0);
-    below(s, 226, 2);
-    memory::put(s, 227, 0);
-}
-
-fn mend_rows(s: &mut [u8]) {
-    let mut i: usize = 0;
-    while i < 32 {
-        below(s, 284 + i * 70, 24);
-        i += 1;
-    }
 }
 
 fn mend_shapes(s: &mut [u8]) {
     let mut i: usize = 0;
     while i < 16 {
         below(s, 113 + i * 5, 2);
-        below(s, 240 + i, 4);
         i += 1;
     }
 }
@@ -84,7 +73,6 @@ fn chance_state(state: &mut [u8], seed: u32, mend: bool) -> u32 {
         mend_head(state);
         mend_names(state);
         mend_counts(state);
-        mend_rows(state);
         mend_shapes(state);
     }
     x

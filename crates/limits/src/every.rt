@@ -93,7 +93,7 @@ fn put_id(f: &mut [u8], state: &[u8]) {
         return;
     }
     if f.len() == 28 {
-        cells::copy_in(f, 6, &state[289..293]);
+        copies::copy_in(f, 6, &state[288..292]);
     }
 }
 
@@ -102,7 +102,7 @@ fn put_sequence(f: &mut [u8], state: &[u8]) {
         return;
     }
     if f.len() == 28 {
-        cells::copy_in(f, 10, &state[60000..60004]);
+        copies::copy_in(f, 10, &state[60000..60004]);
     }
 }
 
@@ -111,7 +111,7 @@ fn make_close(q: &mut [u8], state: &[u8]) {
         return;
     }
     if q.len() == 12 {
-        cells::copy_in(q, 2, &state[317..325]);
+        copies::copy_in(q, 2, &state[316..324]);
     }
 }
 
@@ -152,7 +152,7 @@ fn count_traffic(t: Tally, state: &mut [u8], time: u64) -> Tally {
     put_id(&mut f, state);
     put_sequence(&mut f, state);
     make_close(&mut q, state);
-    let peer = u32_in(state, 293);
+    let peer = u32_in(state, 292);
     let r = threshtide_receive(state, time, peer, &f);
     let t1 = count(t, r, 3, 3, 3, state);
     let r = threshtide_close(state, &q, &mut out);

@@ -6,14 +6,14 @@ pub const PEER: u32 = 0x0A000001;
 
 // An owner of the output at a place, from 10.0.0.1, O->T RPI 10,000 with multiplier 0; it lives until 100,000 and does not produce.
 fn add_owner(row: &mut [u8], id: u8, output: u8) {
-    memory::put(row, 30, output);
-    memory::put(row, 33, id);
-    memory::put(row, 37, 1);
-    memory::put(row, 40, 10);
-    memory::put(row, 61, id);
-    if row.len() == 70 {
+    memory::put(row, 29, output);
+    memory::put(row, 32, id);
+    memory::put(row, 36, 1);
+    memory::put(row, 39, 10);
+    memory::put(row, 60, id);
+    if row.len() == 69 {
         cells::put_u64(row, 16, 100000);
-        cells::put_u32(row, 45, 10000);
+        cells::put_u32(row, 44, 10000);
     }
 }
 
@@ -22,8 +22,8 @@ pub fn add_owners(state: &mut [u8]) {
     if state.len() != 109056 {
         return;
     }
-    add_owner(&mut state[256..326], 1, 1);
-    add_owner(&mut state[326..396], 2, 4);
+    add_owner(&mut state[256..325], 1, 1);
+    add_owner(&mut state[325..394], 2, 4);
     memory::put(state, 224, 2);
 }
 

@@ -17,9 +17,9 @@ use Rattle.rules.specs.declared.Fixed.{Fixed}
 use Rattle.rules.specs.Answers.{Wrote, NoRoom}
 use Rattle.rules.specs.Events.{infoOf, infoRecord}
 use Rattle.rules.specs.Host.{connectionBytes, connectionsAnswer}
-use Rattle.layout.specs.Places.{setupIn, tableIn}
+use Rattle.layout.specs.Places.{setupIn, tableIn, rowSize, connectionsOf}
 use Rattle.layout.specs.Setups.{setupOf, setupFrom}
-use Rattle.layout.specs.Rows.{decConn, decFixed}
+use Rattle.layout.specs.Rows.{decConn, decFixed, rowAt, connsIn}
 use Rattle.image.specs.Image.{view, tested}
 use Rattle.image.specs.Updates.{noConn}
 use Rattle.image.specs.Lift.{liftedRead}
@@ -33,23 +33,23 @@ recordOf u c = infoRecord 0 (infoOf u (c .fixed))
 
 -- the record of row i
 unfoldable pub recordAt : List ℕ → ℕ → List ℕ
-recordAt s i = infoRecord 0 (infoOf (setupOf s) (decFixed (take 70 (drop (i * 70) (tableIn s)))))
+recordAt s i = infoRecord 0 (infoOf (setupOf s) (decFixed (rowAt (tableIn s) i)))
 
 length-record : (u : Setup) (c : Conn) → length (recordOf u c) ≡ 32
 unfolding recordOf
 length-record u c = length-info 0 (infoOf u (c .fixed))
 
 -- as `tell` writes it: into a part of the output
-pub told : (s out r : List ℕ) (i : ℕ) (f : Fixed) → i * 32 + 32 ≤ length out → f ≡ decFixed (take 70 (drop (i * 70) (tableIn s)))
+pub told : (s out r : List ℕ) (i : ℕ) (f : Fixed) → i * 32 + 32 ≤ length out → f ≡ decFixed (rowAt (tableIn s) i)
     → r ≡ sets (take (i * 32 + 32 - i * 32) (drop (i * 32) out)) 0 (infoRecord 0 (infoOf (setupFrom (setupIn s) []) f))
     → putMid (i * 32) (i * 32 + 32 - i * 32) out r ≡ sets out (i * 32) (recordAt s i)
 unfolding recordAt
 told s out r i f h ef er =
-    let x : List ℕ = infoRecord 0 (infoOf (setupOf s) (decFixed (take 70 (drop (i * 70) (tableIn s))))) in
-    let n : length x ≡ 32 = length-info 0 (infoOf (setupOf s) (decFixed (take 70 (drop (i * 70) (tableIn s))))) in
+    let x : List ℕ = infoRecord 0 (infoOf (setupOf s) (decFixed (rowAt (tableIn s) i))) in
+    let n : length x ≡ 32 = length-info 0 (infoOf (setupOf s) (decFixed (rowAt (tableIn s) i))) in
     ap (putMid (i * 32) (i * 32 + 32 - i * 32) out)
     (er ∙ ap (λ (z : Fixed). sets (take (i * 32 + 32 - i * 32) (drop (i * 32) out)) 0 (infoRecord 0 (infoOf (setupFrom (setupIn s) []) z))) ef
-    ∙ ap (λ z. sets (take (i * 32 + 32 - i * 32) (drop (i * 32) out)) 0 (infoRecord 0 z)) (info-in s (decFixed (take 70 (drop (i * 70) (tableIn s))))))
+    ∙ ap (λ z. sets (take (i * 32 + 32 - i * 32) (drop (i * 32) out)) 0 (infoRecord 0 z)) (info-in s (decFixed (rowAt (tableIn s) i))))
     ∙ lent out (i * 32) (i * 32 + 32 - i * 32) x (omega arith) (omega arith)
 
 -- ---- all of them
@@ -77,17 +77,17 @@ length-joined u (c ∷ cs) =
 
 module _ (s : List ℕ) where
   abbrev cs : List Conn
-  cs = rows 70 decConn (le 2 s 224) (tableIn s)
+  cs = connsIn (connectionsOf s) (tableIn s)
 
-  record-is : (i : ℕ) → i < le 2 s 224 → recordAt s i ≡ recordOf (setupOf s) (getD (rows 70 decConn (le 2 s 224) (tableIn s)) i noConn)
+  record-is : (i : ℕ) → i < connectionsOf s → recordAt s i ≡ recordOf (setupOf s) (getD (connsIn (connectionsOf s) (tableIn s)) i noConn)
   unfolding recordAt recordOf
-  record-is i h = ap (λ (c : Conn). infoRecord 0 (infoOf (setupOf s) (c .fixed))) (sym (row-at 70 decConn (le 2 s 224) (tableIn s) i noConn h))
+  record-is i h = ap (λ (c : Conn). infoRecord 0 (infoOf (setupOf s) (c .fixed))) (sym (row-at rowSize decConn (connectionsOf s) (tableIn s) i noConn h))
 
-  pub tell-more : (out x : List ℕ) (i : ℕ) → i < le 2 s 224 → x ≡ sets out 0 (tellings (setupOf s) i (rows 70 decConn (le 2 s 224) (tableIn s)))
-      → sets x (i * 32) (recordAt s i) ≡ sets out 0 (tellings (setupOf s) (i + 1) (rows 70 decConn (le 2 s 224) (tableIn s)))
+  pub tell-more : (out x : List ℕ) (i : ℕ) → i < connectionsOf s → x ≡ sets out 0 (tellings (setupOf s) i (connsIn (connectionsOf s) (tableIn s)))
+      → sets x (i * 32) (recordAt s i) ≡ sets out 0 (tellings (setupOf s) (i + 1) (connsIn (connectionsOf s) (tableIn s)))
   tell-more out x i h e =
       let u : Setup = setupOf s in
-      let n = length-rows 70 decConn (le 2 s 224) (tableIn s) in
+      let n = length-rows rowSize decConn (connectionsOf s) (tableIn s) in
       let k : i * 32 ≡ 0 + length (tellings u i cs) =
       (let a = length-joined u (take i cs) in let b = length-take-le i cs (omega arith) in omega arith) in
       ap₂ (λ (y : List ℕ) (m : ℕ). sets y m (recordAt s i)) e k
@@ -95,27 +95,27 @@ module _ (s : List ℕ) where
       ∙ sym (sets-append out 0 (tellings u i cs) (recordOf u (getD cs i noConn)))
       ∙ ap (sets out 0) (sym (more u cs i (omega arith)))
 
-  bytes-are : connectionBytes (view s) ≡ joined (recordOf (setupOf s)) (rows 70 decConn (le 2 s 224) (tableIn s))
+  bytes-are : connectionBytes (view s) ≡ joined (recordOf (setupOf s)) (connsIn (connectionsOf s) (tableIn s))
   unfolding connectionBytes view recordOf
   bytes-are = refl
 
-  length-bytes : length (connectionBytes (view s)) ≡ le 2 s 224 * 32
+  length-bytes : length (connectionBytes (view s)) ≡ connectionsOf s * 32
   length-bytes =
-      ap length bytes-are ∙ length-joined (setupOf s) cs ∙ ap (λ (n : ℕ). n * 32) (length-rows 70 decConn (le 2 s 224) (tableIn s))
+      ap length bytes-are ∙ length-joined (setupOf s) cs ∙ ap (λ (n : ℕ). n * 32) (length-rows rowSize decConn (connectionsOf s) (tableIn s))
 
-  module _ (out : List ℕ) (t : tested s ≡ true) (n : ℕ) (en : n ≡ le 2 s 224) where
+  module _ (out : List ℕ) (t : tested s ≡ true) (n : ℕ) (en : n ≡ connectionsOf s) where
     pub table-short : length out < n * 32 → (8, out) ≡ liftedRead connectionsAnswer s out
     unfolding connectionsAnswer
     table-short h =
         let k = length-bytes in
         read-no s out t connectionsAnswer NoRoom (fits-not (length out) (connectionBytes (view s)) (Wrote (connectionBytes (view s))) (omega arith))
 
-    pub table-told : n * 32 ≤ length out → (x : List ℕ) (i : ℕ) → n ≤ i → x ≡ sets out 0 (tellings (setupOf s) i (rows 70 decConn (le 2 s 224) (tableIn s)))
+    pub table-told : n * 32 ≤ length out → (x : List ℕ) (i : ℕ) → n ≤ i → x ≡ sets out 0 (tellings (setupOf s) i (connsIn (connectionsOf s) (tableIn s)))
         → (2 ^ 8 * (n * 32), x) ≡ liftedRead connectionsAnswer s out
     unfolding connectionsAnswer
     table-told h x i p e =
         let k = length-bytes in
-        let m = length-rows 70 decConn (le 2 s 224) (tableIn s) in
+        let m = length-rows rowSize decConn (connectionsOf s) (tableIn s) in
         read-wrote s out t connectionsAnswer (n * 32) x (connectionBytes (view s))
         (fits-in (length out) (connectionBytes (view s)) (Wrote (connectionBytes (view s))) (omega arith))
         (omega arith)

@@ -1,1 +1,2 @@
 pub mod RowTests
+pub mod AnyExpired

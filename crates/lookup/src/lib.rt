@@ -3,69 +3,92 @@ use ids::ToId;
 use ids::Triad;
 use layout::Found;
 ghost use mathlib.Core.Path.{_≡_};
-ghost use Prim.Native.Nat.{_≤_, _<_};
+ghost use Prim.Native.Nat.{_≤_, _<_, min};
 ghost use lib.ListN.{length};
 ghost use Rattle.tables.specs.Tables.{rows};
-ghost use Rattle.rules.specs.Lists.{place};
+ghost use Rattle.rules.specs.Lists.{place, any};
 ghost use Rattle.rules.specs.Removal.{inStream, feeds, expired, connTriad};
-ghost use Rattle.layout.specs.Rows.{rowAt, decConn};
+ghost use Rattle.layout.specs.Rows.{connAt, connsIn};
+ghost use Rattle.layout.specs.Places.{tableSize};
 ghost use Rattle.lookup.specs.RowTests.{foundOf};
 
 // ---- tests of a row, on the numbers that they need
 
 // A multicast connection of the T→O id.
 fn in_stream_at(r: &[u8], i: usize, id: ToId) -> bool
-    requires { ⌜ (i < 32) × (2304 ≤ length (now r)) ⌝ }
-    ensures { λ x. ⌜ x ≡ inStream id (decConn (rowAt (now (r .entry)) i)) ⌝ }
+    requires { ⌜ (i < 32) × (tableSize ≤ length (now r)) ⌝ }
+    ensures { λ x. ⌜ x ≡ inStream id (connAt (now (r .entry)) i) ⌝ }
 {
-    let flags = cells::u8_at(r, i * 70 + 28);
-    let toid = cells::u32_at(r, i * 70 + 41);
-    if flags / 4 / 3 == 0 {
+    let toid = layout::toid_at(r, i);
+    if !layout::multicast_at(r, i) {
         return false;
     }
-    toid == id.0
+    toid.0 == id.0
 }
 
 // Such a one that is not listen-only.
 fn feeds_at(r: &[u8], i: usize, id: ToId) -> bool
-    requires { ⌜ (i < 32) × (2304 ≤ length (now r)) ⌝ }
-    ensures { λ x. ⌜ x ≡ feeds id (decConn (rowAt (now (r .entry)) i)) ⌝ }
+    requires { ⌜ (i < 32) × (tableSize ≤ length (now r)) ⌝ }
+    ensures { λ x. ⌜ x ≡ feeds id (connAt (now (r .entry)) i) ⌝ }
 {
-    let flags = cells::u8_at(r, i * 70 + 28);
     if in_stream_at(r, i, id) {
-        return flags / 4 % 3 < 2;
+        return !layout::listens_at(r, i);
     }
     false
 }
 
 fn has_triad_at(r: &[u8], i: usize, t: Triad) -> bool
-    requires { ⌜ (i < 32) × (2304 ≤ length (now r)) ⌝ }
-    ensures { λ x. ⌜ x ≡ connTriad t (decConn (rowAt (now (r .entry)) i)) ⌝ }
+    requires { ⌜ (i < 32) × (tableSize ≤ length (now r)) ⌝ }
+    ensures { λ x. ⌜ x ≡ connTriad t (connAt (now (r .entry)) i) ⌝ }
 {
-    let serial = cells::u16_at(r, i * 70 + 61);
-    let vendor = cells::u16_at(r, i * 70 + 63);
-    let originator = cells::u32_at(r, i * 70 + 65);
-    if t.serial != serial {
+    let x = layout::triad_at(r, i);
+    if t.serial != x.serial {
         return false;
     }
-    if t.vendor != vendor {
+    if t.vendor != x.vendor {
         return false;
     }
-    t.originator == originator
+    t.originator == x.originator
 }
 
 fn expired_at(r: &[u8], i: usize, time: u64) -> bool
-    requires { ⌜ (i < 32) × (2304 ≤ length (now r)) ⌝ }
-    ensures { λ x. ⌜ x ≡ expired time (decConn (rowAt (now (r .entry)) i)) ⌝ }
+    requires { ⌜ (i < 32) × (tableSize ≤ length (now r)) ⌝ }
+    ensures { λ x. ⌜ x ≡ expired time (connAt (now (r .entry)) i) ⌝ }
 {
     layout::until_at(r, i) < time
+}
+
+// ---- whether any has expired
+
+// Without a jump.
+fn lesser(a: u64, b: u64) -> u64
+    ensures { λ r. ⌜ r ≡ min a b ⌝ }
+{
+    if a < b {
+        return a;
+    }
+    b
+}
+
+// The least time of all rows tells it, so that the loop has no jump in it.
+pub fn any_expired(r: &[u8], n: usize, time: u64) -> bool
+    requires { ⌜ (n ≤ 32) × (tableSize ≤ length (now r)) ⌝ }
+    ensures { λ x. ⌜ x ≡ any (expired time) (connsIn n (now (r .entry))) ⌝ }
+{
+    let mut m: u64 = 18446744073709551615;
+    let mut i = 0;
+    while i < n {
+        m = lesser(m, layout::until_at(r, i));
+        i += 1;
+    }
+    m < time
 }
 
 // ---- searches along the rows in use
 
 pub fn find_triad(r: &[u8], n: usize, t: Triad) -> Found
-    requires { ⌜ (n ≤ 32) × (2304 ≤ length (now r)) ⌝ }
-    ensures { λ x. ⌜ x ≡ foundOf (place (connTriad t) (rows 70 decConn n (now (r .entry)))) ⌝ }
+    requires { ⌜ (n ≤ 32) × (tableSize ≤ length (now r)) ⌝ }
+    ensures { λ x. ⌜ x ≡ foundOf (place (connTriad t) (connsIn n (now (r .entry)))) ⌝ }
 {
     let mut i = 0;
     while i < n {
@@ -78,8 +101,8 @@ pub fn find_triad(r: &[u8], n: usize, t: Triad) -> Found
 }
 
 pub fn find_expired(r: &[u8], n: usize, time: u64) -> Found
-    requires { ⌜ (n ≤ 32) × (2304 ≤ length (now r)) ⌝ }
-    ensures { λ x. ⌜ x ≡ foundOf (place (expired time) (rows 70 decConn n (now (r .entry)))) ⌝ }
+    requires { ⌜ (n ≤ 32) × (tableSize ≤ length (now r)) ⌝ }
+    ensures { λ x. ⌜ x ≡ foundOf (place (expired time) (connsIn n (now (r .entry)))) ⌝ }
 {
     let mut i = 0;
     while i < n {
@@ -92,8 +115,8 @@ pub fn find_expired(r: &[u8], n: usize, time: u64) -> Found
 }
 
 pub fn find_stream(r: &[u8], n: usize, id: ToId) -> Found
-    requires { ⌜ (n ≤ 32) × (2304 ≤ length (now r)) ⌝ }
-    ensures { λ x. ⌜ x ≡ foundOf (place (inStream id) (rows 70 decConn n (now (r .entry)))) ⌝ }
+    requires { ⌜ (n ≤ 32) × (tableSize ≤ length (now r)) ⌝ }
+    ensures { λ x. ⌜ x ≡ foundOf (place (inStream id) (connsIn n (now (r .entry)))) ⌝ }
 {
     let mut i = 0;
     while i < n {
@@ -106,8 +129,8 @@ pub fn find_stream(r: &[u8], n: usize, id: ToId) -> Found
 }
 
 pub fn find_feeder(r: &[u8], n: usize, id: ToId) -> Found
-    requires { ⌜ (n ≤ 32) × (2304 ≤ length (now r)) ⌝ }
-    ensures { λ x. ⌜ x ≡ foundOf (place (feeds id) (rows 70 decConn n (now (r .entry)))) ⌝ }
+    requires { ⌜ (n ≤ 32) × (tableSize ≤ length (now r)) ⌝ }
+    ensures { λ x. ⌜ x ≡ foundOf (place (feeds id) (connsIn n (now (r .entry)))) ⌝ }
 {
     let mut i = 0;
     while i < n {

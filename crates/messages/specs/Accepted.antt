@@ -32,7 +32,7 @@ use Rattle.rules.specs.Upload.{clamped, started, initiate, turnOf, advanced, tr
 use Rattle.rules.specs.Objects.{edsInstance, initiateUpload, uploadTransfer, edsFile, file}
 use Rattle.rules.specs.Message.{fileIn, ofClass, ofObject, ofRequest, messageOutcome, messageAnswer, messageCall}
 use Rattle.rules_laws.specs.ReplyLaws.{position-kept}
-use Rattle.layout.specs.Places.{setupIn}
+use Rattle.layout.specs.Places.{setupIn, assembliesOf}
 use Rattle.image.specs.Image.{view, tested}
 use Rattle.uploads.specs.Positions.{wPosition, decUpload, lastNumber, anyLast, lastOffset, listPosition, heldIn, listUpload, encUpload, plain, plainList}
 use Rattle.uploads.specs.PositionLaws.{read-none, read-under}
@@ -55,7 +55,7 @@ two-bytes l at b = rw (le-2 l at) (let h = b at in let g = b (at + 1) in omega a
 small-read : (l : List ℕ) → Bytes l → Small (decUpload l)
 unfolding decUpload
 small-read l b =
-    either-way Small (eqb (le 1 l 0) 0) tt (
+    either-way Small (eqb (assembliesOf l) 0) tt (
       one-byte l 0 b,
       one-byte l 1 b,
       two-bytes l 4 b,

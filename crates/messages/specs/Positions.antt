@@ -21,7 +21,7 @@ use Rattle.rules.specs.Upload.{uploadOk}
 use Rattle.rules.specs.Objects.{fileAttributes, edsFile, file}
 use Rattle.rules.specs.Message.{fileIn}
 use Rattle.rules_laws.specs.ReplyLaws.{Sized}
-use Rattle.layout.specs.Places.{setupIn, edsIn}
+use Rattle.layout.specs.Places.{setupIn, edsIn, edsAt}
 use Rattle.layout.specs.Setups.{setupFrom, setupOf}
 use Rattle.image.specs.Image.{view, tested}
 use Rattle.image.specs.Fits.{is-sound, is-long, short-name, short-eds-name, short-eds, some-transfer}
@@ -69,8 +69,8 @@ module _ (s : List ℕ) where
     eds-long = length-take-le (mark - 1) (edsIn s) (let a = mark-small in let b = length-edsIn s (is-long s t) in omega arith)
 
     -- the EDS as it is lent
-    pub eds-lent : take (le 4 (setupIn s) 4 - 1) (drop 43520 s) ≡ take (le 4 (setupIn s) 4 - 1) (edsIn s)
-    eds-lent = sym (take-take (mark - 1) 65536 (drop 43520 s) (let a = mark-small in omega arith))
+    pub eds-lent : take (le 4 (setupIn s) 4 - 1) (drop edsAt s) ≡ take (le 4 (setupIn s) 4 - 1) (edsIn s)
+    eds-lent = sym (take-take (mark - 1) 65536 (drop edsAt s) (let a = mark-small in omega arith))
 
     pub names-short : le 1 (setupIn s) 3 ≤ 32
     names-short = short-eds-name (setupIn s) (is-sound s t)
@@ -98,7 +98,7 @@ module _ (s : List ℕ) where
     unfolding file edsFile fileAttributes view setupOf
     same-file eds = refl
 
-    pub the-file : tested s ≡ true → (le 4 (setupIn s) 4 ≡ 0 → ⊥) → (eds : List ℕ) → eds ≡ take (le 4 (setupIn s) 4 - 1) (drop 43520 s)
+    pub the-file : tested s ≡ true → (le 4 (setupIn s) 4 ≡ 0 → ⊥) → (eds : List ℕ) → eds ≡ take (le 4 (setupIn s) 4 - 1) (drop edsAt s)
         → x ≡ stepped (file (setupFrom (setupIn s) []) eds service instance a bytes up) out
         → x ≡ stepped (fileIn (view s .setup) service instance a bytes up (view s .setup .eds)) out
     the-file t h eds e f =

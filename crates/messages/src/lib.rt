@@ -26,8 +26,8 @@ pub fn position_tested(s: &[u8], position: &[u8]) -> bool
     requires { ⌜ Passed (now s) ⌝ }
     ensures { λ x. ⌜ x ≡ positionTested (view (now (s .entry)) .setup) (now (position .entry)) ⌝ }
 {
-    let limit = cells::u8_at(&s[0..192], 1);
-    let mark = cells::u32_at(&s[0..192], 4);
+    let limit = cells::u8_at(&s[0..layout::SETUP_SIZE], 1);
+    let mark = cells::u32_at(&s[0..layout::SETUP_SIZE], 4);
     if mark == 0 {
         return uploads::upload_tested(position, limit, false, 0);
     }
@@ -47,14 +47,14 @@ fn file_in(
     requires { ⌜ Passed (now s) × Whole (now position) × (512 ≤ length (now out)) ⌝ }
     ensures { λ x. ⌜ (x, (now (position .exit), now (out .exit))) ≡ stepped (fileIn (view (now (s .entry)) .setup) service instance a (now (given .entry)) (decUpload (now (position .entry))) (view (now (s .entry)) .setup .eds)) (now (out .entry)) ⌝ }
 {
-    let mark = cells::u32_at(&s[0..192], 4) as usize;
+    let mark = cells::u32_at(&s[0..layout::SETUP_SIZE], 4) as usize;
     if mark == 0 {
         return Given::Fails(Fault::PathUnknown);
     }
-    let e = 43520 + (mark - 1);
+    let e = layout::EDS + (mark - 1);
     file_object::file(
-        &s[0..192],
-        &s[43520..e],
+        &s[0..layout::SETUP_SIZE],
+        &s[layout::EDS..e],
         position,
         service,
         instance,

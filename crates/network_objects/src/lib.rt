@@ -10,6 +10,7 @@ ghost use lib.ListN.{length};
 ghost use Rattle.rules.specs.Attributes.{Gives, valueOf, single};
 ghost use Rattle.rules.specs.Objects.{interface, tcpIpAttributes, tcpIp, ethernetAttributes, ethernetLink};
 ghost use Rattle.layout.specs.Setups.{setupFrom};
+ghost use Rattle.layout.specs.Places.{setupSize};
 ghost use Rattle.image.specs.Image.{view};
 ghost use Rattle.application.specs.Outcomes.{Passed};
 ghost use Rattle.attributes.specs.Told.{told};
@@ -84,7 +85,7 @@ pub fn tcp_ip(
 }
 
 fn ethernet_value(r: &[u8], n: u32, out: &mut [u8]) -> Given
-    requires { ⌜ (192 ≤ length (now r)) × (512 ≤ length (now out)) ⌝ }
+    requires { ⌜ (setupSize ≤ length (now r)) × (512 ≤ length (now out)) ⌝ }
     ensures { λ x. ⌜ (x, now (out .exit)) ≡ told (valueOf n (ethernetAttributes (setupFrom (now (r .entry)) []))) (now (out .entry)) ⌝ }
 {
     if n == 1 {
@@ -100,7 +101,7 @@ fn ethernet_value(r: &[u8], n: u32, out: &mut [u8]) -> Given
 }
 
 fn ethernet_here(r: &[u8], service: u8, a: FirstAttribute, out: &mut [u8]) -> Given
-    requires { ⌜ (192 ≤ length (now r)) × (512 ≤ length (now out)) ⌝ }
+    requires { ⌜ (setupSize ≤ length (now r)) × (512 ≤ length (now out)) ⌝ }
     ensures { λ x. ⌜ (x, now (out .exit)) ≡ told (single service a (ethernetAttributes (setupFrom (now (r .entry)) []))) (now (out .entry)) ⌝ }
 {
     match attributes::wanted(service, a) {
@@ -125,5 +126,5 @@ pub fn ethernet_link(
     if instance != 1 {
         return Given::Fails(Fault::ObjectUnknown);
     }
-    ethernet_here(&s[0..192], service, a, out)
+    ethernet_here(&s[0..layout::SETUP_SIZE], service, a, out)
 }

@@ -23,6 +23,7 @@ use Rattle.rules.specs.declared.Origin.{Origin}
 use Rattle.rules.specs.declared.Plan.{Plan}
 use Rattle.rules.specs.declared.Socket.{Socket}
 use Rattle.rules.specs.declared.Verdict.the-variants.{Planned}
+use Rattle.layout.specs.Places.{nextIdOf}
 use Rattle.image.specs.Image.{view, store, tested}
 use Rattle.image.specs.Holds.{holds-tested, nextId-held}
 use Rattle.image.specs.Lift.{liftedOut, out-done, out-kept}
@@ -79,7 +80,7 @@ module _ (t : ℕ) (o : ForwardOpen) (g : Origin) (d : List ℕ) (p : Plan) (s o
       ap (λ (v : Bool). cond v yes (Refused NoRoom)) (sym (lt-leb (length (replyOf o g p n₀)) (length out) (omega arith))) in
       out-kept (planCall t o g d p) s out ok b 8 (ap answerNumber a) (ap (λ (z : Answer). cond (isYes z) (opened t o g d p (view s)) (view s)) (sym a)) (ap answerBytes (sym a))
 
-  module _ (n m : ℕ) (en : n ≡ le 4 s 216) (em : m ≡ afterId n) (x : Side) (ex : sideIn x ≡ sideOf o g m (p .stream)) where
+  module _ (n m : ℕ) (en : n ≡ nextIdOf s) (em : m ≡ afterId n) (x : Side) (ex : sideIn x ≡ sideOf o g m (p .stream)) where
     n-is : n ≡ n₀
     n-is = en ∙ nextId-held s (view s) s (holds-tested s ok b)
 

@@ -24,6 +24,7 @@ use Rattle.rules.specs.declared.Stores.{Stores}
 use Rattle.rules.specs.declared.Stores.the-variants.{Nothing, Into}
 use Rattle.rules.specs.declared.Verdict.{Verdict}
 use Rattle.rules.specs.declared.Verdict.the-variants.{Stopped, Planned}
+use Rattle.layout.specs.Rows.{RoleFits, RowFits}
 use Rattle.image.specs.Image.{view, store, tested}
 use Rattle.image.specs.Fits.{Suits}
 use Rattle.image.specs.ViewLaws.{suits-view}
@@ -32,29 +33,29 @@ use Rattle.image.specs.Writes.{withBytes}
 use Rattle.image.specs.Kept.{suits-nextId, suits-appended, suits-content, suits-fault}
 use Rattle.image.specs.Changes.{rowAdded, bytesAs}
 use Rattle.events.specs.Pushes.{suits-told}
-use Rattle.opening.specs.Sides.{after-some, side-some}
+use Rattle.opening.specs.Sides.{after-some, side-some, conn-fits}
 use Rattle.opening.specs.Steps.{placed, configured, storedAs, StoresFit, openedAs}
 use Rattle.opening.specs.StepLaws.{opened-is}
-use Rattle.opening.specs.Plans.{config-inside, planned-room, planned-fits}
+use Rattle.opening.specs.Plans.{config-inside, planned-room, planned-row, planned-fits}
 
 module _ (l : List ℕ) where
-  suits-placed : (c : Conn) (next : ℕ) (st : State) → Suits st l → length (st .table) < 32 → 0 < next → Suits (placed c next st) l
-  suits-placed c next st w n p =
+  suits-placed : (c : Conn) (next : ℕ) (st : State) → Suits st l → RowFits c → length (st .table) < 32 → 0 < next → Suits (placed c next st) l
+  suits-placed c next st w f n p =
       suits-told (rowAdded c (withNextId next st)) l (Opened (infoOf (st .setup) (c .fixed)))
-      (suits-appended (withNextId next st) l (suits-nextId st l w next p) c n)
+      (suits-appended (withNextId next st) l (suits-nextId st l w next p) c f n)
 
   suits-stored : (x : Stores) (d : List ℕ) (st : State) → Suits st l → StoresFit x d st → Suits (storedAs x d st) l
   suits-stored Nothing d st w f = w
   suits-stored (Into i) d st w f =
       suits-told (bytesAs i d st) l (Configured (shapeAt (st .setup) i .instance) (length d)) (suits-content st l w i (withBytes d (contentAt st i)) (f i refl))
 
-  suits-opened : (t : ℕ) (o : ForwardOpen) (g : Origin) (d : List ℕ) (p : Plan) (st : State) → Suits st l → length (st .table) < 32 → StoresFit (p .stores) d st
+  suits-opened : (t : ℕ) (o : ForwardOpen) (g : Origin) (d : List ℕ) (p : Plan) (st : State) → Suits st l → RoleFits (p .kind) (p .output) → length (st .table) < 32 → StoresFit (p .stores) d st
       → Suits (opened t o g d p st) l
-  suits-opened t o g d p st w n f =
+  suits-opened t o g d p st w r n f =
       let c : Conn = newConn t o g p (st .nextId) in
       let next : ℕ = sideAt o g p (st .nextId) .next in
       let k : 0 < next = side-some o g (afterId (st .nextId)) (after-some (st .nextId)) (p .stream) in
-      let w₁ = suits-placed c next st w n k in
+      let w₁ = suits-placed c next st w (conn-fits t o g p (st .nextId) c refl r) n k in
       let w₂ = suits-stored (p .stores) d (placed c next st) w₁ f in
       subst (λ (z : State). Suits z l) (opened-is t o g d p st) (suits-fault (storedAs (p .stores) d (placed c next st)) l w₂ false)
 
@@ -68,7 +69,7 @@ module _ (l : List ℕ) where
         let h = config-inside path (pathOf path) refl in
         let k = length-drop (pathIn (pathOf path) .datastart) path in
         let n : length (configBytes request o) ≡ pathIn (pathOf path) .datalen = length-take-le (pathIn (pathOf path) .datalen) (drop (pathIn (pathOf path) .datastart) path) (omega arith) in
-        suits-opened t o g (configBytes request o) p (view l) (suits-view l ok) (planned-room l ok o (pathOf path) p e (configBytes request o) n) (planned-fits l ok o (pathOf path) p e (configBytes request o) n)
+        suits-opened t o g (configBytes request o) p (view l) (suits-view l ok) (planned-row l ok o (pathOf path) p e (configBytes request o) n) (planned-room l ok o (pathOf path) p e (configBytes request o) n) (planned-fits l ok o (pathOf path) p e (configBytes request o) n)
 
     pub open-suits : (t service : ℕ) (request : List ℕ) (g : Origin) (room : ℕ) → Suits (openCall t service request g room (view l) .1) l
     unfolding openCall openEffect

@@ -3,7 +3,7 @@ use Prim.Native.Nat.{ℕ, _+_, _-_, _≤_, _<_}
 use mathlib.Core.Bool.{Bool, true, false, cond}
 use mathlib.Core.List.{List, map}
 use mathlib.Core.Option.{Option, none, some}
-use mathlib.Core.Path.{_≡_, refl, ap, sym, _∙_}
+use mathlib.Core.Path.{_≡_, refl, ap, sym, subst, _∙_}
 use native.Mathlib.Omega.{arith}
 use lib.Dec.{eqb, ltb}
 use lib.ListN.{length, take, drop, length-map, length-drop, List·getD-eq-default}
@@ -18,18 +18,23 @@ use Rattle.wire_paths.specs.declared.PathAnswer.the-variants.{Parsed, Unparsed}
 use Rattle.wire_paths.specs.ConnectionPath.{pathOf}
 use Rattle.wire_paths.specs.PathLaws.{data-inside}
 use Rattle.rules_laws.specs.ListLaws.{by-cases, clash}
-use Rattle.rules.specs.State.{Setup, State, noShape, shapeAt, contentAt, fixeds}
-use Rattle.rules.specs.Checks.{pathIn, rolesOf, configStop, configCheck, roomCheck, storesInto, planOf, verdict}
+use Rattle.rules.specs.State.{isInput, isOutput, isOwner, Setup, State, noShape, shapeAt, contentAt, fixeds}
+use Rattle.rules.specs.Checks.{pathIn, otPoint, toPoint, kindOf, isAt, placeOf, placeOr0, rolesOf, configStop, configCheck, roomCheck, storesInto, planOf, verdict}
 use Rattle.rules_laws.specs.CheckLaws.{must-none, passed}
+use Rattle.rules.specs.declared.AssemblyKind.{AssemblyKind}
 use Rattle.rules.specs.declared.Conn.{Conn}
 use Rattle.rules.specs.declared.Fixed.{Fixed}
+use Rattle.rules.specs.declared.Kind.{Kind}
+use Rattle.rules.specs.declared.Kind.the-variants.{Owner, InputOnly, ListenOnly}
 use Rattle.rules.specs.declared.Plan.{Plan}
 use Rattle.rules.specs.declared.Stores.{Stores}
 use Rattle.rules.specs.declared.Stores.the-variants.{Nothing, Into}
 use Rattle.rules.specs.declared.Verdict.the-variants.{Planned}
 use Rattle.image.specs.Image.{view, tested}
 use Rattle.image.specs.Fits.{Suits}
-use Rattle.image.specs.StoreLaws.{content-short}
+use Rattle.layout.specs.Rows.{RoleFits}
+use Rattle.searches.specs.Searches.{place-in}
+use Rattle.image.specs.StoreLaws.{content-short, few-contents}
 use Rattle.image.specs.ViewLaws.{suits-view}
 use Rattle.image.specs.Holds.{holds-tested, assemblies-held, conns-held}
 use Rattle.opening.specs.Steps.{StoresFit, Fit}
@@ -93,6 +98,36 @@ module _ (u : Setup) (table : List Fixed) (o : ForwardOpen) (answer : PathAnswer
       let w : shapeAt u i .size ≡ 0 = ap (λ x. x .size) (List·getD-eq-default (u .assemblies) noShape {n = i} h) in
       absurd (eqb-false (pathIn answer .datalen) 0 (z .0) (sym (z .1) ∙ w)))
 
+-- ---- the roles are places of the setup's list
+
+or0-small : (o : Option ℕ) (n : ℕ) → ((i : ℕ) → o ≡ some i → i ≤ n) → placeOr0 o ≤ n
+or0-small none n h = omega arith
+or0-small (some i) n h = h i refl
+
+place-small : (is : AssemblyKind → Bool) (u : Setup) (n : ℕ) → placeOr0 (placeOf is u n) ≤ length (u .assemblies)
+unfolding placeOf
+place-small is u n = or0-small (placeOf is u n) (length (u .assemblies)) (λ i e. let z = place-in (isAt is n) noShape (u .assemblies) i e in omega arith)
+
+role-small : (k : Kind) (n : ℕ) → n ≤ 253 → RoleFits k (cond (isOwner k) n 0)
+role-small Owner n h = h
+role-small InputOnly n h = refl
+role-small ListenOnly n h = refl
+
+module _ (u : Setup) (table : List Fixed) (o : ForwardOpen) (answer : PathAnswer) (p : Plan) (e : verdict u table o answer ≡ Planned p) (few : length (u .assemblies) ≤ 16) where
+  pub planned-input : p .input ≤ 31
+  unfolding planOf rolesOf
+  planned-input =
+      let q : placeOr0 (placeOf isInput u (toPoint (pathIn answer))) ≡ p .input = ap (λ (x : Plan). x .input) (passed u table o answer p e .1) in
+      let k : placeOr0 (placeOf isInput u (toPoint (pathIn answer))) ≤ length (u .assemblies) = place-small isInput u (toPoint (pathIn answer)) in
+      omega arith
+
+  pub planned-role : RoleFits (p .kind) (p .output)
+  unfolding planOf rolesOf
+  planned-role =
+      let n : ℕ = placeOr0 (placeOf isOutput u (otPoint (pathIn answer))) in
+      let k : n ≤ length (u .assemblies) = place-small isOutput u (otPoint (pathIn answer)) in
+      subst (λ (x : Plan). RoleFits (x .kind) (x .output)) (passed u table o answer p e .1) (role-small (kindOf u (otPoint (pathIn answer))) n (omega arith))
+
 -- ---- of a state that passed its test
 
 module _ (s : List ℕ) (ok : tested s ≡ true) (o : ForwardOpen) (answer : PathAnswer) (p : Plan)
@@ -106,6 +141,12 @@ module _ (s : List ℕ) (ok : tested s ≡ true) (o : ForwardOpen) (answer : Pat
       let k = length-map (st .table) (λ (c : Conn). c .fixed) in
       omega arith
 
+  few-places : length (st .setup .assemblies) ≤ 16
+  few-places = let a = few-contents st s (suits-view s ok) in let c = suits-view s ok .fits .contents in omega arith
+
+  pub planned-row : RoleFits (p .kind) (p .output)
+  planned-row = planned-role (st .setup) (fixeds (st .table)) o answer p e few-places
+
   pub planned-fits : StoresFit (p .stores) d st
   planned-fits i q = n ∙ sym (planned-size (st .setup) (fixeds (st .table)) o answer p e i q .1) ∙ sym (suits-view s ok .fits .sized i)
 
@@ -114,6 +155,8 @@ module _ (s : List ℕ) (ok : tested s ≡ true) (o : ForwardOpen) (answer : Pat
       let h = holds-tested s ok b in
       record {
         conns = let c = conns-held s st s h in let m = planned-room in omega arith;
+        input = planned-input (st .setup) (fixeds (st .table)) o answer p e few-places;
+        role = planned-row;
         room = λ i q. (
           let a = assemblies-held s st s h in let c = suits-view s ok .fits .contents in let m = planned-place (st .setup) (fixeds (st .table)) o answer p e i q in omega arith,
           let f = planned-fits i q in let c = content-short st s (suits-view s ok) i in omega arith,

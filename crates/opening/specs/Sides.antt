@@ -2,7 +2,7 @@
 use Prim.Native.Nat.{ℕ, _+_, _*_, _-_, _≤_, _<_, _^_}
 use mathlib.Core.Bool.{Bool, true, false, cond, not}
 use mathlib.Core.List.{List}
-use mathlib.Core.Path.{_≡_, refl, ap, sym, _∙_}
+use mathlib.Core.Path.{_≡_, refl, ap, sym, subst, _∙_}
 use native.Mathlib.Omega.{arith}
 use lib.Dec.{eqb}
 use borrow.Author.Tests.{eq-eqb, ne-eqb, eqb-true, not-true, not-false}
@@ -22,7 +22,7 @@ use Rattle.rules.specs.declared.Stream.the-variants.{Joins, Own}
 use Rattle.rules.specs.Checks.{asksMulticast}
 use Rattle.rules.specs.Opening.{afterId, pointDest, groupDest, sideOf, firstDue, sideAt, newFixed, newHeard, newConn}
 use Rattle.rules.specs.Opening
-use Rattle.layout.specs.Rows.{ofDue}
+use Rattle.layout.specs.Rows.{ofDue, RoleFits, RowFits}
 use Rattle.opening.specs.declared.making.Side.{Side}
 
 -- a side as the rules say it
@@ -166,6 +166,16 @@ pub conn-is : (time : ℕ) (o : ForwardOpen) (g : Origin) (p : Plan) (n : ℕ) (
     → f ≡ newFixed o g p n → h ≡ newHeard time o → x ≡ firstDue time (p .stream) → _≡_ {A = Conn} (record { fixed = f; heard = h; sent = x }) (newConn time o g p n)
 unfolding newConn
 conn-is time o g p n f h x ef eh ex = λ j. record { fixed = ef j; heard = eh j; sent = ex j }
+
+-- the plan's roles are the connection's
+module _ (time : ℕ) (o : ForwardOpen) (g : Origin) (p : Plan) (n : ℕ) (c : Conn) (e : c ≡ newConn time o g p n) where
+  pub conn-input : p .input ≤ 31 → c .fixed .input ≤ 31
+  unfolding newConn newFixed
+  conn-input h = subst (λ (z : Conn). z .fixed .input ≤ 31) (sym e) h
+
+  pub conn-fits : RoleFits (p .kind) (p .output) → RowFits c
+  unfolding newConn newFixed
+  conn-fits h = subst (λ (z : Conn). RowFits z) (sym e) h
 
 pub conn-due : (time : ℕ) (o : ForwardOpen) (g : Origin) (p : Plan) (n : ℕ) (c : Conn) → c ≡ newConn time o g p n → time < 9223372036854775808
     → ofDue (c .sent .due) < 18446744073709551616

@@ -5,7 +5,6 @@ use mathlib.Core.List.{List, [], _∷_}
 use mathlib.Core.Path.{_≡_, refl, ap, sym, subst, _∙_}
 use native.Mathlib.Omega.{arith}
 use lib.ListN.{length}
-use Rattle.cells.specs.Numbers.{le}
 use Rattle.wire_opens.specs.declared.ForwardOpen.{ForwardOpen}
 use Rattle.rules.specs.State.{Content, State, noContent, contentAt, shapeAt, withFault, withNextId}
 use Rattle.rules.specs.Events.{infoOf, pushed, pushedAll, eventRecord}
@@ -18,42 +17,44 @@ use Rattle.rules.specs.declared.Plan.{Plan}
 use Rattle.rules.specs.declared.Stores.{Stores}
 use Rattle.rules.specs.declared.Stores.the-variants.{Nothing, Into}
 use Rattle.layout.specs.Setups.{shapeIn}
+use Rattle.layout.specs.Rows.{RowFits}
+use Rattle.layout.specs.Places.{connectionsOf, assembliesOf}
 use Rattle.image.specs.Image.{store}
 use Rattle.image.specs.Fits.{Suits}
 use Rattle.image.specs.Writes.{withBytes}
 use Rattle.image.specs.Holds.{Holds, Becomes, conns-held, shape-held}
 use Rattle.image.specs.Kept.{Kept, kept-few, suits-nextId, suits-appended, suits-content, suits-fault}
 use Rattle.image.specs.Changes.{rowAdded, bytesAs, BytesBecome}
-use Rattle.image.specs.Searches.{change-at-place}
+use Rattle.searches.specs.Searches.{change-at-place}
 use Rattle.events.specs.Pushes.{eventTold, told, suits-told}
 use Rattle.opening.specs.Steps.{placed, Places, Configures, storedAs, Puts, Room, openedAs, Opens}
 
 -- ---- the connection
 
 module _ (c : Conn) (next : ℕ) (s s₁ s₂ s₃ : List ℕ) where
-  pub place-kept : Kept (le 2 s 224) s s₁ → Kept (le 2 s₁ 224 + 1) s₁ s₂ → Kept (le 2 s₂ 224) s₂ s₃ → Kept (le 2 s 224 + 1) s s₃
+  pub place-kept : Kept (connectionsOf s) s s₁ → Kept (connectionsOf s₁ + 1) s₁ s₂ → Kept (connectionsOf s₂) s₂ s₃ → Kept (connectionsOf s + 1) s s₃
   place-kept a b d =
       record { ready = d .ready; setup = d .setup ∙ b .setup ∙ a .setup; conns = d .conns ∙ b .conns ∙ ap (λ (n : ℕ). n + 1) (a .conns) }
 
-  pub place-done : le 2 s 224 < 32 → 0 < next → Becomes s s₁ (withNextId next) → Becomes s₁ s₂ (rowAdded c) → Becomes s₂ s₃ (told 1 (c .fixed)) → Places c next s s₃
+  pub place-done : connectionsOf s < 32 → 0 < next → RowFits c → Becomes s s₁ (withNextId next) → Becomes s₁ s₂ (rowAdded c) → Becomes s₂ s₃ (told 1 (c .fixed)) → Places c next s s₃
   unfolding pushed eventRecord
-  place-done p q a b d st l h =
+  place-done p q f a b d st l h =
       let st₁ : State = withNextId next st in
       let w₁ : Suits st₁ l = suits-nextId st l (h .suits) next q in
       let h₁ : Holds s₁ st₁ l = record { is = a st l h; suits = w₁ } in
       let n = conns-held s st l h in
       let st₂ : State = rowAdded c st₁ in
-      let w₂ : Suits st₂ l = suits-appended st₁ l w₁ c (omega arith) in
+      let w₂ : Suits st₂ l = suits-appended st₁ l w₁ c f (omega arith) in
       let h₂ : Holds s₂ st₂ l = record { is = b st₁ l h₁; suits = w₂ } in
       record { is = d st₂ l h₂; suits = suits-told st₂ l (Opened (infoOf (st .setup) (c .fixed))) w₂ }
 
 -- ---- its configuration data
 
 module _ (i : ℕ) (d s s₁ s₂ : List ℕ) where
-  pub config-kept : Kept (le 2 s 224) s s₁ → Kept (le 2 s₁ 224) s₁ s₂ → Kept (le 2 s 224) s s₂
+  pub config-kept : Kept (connectionsOf s) s s₁ → Kept (connectionsOf s₁) s₁ s₂ → Kept (connectionsOf s) s s₂
   config-kept a b = record { ready = b .ready; setup = b .setup ∙ a .setup; conns = b .conns ∙ a .conns }
 
-  pub config-done : i < le 1 s₁ 0 → (v m : ℕ) → v ≡ shapeIn s₁ i .instance → m ≡ length d
+  pub config-done : i < assembliesOf s₁ → (v m : ℕ) → v ≡ shapeIn s₁ i .instance → m ≡ length d
       → BytesBecome i d s s₁ → Becomes s₁ s₂ (eventTold (Configured v m)) → Configures i d s s₂
   config-done p v m ev em a b st l h n =
       let st₁ : State = bytesAs i d st in
@@ -78,7 +79,7 @@ module _ (x : Stores) (d s : List ℕ) where
 -- ---- the whole
 
 module _ (c : Conn) (next : ℕ) (x : Stores) (d s s₁ s₂ s₃ : List ℕ) where
-  pub open-kept : Kept (le 2 s 224 + 1) s s₁ → Kept (le 2 s₁ 224) s₁ s₂ → Kept (le 2 s₂ 224) s₂ s₃ → Kept (le 2 s 224 + 1) s s₃
+  pub open-kept : Kept (connectionsOf s + 1) s s₁ → Kept (connectionsOf s₁) s₁ s₂ → Kept (connectionsOf s₂) s₂ s₃ → Kept (connectionsOf s + 1) s s₃
   open-kept a b e = record { ready = e .ready; setup = e .setup ∙ b .setup ∙ a .setup; conns = e .conns ∙ b .conns ∙ a .conns }
 
   pub open-done : Places c next s s₁ → Puts x d s₁ s₂ → Becomes s₂ s₃ (withFault false) → Opens c next x d s s₃

@@ -4,7 +4,6 @@ use mathlib.Core.Bool.{false}
 use mathlib.Core.List.{List, []}
 use mathlib.Core.Path.{_≡_}
 use lib.ListN.{length}
-use Rattle.cells.specs.Numbers.{le}
 use Rattle.wire_opens.specs.declared.ForwardOpen.{ForwardOpen}
 use Rattle.wire_replies.specs.Replies.{openReply}
 use Rattle.rules.specs.State.{State, contentAt, shapeAt, withFault, withNextId}
@@ -18,6 +17,8 @@ use Rattle.rules.specs.declared.Plan.{Plan}
 use Rattle.rules.specs.declared.Stores.{Stores}
 use Rattle.rules.specs.declared.Stores.the-variants.{Nothing, Into}
 use Rattle.rules.specs.declared.Verdict.the-variants.{Planned}
+use Rattle.layout.specs.Rows.{RoleFits}
+use Rattle.layout.specs.Places.{connectionsOf, assembliesOf}
 use Rattle.image.specs.Image.{view}
 use Rattle.image.specs.Holds.{Holds}
 use Rattle.image.specs.Changes.{rowAdded, bytesAs}
@@ -52,7 +53,7 @@ Puts x d s s′ = (st : State) (l : List ℕ) → Holds s st l → StoresFit x d
 
 -- what code must know of the buffer to write the data
 abbrev pub Room : Stores → List ℕ → List ℕ → Type 0
-Room x d s = (i : ℕ) → x ≡ Into i → (i < le 1 s 0) × (length d ≤ 512)
+Room x d s = (i : ℕ) → x ≡ Into i → (i < assembliesOf s) × (length d ≤ 512)
 
 -- ---- the whole
 
@@ -64,7 +65,9 @@ Opens c next x d s s′ = (st : State) (l : List ℕ) → Holds s st l → Store
 
 -- what a plan that passed the checks says of the state
 pub record Fit (p : Plan) (d s : List ℕ) : Type 0 where
-  pub conns : le 2 s 224 < 32
+  pub conns : connectionsOf s < 32
+  pub input : p .input ≤ 31
+  pub role : RoleFits (p .kind) (p .output)
   pub room : Room (p .stores) d s
   pub fits : StoresFit (p .stores) d (view s)
 

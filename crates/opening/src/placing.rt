@@ -14,10 +14,10 @@ ghost use mathlib.Core.List.{[]};
 ghost use Prim.Native.Nat.{ℕ, _+_, _≤_, _<_};
 ghost use lib.ListN.{length};
 ghost use lib.Seq.{sets};
-ghost use Rattle.cells.specs.Numbers.{le};
 ghost use Rattle.rules.specs.Answers.{Accepted, answerNumber};
 ghost use Rattle.rules.specs.Checks.{asksMulticast};
-ghost use Rattle.layout.specs.Rows.{ofDue};
+ghost use Rattle.layout.specs.Rows.{ofDue, RowFits};
+ghost use Rattle.layout.specs.Places.{connectionsOf, assembliesOf};
 ghost use Rattle.image.specs.Image.{tested};
 ghost use Rattle.image.specs.Holds.{Ready};
 ghost use Rattle.image.specs.Kept.{Kept};
@@ -27,8 +27,8 @@ ghost use Rattle.opening.specs.Steps.{Places, Configures, Puts, Room, Op
 
 // The next id, the row and the event of a new connection.
 fn place(s: &mut [u8], c: Conn, next: u32)
-    requires { ⌜ Ready (now s) × (le 2 (now s) 224 < 32) × (ofDue (c .sent .due) < 18446744073709551616) × (0 < next) ⌝ }
-    ensures { λ _. ⌜ Kept (le 2 (now (s .entry)) 224 + 1) (now (s .entry)) (now (s .exit)) × Places c next (now (s .entry)) (now (s .exit)) ⌝ }
+    requires { ⌜ Ready (now s) × (connectionsOf (now s) < 32) × (ofDue (c .sent .due) < 18446744073709551616) × (0 < next) × (c .fixed .input ≤ 31) × RowFits c ⌝ }
+    ensures { λ _. ⌜ Kept (connectionsOf (now (s .entry)) + 1) (now (s .entry)) (now (s .exit)) × Places c next (now (s .entry)) (now (s .exit)) ⌝ }
 {
     let f = c.fixed;
     changes::set_next_id(s, next);
@@ -38,8 +38,8 @@ fn place(s: &mut [u8], c: Conn, next: u32)
 
 // Configuration data in its assembly, and its event.
 fn configure(s: &mut [u8], i: u8, config: &[u8])
-    requires { ⌜ Ready (now s) × (i < le 1 (now s) 0) × (length (now config) ≤ 512) ⌝ }
-    ensures { λ _. ⌜ Kept (le 2 (now (s .entry)) 224) (now (s .entry)) (now (s .exit)) × Configures i (now (config .entry)) (now (s .entry)) (now (s .exit)) ⌝ }
+    requires { ⌜ Ready (now s) × (i < assembliesOf (now s)) × (length (now config) ≤ 512) ⌝ }
+    ensures { λ _. ⌜ Kept (connectionsOf (now (s .entry))) (now (s .entry)) (now (s .exit)) × Configures i (now (config .entry)) (now (s .entry)) (now (s .exit)) ⌝ }
 {
     let k = i as usize;
     let length = config.len() as u16;
@@ -50,7 +50,7 @@ fn configure(s: &mut [u8], i: u8, config: &[u8])
 
 fn store(s: &mut [u8], stores: Stores, config: &[u8])
     requires { ⌜ Ready (now s) × Room stores (now config) (now s) ⌝ }
-    ensures { λ _. ⌜ Kept (le 2 (now (s .entry)) 224) (now (s .entry)) (now (s .exit)) × Puts stores (now (config .entry)) (now (s .entry)) (now (s .exit)) ⌝ }
+    ensures { λ _. ⌜ Kept (connectionsOf (now (s .entry))) (now (s .entry)) (now (s .exit)) × Puts stores (now (config .entry)) (now (s .entry)) (now (s .exit)) ⌝ }
 {
     match stores {
         Stores::Nothing => {}
@@ -62,8 +62,8 @@ fn store(s: &mut [u8], stores: Stores, config: &[u8])
 
 // What an accepted open leaves: the connection, its data, and no fault mark.
 fn effect(s: &mut [u8], c: Conn, next: u32, stores: Stores, config: &[u8])
-    requires { ⌜ Ready (now s) × (le 2 (now s) 224 < 32) × (ofDue (c .sent .due) < 18446744073709551616) × (0 < next) × Room stores (now config) (now s) ⌝ }
-    ensures { λ _. ⌜ Kept (le 2 (now (s .entry)) 224 + 1) (now (s .entry)) (now (s .exit)) × Opens c next stores (now (config .entry)) (now (s .entry)) (now (s .exit)) ⌝ }
+    requires { ⌜ Ready (now s) × (connectionsOf (now s) < 32) × (ofDue (c .sent .due) < 18446744073709551616) × (0 < next) × Room stores (now config) (now s) × (c .fixed .input ≤ 31) × RowFits c ⌝ }
+    ensures { λ _. ⌜ Kept (connectionsOf (now (s .entry)) + 1) (now (s .entry)) (now (s .exit)) × Opens c next stores (now (config .entry)) (now (s .entry)) (now (s .exit)) ⌝ }
 {
     place(s, c, next);
     store(s, stores, config);
@@ -108,7 +108,7 @@ pub fn accept(
     }
     let stream = p.stream;
     let stores = p.stores;
-    let n = cells::u32_at(s, 216);
+    let n = cells::u32_at(s, layout::NEXT_ID);
     let side = making::side_of(o, g, making::after_id(n), stream);
     let c = making::new_conn(time, o, g, p, n, side);
     effect(s, c, side.next, stores, config);

@@ -1,13 +1,14 @@
 -- Outputs and any assembly's data, as code reads them, and an output's mark as code leaves it.
-use Prim.Native.Nat.{ℕ, _+_, _*_, _-_, _%_, _^_, _≤_, _<_}
-use mathlib.Core.Bool.{true, false}
+use Prim.Native.Nat.{ℕ, _+_, _*_, _^_, _≤_, _<_}
+use mathlib.Core.Bool.{Bool, true, false}
 use mathlib.Core.List.{List, [], _∷_}
 use mathlib.Core.Option.{Option, none, some}
 use mathlib.Core.Path.{_≡_, ap, sym, _∙_}
 use native.Mathlib.Omega.{arith}
 use lib.ListN.{length, take, drop}
 use lib.Seq.{sets}
-use Rattle.cells.specs.Numbers.{le, put, bytesLe, sets-append}
+use mir.Val.{boolByte}
+use Rattle.cells.specs.Numbers.{put, bytesLe, sets-append}
 use Rattle.cells.specs.Records.{ofBool}
 use Rattle.cells.specs.Back.{Bytes}
 use Rattle.rules.specs.State.{Content, noContent, contentAt, withContents}
@@ -15,16 +16,19 @@ use Rattle.rules.specs.Answers.{Answer, Wrote, Refused, NoAssembly, NoRoom, set
 use Rattle.rules.specs.Checks.{placeOf}
 use Rattle.rules.specs.Host.{read, outputBytes, outputAt, outputRead, outputAnswer, outputEffect, outputCall, kindTest, assemblyAt, assemblyAnswer}
 use Rattle.layout.specs.Setups.{shapeIn, setupOf}
+use Rattle.layout.specs.Places.{dataFrom, markAt, assembliesOf}
+use Rattle.layout.specs.Bits.{runIn}
 use Rattle.image.specs.Image.{view, store, tested}
-use Rattle.image.specs.Holds.{Holds, holds-tested}
-use Rattle.image.specs.Changes.{markAs, mark-put}
+use Rattle.image.specs.Holds.{Holds, Becomes, holds-tested}
+use Rattle.image.specs.Kept.{byte-of}
+use Rattle.image.specs.Changes.{markAs}
 use Rattle.image.specs.Lift.{liftedOut, liftedRead}
 use Rattle.application.specs.Places.{assemblyReadAt, outputReadAt}
 use Rattle.application.specs.Ways.{fits-in, fits-not, read-wrote, read-no, read-same, out-wrote, out-no, out-same}
-use Rattle.image.specs.Searches.{change-at-place}
-use Rattle.application.specs.Assemblies.{in-contents, size-is, data-is, run-is}
+use Rattle.searches.specs.Searches.{change-at-place}
+use Rattle.application.specs.Assemblies.{size-is, data-is, run-is}
 
-module _ (s : List ℕ) (t : tested s ≡ true) (b : Bytes s) (i : ℕ) (p : i < le 1 s 0) where
+module _ (s : List ℕ) (t : tested s ≡ true) (b : Bytes s) (i : ℕ) (p : i < assembliesOf s) where
   abbrev h : Holds s (view s) s
   h = holds-tested s t b
 
@@ -39,12 +43,12 @@ module _ (s : List ℕ) (t : tested s ≡ true) (b : Bytes s) (i : ℕ) (p : i <
         let m = (size-is s t b i p) in
         read-no s out t (assemblyReadAt i) NoRoom (fits-not (length out) (c .bytes) (Wrote (c .bytes)) (omega arith))
 
-    pub assembly-wrote : n ≤ length out → (d o : List ℕ) → d ≡ take n (drop (35328 + i * 512) s) → o ≡ sets out 0 d
+    pub assembly-wrote : n ≤ length out → (d o : List ℕ) → d ≡ take n (drop (dataFrom + i * 512) s) → o ≡ sets out 0 d
         → (2 ^ 8 * n, o) ≡ liftedRead (assemblyReadAt i) s out
     assembly-wrote g d o ed eo =
         let m = (size-is s t b i p) in
         read-wrote s out t (assemblyReadAt i) n o (c .bytes) (fits-in (length out) (c .bytes) (Wrote (c .bytes)) (omega arith)) (omega arith)
-        (eo ∙ ap (sets out 0) (ed ∙ ap (λ (k : ℕ). take k (drop (35328 + i * 512) s)) en ∙ (data-is s t b i p)))
+        (eo ∙ ap (sets out 0) (ed ∙ ap (λ (k : ℕ). take k (drop (dataFrom + i * 512) s)) en ∙ (data-is s t b i p)))
 
     -- ---- output
 
@@ -57,22 +61,22 @@ module _ (s : List ℕ) (t : tested s ≡ true) (b : Bytes s) (i : ℕ) (p : i <
         out-no s out t (outputReadAt i) b NoRoom
         (read-after (Refused NoRoom) (fits-not (length out) (outputBytes c) (Wrote (outputBytes c)) (omega arith)))
 
-    pub output-wrote : n < length out → (run : ℕ) (d o₁ o₂ s₁ : List ℕ) → run ≡ le 1 s (240 + i) % 2 → d ≡ take n (drop (35328 + i * 512) s)
-        → o₁ ≡ put 1 out 0 run → o₂ ≡ sets o₁ 1 d → s₁ ≡ put 1 s (240 + i) run
+    pub output-wrote : n < length out → (run : Bool) (d o₁ o₂ s₁ : List ℕ) → run ≡ runIn (markAt s i) → d ≡ take n (drop (dataFrom + i * 512) s)
+        → o₁ ≡ put 1 out 0 (boolByte run) → o₂ ≡ sets o₁ 1 d → Becomes s s₁ (markAs i run false)
         → (2 ^ 8 * (n + 1), (s₁, o₂)) ≡ liftedOut (outputReadAt i) s out
     unfolding put bytesLe
-    output-wrote g run d o₁ o₂ s₁ er ed e₁ e₂ es =
+    output-wrote g run d o₁ o₂ s₁ er ed e₁ e₂ be =
         let m = (size-is s t b i p) in
-        let r : run ≡ ofBool (c .run) = er ∙ (run-is s t b i p) in
-        let bs : d ≡ c .bytes = ed ∙ ap (λ (k : ℕ). take k (drop (35328 + i * 512) s)) en ∙ (data-is s t b i p) in
+        let r : run ≡ c .run = er ∙ run-is s t b i p in
+        let number : boolByte run ≡ ofBool (c .run) = byte-of run ∙ ap ofBool r in
+        let bs : d ≡ c .bytes = ed ∙ ap (λ (k : ℕ). take k (drop (dataFrom + i * 512) s)) en ∙ (data-is s t b i p) in
         let left : store (markAs i (c .run) false (view s)) s ≡ store (outputRead (view s) (some i)) s =
         ap (λ (z : List Content). store (withContents z (view s)) s) (sym (change-at-place read noContent (view s .contents) i)) in
         out-wrote s out t (outputReadAt i) (n + 1) s₁ o₂ (outputBytes c) (outputRead (view s) (some i))
         (read-after (Wrote (outputBytes c)) (fits-in (length out) (outputBytes c) (Wrote (outputBytes c)) (omega arith)))
         (omega arith)
-        (es ∙ ap (put 1 s (240 + i)) (r ∙ (let z : ofBool (c .run) ≡ ofBool (c .run) + 2 * ofBool false = omega arith in z))
-        ∙ mark-put s (view s) s h i (c .run) false (in-contents s t b i p) ∙ left)
-        (e₂ ∙ (λ j. sets (e₁ j) 1 (bs j)) ∙ (λ j. sets (sets out 0 (r j ∷ [])) 1 (c .bytes)) ∙ sym (sets-append out 0 (ofBool (c .run) ∷ []) (c .bytes)))
+        (be (view s) s h ∙ ap (λ (x : Bool). store (markAs i x false (view s)) s) r ∙ left)
+        (e₂ ∙ (λ j. sets (e₁ j) 1 (bs j)) ∙ (λ j. sets (sets out 0 (number j ∷ [])) 1 (c .bytes)) ∙ sym (sets-append out 0 (ofBool (c .run) ∷ []) (c .bytes)))
 
 -- ---- the calls, by the place that was found
 

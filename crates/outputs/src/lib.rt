@@ -3,24 +3,24 @@ use application::answers::Outcome;
 use layout::Found;
 ghost use mathlib.Core.Path.{_≡_};
 ghost use Prim.Native.Nat.{_<_};
-ghost use Rattle.cells.specs.Numbers.{le};
 ghost use Rattle.rules.specs.Host.{outputCall, assemblyAnswer};
+ghost use Rattle.layout.specs.Places.{assembliesOf};
 ghost use Rattle.image.specs.Lift.{liftedOut, liftedRead};
 ghost use Rattle.application.specs.Outcomes.{outcomeNumber, Passed};
 ghost use Rattle.application.specs.Places.{assemblyReadAt, outputReadAt};
 
 // The data of the assembly at that place.
 fn copy_assembly(s: &[u8], i: usize, out: &mut [u8]) -> Outcome
-    requires { ⌜ Passed (now s) × (i < le 1 (now s) 0) ⌝ }
+    requires { ⌜ Passed (now s) × (i < assembliesOf (now s)) ⌝ }
     ensures { λ r. ⌜ (outcomeNumber r, now (out .exit)) ≡ liftedRead (assemblyReadAt i) (now (s .entry)) (now (out .entry)) ⌝ }
 {
     let n = layout::size_at(s, i) as usize;
     if out.len() < n {
         return Outcome::NoRoom;
     }
-    let a = 35328 + i * 512;
+    let a = layout::DATA + i * layout::SLOT;
     let e = a + n;
-    cells::copy_in(out, 0, &s[a..e]);
+    copies::copy_in(out, 0, &s[a..e]);
     Outcome::Wrote(n as u16)
 }
 
@@ -29,7 +29,7 @@ pub fn assembly(s: &[u8], kind: u8, instance: u32, out: &mut [u8]) -> Outcome
     requires { ⌜ Passed (now s) ⌝ }
     ensures { λ r. ⌜ (outcomeNumber r, now (out .exit)) ≡ liftedRead (assemblyAnswer kind instance) (now (s .entry)) (now (out .entry)) ⌝ }
 {
-    let f = places::find(&s[0..192], kind, instance);
+    let f = places::find(&s[0..layout::SETUP_SIZE], kind, instance);
     match f {
         Found::Nowhere => Outcome::NoAssembly,
         Found::At(i) => copy_assembly(s, i, out),
@@ -38,19 +38,19 @@ pub fn assembly(s: &[u8], kind: u8, instance: u32, out: &mut [u8]) -> Outcome
 
 // Run byte and data of the output at that place; its next change is told again.
 fn take_output(s: &mut [u8], i: usize, out: &mut [u8]) -> Outcome
-    requires { ⌜ Passed (now s) × (i < le 1 (now s) 0) ⌝ }
+    requires { ⌜ Passed (now s) × (i < assembliesOf (now s)) ⌝ }
     ensures { λ r. ⌜ (outcomeNumber r, (now (s .exit), now (out .exit))) ≡ liftedOut (outputReadAt i) (now (s .entry)) (now (out .entry)) ⌝ }
 {
     let n = layout::size_at(s, i) as usize;
     if out.len() <= n {
         return Outcome::NoRoom;
     }
-    let run = cells::u8_at(s, 240 + i) % 2;
-    let a = 35328 + i * 512;
+    let run = layout::runs(s, i);
+    let a = layout::DATA + i * layout::SLOT;
     let e = a + n;
-    cells::put_u8(out, 0, run);
-    cells::copy_in(out, 1, &s[a..e]);
-    cells::put_u8(s, 240 + i, run);
+    cells::put_u8(out, 0, run as u8);
+    copies::copy_in(out, 1, &s[a..e]);
+    changes::put_mark(s, i, run, false);
     Outcome::Wrote((n + 1) as u16)
 }
 
@@ -58,7 +58,7 @@ pub fn output(s: &mut [u8], instance: u32, out: &mut [u8]) -> Outcome
     requires { ⌜ Passed (now s) ⌝ }
     ensures { λ r. ⌜ (outcomeNumber r, (now (s .exit), now (out .exit))) ≡ liftedOut (outputCall instance) (now (s .entry)) (now (out .entry)) ⌝ }
 {
-    let f = places::find(&s[0..192], 2, instance);
+    let f = places::find(&s[0..layout::SETUP_SIZE], 2, instance);
     match f {
         Found::Nowhere => Outcome::NoAssembly,
         Found::At(i) => take_output(s, i, out),

@@ -26,6 +26,7 @@ use Rattle.rules.specs.declared.Fixed.{Fixed}
 use Rattle.rules.specs.declared.Sent.{Sent}
 use Rattle.layout.specs.Setups.{shapeIn}
 use Rattle.layout.specs.Rows.{ofDue}
+use Rattle.layout.specs.Places.{dataFrom, assembliesOf}
 use Rattle.image.specs.Holds.{assemblies-held, shape-held, bytes-held}
 use Rattle.packets.specs.Steps.{stepped, head, frameBytes, packetOf, Data}
 
@@ -112,17 +113,17 @@ module _ (f : Fixed) (x : Sent) (d : List ℕ) where
 
 -- ---- the data
 
-module _ (s : List ℕ) (i n : ℕ) (en : n ≡ le 1 s 0) where
+module _ (s : List ℕ) (i n : ℕ) (en : n ≡ assembliesOf s) where
   pub data-none : n ≤ i → Data i s 0 0
   data-none p st l h =
       let a = assemblies-held s st l h in
       ap (λ (z : Content). z .bytes) (sym (List·getD-eq-default (st .contents) noContent {n = i} (omega arith)))
 
-  pub data-some : i < n → (v : ℕ) → v ≡ shapeIn s i .size → Data i s (35328 + i * 512) v
+  pub data-some : i < n → (v : ℕ) → v ≡ shapeIn s i .size → Data i s (dataFrom + i * 512) v
   data-some p v ev st l h =
       let a = assemblies-held s st l h in
       let e : v ≡ length (contentAt st i .bytes) = ev ∙ ap (λ (z : Shape). z .size) (shape-held s st l h i (omega arith)) ∙ sym (h .suits .fits .sized i) in
-      ap (λ (k : ℕ). take k (drop (35328 + i * 512) s)) e ∙ bytes-held s st l h i (omega arith)
+      ap (λ (k : ℕ). take k (drop (dataFrom + i * 512) s)) e ∙ bytes-held s st l h i (omega arith)
 
 -- ---- a step
 

@@ -4,14 +4,13 @@ use mathlib.Core.Bool.{Bool, true, false, cond}
 use mathlib.Core.List.{List, [], append-assoc}
 use mathlib.Core.Path.{_≡_, refl, ap, _∙_}
 use native.Mathlib.Omega.{arith}
-use lib.ListN.{length, getD, take, drop}
-use Rattle.cells.specs.Numbers.{le}
+use lib.ListN.{length, getD}
 use Rattle.rules.specs.State.{Content, State}
 use Rattle.rules.specs.Producing.{due, sent, inputBytes, frameSent, packet}
 use Rattle.rules.specs.declared.Conn.{Conn}
 use Rattle.rules.specs.declared.Sent.{Sent}
-use Rattle.layout.specs.Places.{tableIn}
-use Rattle.layout.specs.Rows.{decConn}
+use Rattle.layout.specs.Places.{tableIn, connectionsOf}
+use Rattle.layout.specs.Rows.{connAt}
 use Rattle.image.specs.Holds.{Holds, conns-held, conn-held}
 use Rattle.image.specs.Updates.{noConn}
 use Rattle.packets.specs.Steps.{stepped, head, packetOf}
@@ -49,5 +48,5 @@ long-packet t contents c e =
 
 -- ---- row i of a held state
 
-pub row-held : (i : ℕ) (s : List ℕ) → i < le 2 s 224 → (st : State) (l : List ℕ) → Holds s st l → decConn (take 70 (drop (i * 70) (tableIn s))) ≡ getD (st .table) i noConn
+pub row-held : (i : ℕ) (s : List ℕ) → i < connectionsOf s → (st : State) (l : List ℕ) → Holds s st l → connAt (tableIn s) i ≡ getD (st .table) i noConn
 row-held i s p st l h = conn-held s st l h i (let e = conns-held s st l h in omega arith)

@@ -5,11 +5,12 @@ use rules::Sent;
 ghost use mathlib.Core.Path.{_≡_};
 ghost use mathlib.Core.Bool.{true, false};
 ghost use Prim.Native.Nat.{_+_, _*_, _≤_, _<_};
-ghost use lib.ListN.{length, take, drop};
+ghost use lib.ListN.{length};
 ghost use lib.Seq.{sets};
 ghost use Rattle.cells.specs.Records.{ofBool};
 ghost use Rattle.rules.specs.Producing.{dueBy, nextTime, nextDue};
-ghost use Rattle.layout.specs.Rows.{ofDue, decFixed};
+ghost use Rattle.layout.specs.Rows.{ofDue};
+ghost use Rattle.layout.specs.Places.{stateSize};
 ghost use Rattle.image.specs.Holds.{Ready, Slotted};
 ghost use Rattle.packets.specs.Steps.{stepped, head, packetOf, Data};
 
@@ -100,18 +101,10 @@ pub fn write_packet(o: &mut [u8], f: Fixed, x: Sent, d: &[u8])
     wire_frames::append_io(o, 13, id, x.sequence, x.cip, d);
 }
 
-// The input of row i of the table's region, without the rest of the row.
-pub fn input_at(r: &[u8], i: usize) -> u8
-    requires { ⌜ (i < 32) × (2304 ≤ length (now r)) ⌝ }
-    ensures { λ x. ⌜ x ≡ decFixed (take 70 (drop (i * 70) (now (r .entry)))) .input ⌝ }
-{
-    cells::u8_at(r, i * 70 + 29)
-}
-
 // The bytes of the assembly at a place of the setup's list; none where there is no such place.
 pub fn data_of(s: &[u8], input: u8) -> Part
     requires { ⌜ Ready (now s) × Slotted (now s) ⌝ }
-    ensures { λ r. ⌜ (r .at + r .size ≤ 109056) × (r .size ≤ 512) × Data input (now (s .entry)) (r .at) (r .size) ⌝ }
+    ensures { λ r. ⌜ (r .at + r .size ≤ stateSize) × (r .size ≤ 512) × Data input (now (s .entry)) (r .at) (r .size) ⌝ }
 {
     let n = cells::u8_at(s, 0) as usize;
     let i = input as usize;
@@ -119,7 +112,7 @@ pub fn data_of(s: &[u8], input: u8) -> Part
         return Part { at: 0, size: 0 };
     }
     Part {
-        at: 35328 + i * 512,
+        at: layout::DATA + i * layout::SLOT,
         size: layout::size_at(s, i) as usize,
     }
 }

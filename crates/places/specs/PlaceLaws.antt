@@ -7,7 +7,6 @@ use native.Mathlib.Omega.{arith}
 use lib.Dec.{eqb}
 use lib.ListN.{drop}
 use borrow.Author.Tests.{ne-eqb}
-use Rattle.cells.specs.Numbers.{le}
 use Rattle.tables.specs.Tables.{rows, length-rows}
 use Rattle.rules.specs.Lists.{place}
 use Rattle.rules.specs.declared.AssemblyKind.{AssemblyKind}
@@ -15,13 +14,13 @@ use Rattle.rules.specs.declared.AssemblyKind.the-variants.{Input, Output, Confi
 use Rattle.rules.specs.State.{Shape, noShape}
 use Rattle.rules.specs.Checks.{isAt, placeOf}
 use Rattle.rules.specs.Host.{kindTest}
-use Rattle.layout.specs.Places.{setupIn}
-use Rattle.layout.specs.Setups.{decShape, setupOf}
+use Rattle.layout.specs.Places.{setupIn, shapesAt, assembliesOf, shapeSize}
+use Rattle.layout.specs.Setups.{decShape, setupOf, shapesOf}
 use Rattle.image.specs.TestLaws.{assemblies-in}
 use Rattle.layout.specs.Searched.{placeIn}
 use Rattle.layout.specs.declared.Found.{Found}
 use Rattle.layout.specs.declared.Found.the-variants.{At}
-use Rattle.image.specs.Searches.{place-in}
+use Rattle.searches.specs.Searches.{place-in}
 
 pub kind-input : (n : ℕ) → eqb n 1 ≡ kindTest n Input
 kind-input zero = refl
@@ -54,16 +53,16 @@ at-rest kind n m a k b ek eb e em =
     ap (λ (x : ℕ). eqb x n) em ∙ sym (ap (λ (x : Bool). x && eqb (a .instance) n) (ap (kindTest kind) (sym ek) ∙ sym eb ∙ e))
 
 -- what was found in the setup's region is one of its assemblies
-pub found-in : (s : List ℕ) (p : Shape → Bool) (x : Found) → placeIn x ≡ place p (rows 5 decShape (le 1 (setupIn s) 0) (drop 110 (setupIn s)))
-    → (i : ℕ) → x ≡ At i → i < le 1 s 0
+pub found-in : (s : List ℕ) (p : Shape → Bool) (x : Found) → placeIn x ≡ place p (shapesOf (setupIn s))
+    → (i : ℕ) → x ≡ At i → i < assembliesOf s
 found-in s p x e i q =
     let a = assemblies-in s in
-    let m = length-rows 5 decShape (le 1 (setupIn s) 0) (drop 110 (setupIn s)) in
-    let h = place-in p noShape (rows 5 decShape (le 1 (setupIn s) 0) (drop 110 (setupIn s))) i (sym e ∙ ap placeIn q) in
+    let m = length-rows shapeSize decShape (assembliesOf (setupIn s)) (drop shapesAt (setupIn s)) in
+    let h = place-in p noShape (shapesOf (setupIn s)) i (sym e ∙ ap placeIn q) in
     omega arith
 
 -- and the rules' place
-pub found-is : (s : List ℕ) (kind n : ℕ) (x : Found) → placeIn x ≡ place (isAt (kindTest kind) n) (rows 5 decShape (le 1 (setupIn s) 0) (drop 110 (setupIn s)))
+pub found-is : (s : List ℕ) (kind n : ℕ) (x : Found) → placeIn x ≡ place (isAt (kindTest kind) n) (shapesOf (setupIn s))
     → placeOf (kindTest kind) (setupOf s) n ≡ placeIn x
 unfolding placeOf setupOf
 found-is s kind n x e = sym e

@@ -3,14 +3,13 @@ use layout::Found;
 use rules::AssemblyKind;
 ghost use mathlib.Core.Path.{_≡_};
 ghost use Prim.Native.Nat.{ℕ, _≤_, _<_};
-ghost use lib.ListN.{length, drop};
-ghost use Rattle.cells.specs.Numbers.{le};
-ghost use Rattle.tables.specs.Tables.{rows};
+ghost use lib.ListN.{length};
 ghost use Rattle.rules.specs.Lists.{place};
 ghost use Rattle.rules.specs.Checks.{isAt};
 ghost use Rattle.rules.specs.Host.{kindTest};
-ghost use Rattle.layout.specs.Setups.{decShape, shapeIn};
+ghost use Rattle.layout.specs.Setups.{shapeIn, shapesOf};
 ghost use Rattle.layout.specs.Searched.{placeIn};
+ghost use Rattle.layout.specs.Places.{setupSize, assembliesOf};
 
 fn is_kind(k: AssemblyKind, kind: u8) -> bool
     ensures { λ r. ⌜ r ≡ kindTest kind k ⌝ }
@@ -23,7 +22,7 @@ fn is_kind(k: AssemblyKind, kind: u8) -> bool
 }
 
 fn is_at(r: &[u8], i: usize, kind: u8, instance: u32) -> bool
-    requires { ⌜ (i < 16) × (192 ≤ length (now r)) ⌝ }
+    requires { ⌜ (i < 16) × (setupSize ≤ length (now r)) ⌝ }
     ensures { λ x. ⌜ x ≡ isAt (kindTest kind) instance (shapeIn (now (r .entry)) i) ⌝ }
 {
     let k = layout::kind_at(r, i);
@@ -35,8 +34,8 @@ fn is_at(r: &[u8], i: usize, kind: u8, instance: u32) -> bool
 
 // The first assembly of that kind and instance, in the setup's region.
 pub fn find(r: &[u8], kind: u8, instance: u32) -> Found
-    requires { ⌜ (192 ≤ length (now r)) × (le 1 (now r) 0 ≤ 16) ⌝ }
-    ensures { λ x. ⌜ placeIn x ≡ place (isAt (kindTest kind) instance) (rows 5 decShape (le 1 (now (r .entry)) 0) (drop 110 (now (r .entry)))) ⌝ }
+    requires { ⌜ (setupSize ≤ length (now r)) × (assembliesOf (now r) ≤ 16) ⌝ }
+    ensures { λ x. ⌜ placeIn x ≡ place (isAt (kindTest kind) instance) (shapesOf (now (r .entry))) ⌝ }
 {
     let n = cells::u8_at(r, 0) as usize;
     let mut i = 0;

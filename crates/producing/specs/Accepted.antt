@@ -10,18 +10,20 @@ use Rattle.rules.specs.State.{State}
 use Rattle.rules.specs.Answers.{isYes}
 use Rattle.rules.specs.Producing.{sends, delays, counters, produceAnswer, produceEffect, produceCall}
 use Rattle.image.specs.Image.{view, store, tested}
+use Rattle.image.specs.RowsFit.{fits-map}
 use Rattle.image.specs.Fits.{Suits}
 use Rattle.image.specs.ViewLaws.{suits-view}
 use Rattle.image.specs.Passes.{tested-store}
 use Rattle.image.specs.Kept.{suits-table, suits-counters}
 use Rattle.producing.specs.Passes.{sentAll}
+use Rattle.producing.specs.SendLaws.{send-fixed}
 
 suits-produced : (t : ℕ) (st : State) (l : List ℕ) → Suits st l → Suits (produceEffect t st) l
 unfolding produceEffect
 suits-produced t st l w =
     let n = length-map (st .table) (sends t) in
     let m = w .fits .table in
-    suits-counters (sentAll t st) l (suits-table st l w (map (sends t) (st .table)) (omega arith)) (counters (st .setup) (delays t (st .table)) (st .counters))
+    suits-counters (sentAll t st) l (suits-table st l w (map (sends t) (st .table)) (omega arith) (fits-map (sends t) (send-fixed t) (st .table) (w .fits .rows))) (counters (st .setup) (delays t (st .table)) (st .counters))
 
 pub produce-suits : (l : List ℕ) → tested l ≡ true → (t room : ℕ) → Suits (produceCall t room (view l) .1) l
 unfolding produceCall

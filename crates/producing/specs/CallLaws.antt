@@ -1,5 +1,6 @@
 -- The call's ways out: nothing due, too little room, sent; and No. 3.
 use Prim.Native.Nat.{ℕ, _+_, _*_, _≤_, _<_}
+use mathlib.Core.Bool.{Bool, true, false, _||_}
 use mathlib.Core.List.{List, [], _∷_, map}
 use mathlib.Core.Path.{_≡_, refl, ap, ap₂, sym, _∙_}
 use native.Mathlib.Omega.{arith}
@@ -9,13 +10,16 @@ use borrow.Author.Tests.{le-leb, lt-leb}
 use Rattle.cells.specs.Numbers.{le, le-8}
 use Rattle.cells.specs.Back.{Bytes}
 use Rattle.tables.specs.Ring.{by-cases}
-use Rattle.rules.specs.Lists.{keep}
+use Rattle.rules.specs.Lists.{keep, any}
 use Rattle.rules.specs.State.{State}
 use Rattle.rules.specs.Answers.{Answer, Wrote, Refused, BadTime, NoRoom, answerNumber, answerBytes}
 use Rattle.rules.specs.Producing.{due, sends, delays, counted, counters, packets, produceAnswer, produceEffect, produceCall}
 use Rattle.rules.specs.declared.Conn.{Conn}
+use Rattle.rules_laws.specs.ListLaws.{clash}
+use Rattle.layout.specs.Places.{tableIn, connectionsOf, producedOf, lateOf}
+use Rattle.layout.specs.Rows.{connsIn}
 use Rattle.image.specs.Image.{store}
-use Rattle.image.specs.Holds.{Becomes, produced-held, late-held}
+use Rattle.image.specs.Holds.{Becomes, table-held, produced-held, late-held}
 use Rattle.image.specs.Changes.{countersAs}
 use Rattle.counting.specs.declared.Tally.{Tally}
 use Rattle.counting.specs.Tallies.{totals, Totals}
@@ -51,7 +55,7 @@ module _ (t room : ℕ) (st : State) where
 
 -- ---- the counters
 
-pub kept-becomes : (s s′ : List ℕ) (k : Tally) (p q : ℕ) → p ≡ counted (le 8 s 192) (k .count) → q ≡ counted (le 8 s 200) (k .late)
+pub kept-becomes : (s s′ : List ℕ) (k : Tally) (p q : ℕ) → p ≡ counted (producedOf s) (k .count) → q ≡ counted (lateOf s) (k .late)
     → Becomes s s′ (countersAs p q (k .worst)) → Becomes s s′ (tallyKept k)
 kept-becomes s s′ k p q ep eq b st l h =
     b st l h
@@ -75,26 +79,24 @@ small s b at =
 no-more : (n : ℕ) → n ≤ 18446744073709551615 → n ≡ counted n 0
 no-more n h = omega arith
 
-none-sends : (t : ℕ) (cs : List Conn) → length (delays t cs) ≡ 0 → (keep (due t) cs ≡ []) × (map (sends t) cs ≡ cs)
+none-sends : (t : ℕ) (cs : List Conn) → any (due t) cs ≡ false → (keep (due t) cs ≡ []) × (map (sends t) cs ≡ cs)
 none-sends t [] e = (refl, refl)
 none-sends t (c ∷ cs) e =
     by-cases (due t c)
-    (λ d. absurd (let z : length (delays t (c ∷ cs)) ≡ 1 + length (delays t cs) = rw d (omega arith) in omega arith))
-    (λ d. let z : length (delays t (c ∷ cs)) ≡ length (delays t cs) = rw d in
-    let r = none-sends t cs (sym z ∙ e) in
-    (rw d (r .0), rw d (ap (λ (y : List Conn). c ∷ y) (r .1))))
+    (λ d. clash true refl (ap (λ (b : Bool). b || any (due t) cs) (sym d) ∙ e))
+    (λ d. let r = none-sends t cs (ap (λ (b : Bool). b || any (due t) cs) (sym d) ∙ e) in (rw d (r .0), rw d (ap (λ (y : List Conn). c ∷ y) (r .1))))
 
 same-counters : (t : ℕ) (st : State) → keep (due t) (st .table) ≡ [] → st .counters .produced ≤ 18446744073709551615 → st .counters .late ≤ 18446744073709551615
     → st .counters ≡ counters (st .setup) (delays t (st .table)) (st .counters)
 unfolding counters
 same-counters t st d p q = rw d (λ j. record { produced = no-more (st .counters .produced) p j; late = no-more (st .counters .late) q j; maxLate = st .counters .maxLate })
 
-module _ (t : ℕ) (s o : List ℕ) (k : Tally) (e : Totals t s k) (early : t < 9223372036854775808) where
-  pub nothing-due : Bytes s → k .count ≡ 0 → Produces t s s o o 0
+module _ (t : ℕ) (s o : List ℕ) (n : ℕ) (en : n ≡ connectionsOf s) (early : t < 9223372036854775808) where
+  pub nothing-due : Bytes s → any (due t) (connsIn n (tableIn s)) ≡ false → Produces t s s o o 0
   unfolding produceEffect counters answerNumber packets
   nothing-due b z st l h =
-      let n : length (delays t (st .table)) ≡ 0 = sym (ap (λ (y : Tally). y .count) (e st l h)) ∙ z in
-      let f = none-sends t (st .table) n in
+      let held : connsIn n (tableIn s) ≡ st .table = ap (λ (k : ℕ). connsIn k (tableIn s)) en ∙ table-held s st l h in
+      let f = none-sends t (st .table) (ap (any (due t)) (sym held) ∙ z) in
       let p : st .counters .produced ≤ 18446744073709551615 = rw (sym (produced-held s st l h)) (small s b 192) in
       let q : st .counters .late ≤ 18446744073709551615 = rw (sym (late-held s st l h)) (small s b 200) in
       let pk : packets t (st .contents) (st .table) ≡ [] = rw (f .0) in
@@ -116,6 +118,7 @@ module _ (t : ℕ) (s o : List ℕ) (k : Tally) (e : Totals t s k) (early : t < 
         out = ap (λ (y : Answer × State). sets o 0 (answerBytes (y .0))) (sym c);
       }
 
+module _ (t : ℕ) (s o : List ℕ) (k : Tally) (e : Totals t s k) (early : t < 9223372036854775808) where
   -- too little room: nothing steps
   pub no-room : length o < k .need → Produces t s s o o 8
   unfolding answerNumber

@@ -13,8 +13,8 @@ use Rattle.rules.specs.Producing.{dueBy, due, sent, sends, inputBytes}
 use Rattle.rules.specs.declared.Conn.{Conn}
 use Rattle.rules.specs.declared.Fixed.{Fixed}
 use Rattle.rules.specs.declared.Sent.{Sent}
-use Rattle.layout.specs.Places.{tableIn}
-use Rattle.layout.specs.Rows.{decFixed, decSent}
+use Rattle.layout.specs.Places.{tableIn, stateSize, connectionsOf}
+use Rattle.layout.specs.Rows.{decFixed, decSent, rowAt}
 use Rattle.image.specs.Image.{store}
 use Rattle.image.specs.Holds.{Holds, Becomes}
 use Rattle.image.specs.Updates.{noConn}
@@ -26,8 +26,8 @@ use Rattle.producing.specs.Passes.{packetAt, Sends}
 
 -- ---- row i
 
-module _ (t i : ℕ) (s : List ℕ) (p : i < le 2 s 224) where
-  module _ (x : Sent) (ex : x ≡ decSent (take 70 (drop (i * 70) (tableIn s)))) (b : Bool) (eb : b ≡ dueBy t (x .due)) where
+module _ (t i : ℕ) (s : List ℕ) (p : i < connectionsOf s) where
+  module _ (x : Sent) (ex : x ≡ decSent (rowAt (tableIn s) i)) (b : Bool) (eb : b ≡ dueBy t (x .due)) where
     sent-held : (st : State) (l : List ℕ) → Holds s st l → getD (st .table) i noConn .sent ≡ x
     sent-held st l h = sym (ex ∙ ap (λ (c : Conn). c .sent) (row-held i s p st l h))
 
@@ -47,7 +47,7 @@ module _ (t i : ℕ) (s : List ℕ) (p : i < le 2 s 224) where
           counts = ap length (sym k);
         }
 
-    module _ (yes′ : b ≡ true) (f : Fixed) (ef : f ≡ decFixed (take 70 (drop (i * 70) (tableIn s)))) (a n : ℕ) (inside : a + n ≤ 109056) (long : length s ≡ 109056) (d : Data (f .input) s a n) where
+    module _ (yes′ : b ≡ true) (f : Fixed) (ef : f ≡ decFixed (rowAt (tableIn s) i)) (a n : ℕ) (inside : a + n ≤ stateSize) (long : length s ≡ stateSize) (d : Data (f .input) s a n) where
       fixed-held : (st : State) (l : List ℕ) → Holds s st l → getD (st .table) i noConn .fixed ≡ f
       fixed-held st l h = sym (ef ∙ ap (λ (c : Conn). c .fixed) (row-held i s p st l h))
 

@@ -12,6 +12,7 @@ use Rattle.rules.specs.Lists.{joined}
 use Rattle.rules.specs.State.{Content, State, withTable}
 use Rattle.rules.specs.Producing.{due, sends, inputBytes, packet, packets}
 use Rattle.rules.specs.declared.Conn.{Conn}
+use Rattle.layout.specs.Places.{connectionsOf}
 use Rattle.image.specs.Image.{store}
 use Rattle.image.specs.Fits.{Suits}
 use Rattle.image.specs.Holds.{Holds, conns-held}
@@ -19,6 +20,10 @@ use Rattle.image.specs.Kept.{suits-row}
 use Rattle.image.specs.Updates.{noConn}
 use Rattle.packets.specs.Rows.{packetOr}
 use Rattle.producing.specs.Passes.{packetAt, sentRow, Sends, SendsAll}
+
+-- a packet changes nothing of a row that never changes
+pub send-fixed : (t : ℕ) (c : Conn) → sends t c .fixed ≡ c .fixed
+send-fixed t c = by-cases (due t c) (λ e. rw e) (λ e. rw e)
 
 -- ---- packets one behind the other
 
@@ -93,7 +98,7 @@ module _ (t i : ℕ) (cs : List Conn) (h : i < length cs) where
 pub send-start : (t : ℕ) (s o : List ℕ) → SendSoFar t 0 s s o o 0
 send-start t s o st l h q = record { held = h; out = refl; place = refl }
 
-pub send-turn : (t i at r : ℕ) (s₀ s s′ o₀ o o′ : List ℕ) → i < le 2 s₀ 224 → SendSoFar t i s₀ s o₀ o at → Sends t i at s s′ o o′ r → SendSoFar t (i + 1) s₀ s′ o₀ o′ (at + r)
+pub send-turn : (t i at r : ℕ) (s₀ s s′ o₀ o o′ : List ℕ) → i < connectionsOf s₀ → SendSoFar t i s₀ s o₀ o at → Sends t i at s s′ o o′ r → SendSoFar t (i + 1) s₀ s′ o₀ o′ (at + r)
 send-turn t i at r s₀ s s′ o₀ o o′ p g d st l h q =
     let cs : List Conn = st .table in
     let pk : Conn → List ℕ = packetOr t (st .contents) in
@@ -108,7 +113,7 @@ send-turn t i at r s₀ s s′ o₀ o o′ p g d st l h q =
     let more = joined-more pk cs i here in
     let at₀ : at ≡ 0 + length (before t i st) = let z = w .place in omega arith in
     record {
-      held = record { is = y .is ∙ ap (λ (z : State). store z l) nx; suits = subst (λ (z : State). Suits z l) nx (suits-row (after t i st) l (w .held .suits) i (sends t (getD (after t i st .table) i noConn))) };
+      held = record { is = y .is ∙ ap (λ (z : State). store z l) nx; suits = subst (λ (z : State). Suits z l) nx (suits-row (after t i st) l (w .held .suits) i (sends t (getD (after t i st .table) i noConn)) (send-fixed t (getD (after t i st .table) i noConn))) };
       out = y .out
           ∙ ap₂ (λ (z : List ℕ) (b : List ℕ). sets z at b) (w .out) same
           ∙ ap (λ (k : ℕ). sets (sets o₀ 0 (before t i st)) k (pk (getD cs i noConn))) at₀
@@ -117,7 +122,7 @@ send-turn t i at r s₀ s s′ o₀ o o′ p g d st l h q =
       place = ap₂ _+_ (w .place) (y .counts ∙ ap length same) ∙ sym (ap length more ∙ length-append (before t i st) (pk (getD cs i noConn)));
     }
 
-pub send-end : (t i at : ℕ) (s₀ s o₀ o : List ℕ) → le 2 s₀ 224 ≤ i → SendSoFar t i s₀ s o₀ o at → SendsAll t s₀ s o₀ o
+pub send-end : (t i at : ℕ) (s₀ s o₀ o : List ℕ) → connectionsOf s₀ ≤ i → SendSoFar t i s₀ s o₀ o at → SendsAll t s₀ s o₀ o
 send-end t i at s₀ s o₀ o p g st l h q =
     let w = g st l h q in
     let cs : List Conn = st .table in

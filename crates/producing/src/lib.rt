@@ -4,23 +4,23 @@ use counting::Tally;
 ghost use mathlib.Core.Path.{_≡_};
 ghost use Prim.Native.Nat.{_+_, _*_, _≤_, _<_};
 ghost use lib.ListN.{length};
-ghost use Rattle.cells.specs.Numbers.{le};
 ghost use Rattle.rules.specs.Producing.{counted};
+ghost use Rattle.layout.specs.Places.{connectionsOf};
 ghost use Rattle.image.specs.Holds.{Ready, Slotted, Becomes};
 ghost use Rattle.image.specs.Kept.{Kept};
 ghost use Rattle.producing.specs.Passes.{Sends, SendsAll, tallyKept, Produces};
 
 // Row i steps, and its packet is written at its place; how many bytes it has. Where there was room for all, there is room for it.
 fn send_row(s: &mut [u8], out: &mut [u8], at: usize, i: usize, time: u64) -> usize
-    requires { ⌜ Ready (now s) × Slotted (now s) × (i < le 2 (now s) 224) × (at ≤ length (now out)) × (time < 9223372036854775808) ⌝ }
-    ensures { λ r. ⌜ (at + r ≤ length (now (out .entry))) × Kept (le 2 (now (s .entry)) 224) (now (s .entry)) (now (s .exit)) × Sends time i at (now (s .entry)) (now (s .exit)) (now (out .entry)) (now (out .exit)) r ⌝ }
+    requires { ⌜ Ready (now s) × Slotted (now s) × (i < connectionsOf (now s)) × (at ≤ length (now out)) × (time < 9223372036854775808) ⌝ }
+    ensures { λ r. ⌜ (at + r ≤ length (now (out .entry))) × Kept (connectionsOf (now (s .entry))) (now (s .entry)) (now (s .exit)) × Sends time i at (now (s .entry)) (now (s .exit)) (now (out .entry)) (now (out .exit)) r ⌝ }
 {
-    let x = layout::sent_at(&s[256..2560], i);
+    let x = layout::sent_at(&s[layout::TABLE..layout::EVENTS], i);
     let d = x.due;
     if !packets::is_due(d, time) {
         return 0;
     }
-    let f = layout::fixed_at(&s[256..2560], i);
+    let f = layout::fixed_at(&s[layout::TABLE..layout::EVENTS], i);
     let p = packets::data_of(s, f.input);
     if out.len() - at < 33 + p.size {
         return 0;
@@ -37,7 +37,7 @@ fn send_all(s: &mut [u8], out: &mut [u8], time: u64)
     requires { ⌜ Ready (now s) × Slotted (now s) × (time < 9223372036854775808) ⌝ }
     ensures { λ _. ⌜ Ready (now (s .exit)) × SendsAll time (now (s .entry)) (now (s .exit)) (now (out .entry)) (now (out .exit)) ⌝ }
 {
-    let n = cells::u16_at(s, 224) as usize;
+    let n = cells::u16_at(s, layout::CONNECTIONS) as usize;
     let mut i = 0;
     let mut at: usize = 0;
     while i < n {
@@ -62,27 +62,35 @@ fn keep_tally(s: &mut [u8], k: Tally)
     requires { ⌜ Ready (now s) ⌝ }
     ensures { λ _. ⌜ Becomes (now (s .entry)) (now (s .exit)) (tallyKept k) ⌝ }
 {
-    let produced = count_on(cells::u64_at(s, 192), k.count);
-    let late = count_on(cells::u64_at(s, 200), k.late);
+    let produced = count_on(cells::u64_at(s, layout::PRODUCED), k.count);
+    let late = count_on(cells::u64_at(s, layout::LATE), k.late);
     changes::set_counters(s, produced, late, k.worst);
 }
 
 // ---- the call
 
-// The answer of a state that passed its test: 8 where the output is too short, and then nothing steps; else the bytes written,
-// times 256.
-pub fn produce(s: &mut [u8], time: u64, out: &mut [u8]) -> u64
+// What is due counted and sent: 8 where the output is too short, and then nothing steps; else the bytes written, times 256.
+fn produce_due(s: &mut [u8], time: u64, out: &mut [u8]) -> u64
     requires { ⌜ Ready (now s) × Slotted (now s) × (time < 9223372036854775808) ⌝ }
     ensures { λ r. ⌜ Produces time (now (s .entry)) (now (s .exit)) (now (out .entry)) (now (out .exit)) r ⌝ }
 {
     let k = counting::count_all(s, time);
-    if k.count == 0 {
-        return 0;
-    }
     if out.len() < k.need {
         return 8;
     }
     send_all(s, out, time);
     keep_tally(s, k);
     (k.need as u64) * 256
+}
+
+// The answer of a state that passed its test. Whether anything is due is asked first: most calls end there.
+pub fn produce(s: &mut [u8], time: u64, out: &mut [u8]) -> u64
+    requires { ⌜ Ready (now s) × Slotted (now s) × (time < 9223372036854775808) ⌝ }
+    ensures { λ r. ⌜ Produces time (now (s .entry)) (now (s .exit)) (now (out .entry)) (now (out .exit)) r ⌝ }
+{
+    let n = cells::u16_at(s, layout::CONNECTIONS) as usize;
+    if !counting::any_due(&s[layout::TABLE..layout::EVENTS], n, time) {
+        return 0;
+    }
+    produce_due(s, time, out)
 }

@@ -1,21 +1,25 @@
 -- The oldest event, as code takes it.
 use Prim.Native.Nat.{ℕ, zero, suc, _+_, _*_, _-_, _%_, _^_, _≤_, _<_}
-use mathlib.Core.Bool.{true}
+use mathlib.Core.Bool.{Bool, true}
 use mathlib.Core.List.{List, [], _∷_}
 use mathlib.Core.Path.{_≡_, refl, ap, sym, _∙_}
 use native.Mathlib.Omega.{arith}
 use lib.ListN.{length, take, drop, length-drop}
 use lib.Seq.{sets, drop-drop, take-take, length-take-le}
+use mir.Val.{boolByte}
 use Rattle.cells.specs.Numbers.{le, put, drop-take}
+use Rattle.cells.specs.Records.{toBool}
 use Rattle.cells.specs.Back.{Bytes}
 use Rattle.tables.specs.Ring.{ringOf}
 use Rattle.rules.specs.State.{State}
 use Rattle.rules.specs.Answers.{Answer, Wrote, Refused, NoRoom, NothingThere, settled}
 use Rattle.rules.specs.Events.{oldestGone}
 use Rattle.rules.specs.Host.{eventAt, nextEventAnswer, nextEventEffect, nextEventCall}
-use Rattle.layout.specs.Places.{ringIn}
+use Rattle.layout.specs.Places.{ringIn, eventsAt, eventsSize, ringAt, firstOf, waitingOf, faultOf}
+use Rattle.layout.specs.Bits.{wordOf}
 use Rattle.image.specs.Image.{view, tested, record32, asIs}
 use Rattle.image.specs.Fits.{is-long, first-slot}
+use Rattle.image.specs.Kept.{byte-of}
 use Rattle.image.specs.Taken.{taken-stored}
 use Rattle.image.specs.Lift.{liftedOut}
 use Rattle.application.specs.Ways.{fits-in, fits-not, out-wrote, out-no}
@@ -45,42 +49,45 @@ unfolding nextEventCall
 after room st a e = ap (λ (x : Answer). settled x (nextEventEffect st) st) e
 
 module _ (s out : List ℕ) (t : tested s ≡ true) (b : Bytes s) where
-  length-oldest : length (take 32 (drop (2560 + le 2 s 220 * 32) s)) ≡ 32
+  length-oldest : length (take 32 (drop (eventsAt + firstOf s * 32) s)) ≡ 32
   length-oldest =
       let n = is-long s t in let f = first-slot s t in
-      length-take-le 32 (drop (2560 + le 2 s 220 * 32) s) (rw (length-drop (2560 + le 2 s 220 * 32) s) (omega arith))
+      length-take-le 32 (drop (eventsAt + firstOf s * 32) s) (rw (length-drop (eventsAt + firstOf s * 32) s) (omega arith))
 
-  in-ring : take 32 (drop (le 2 s 220 * 32) (ringIn s)) ≡ take 32 (drop (2560 + le 2 s 220 * 32) s)
-  in-ring = let f = first-slot s t in part-of 32 (le 2 s 220 * 32) 2560 32768 s (omega arith)
+  in-ring : take 32 (drop (firstOf s * 32) (ringIn s)) ≡ take 32 (drop (eventsAt + firstOf s * 32) s)
+  in-ring = let f = first-slot s t in part-of 32 (firstOf s * 32) eventsAt eventsSize s (omega arith)
 
-  first-is : 1 ≤ le 2 s 222 → (room : ℕ) → nextEventAnswer room (view s) ≡ eventAt room (take 32 (drop (2560 + le 2 s 220 * 32) s) ∷ [])
+  first-is : 1 ≤ waitingOf s → (room : ℕ) → nextEventAnswer room (view s) ≡ eventAt room (take 32 (drop (eventsAt + firstOf s * 32) s) ∷ [])
   unfolding nextEventAnswer view
   first-is h room =
-      ap (eventAt room) (ring-first (le 2 s 220) (le 2 s 222) (ringIn s) h)
+      ap (eventAt room) (ring-first (firstOf s) (waitingOf s) (ringIn s) h)
       ∙ ap (λ (e : List ℕ). eventAt room (e ∷ [])) in-ring
 
-  pub event-none : le 2 s 222 < 1 → (9, (s, out)) ≡ liftedOut nextEventCall s out
+  pub event-none : waitingOf s < 1 → (9, (s, out)) ≡ liftedOut nextEventCall s out
   unfolding nextEventAnswer view
   event-none h =
       out-no s out t nextEventCall b NothingThere
-      (after (length out) (view s) (Refused NothingThere) (ap (eventAt (length out)) (ring-none (le 2 s 220) (le 2 s 222) (ringIn s) h)))
+      (after (length out) (view s) (Refused NothingThere) (ap (eventAt (length out)) (ring-none (firstOf s) (waitingOf s) (ringIn s) h)))
 
-  pub event-short : 1 ≤ le 2 s 222 → length out < 32 → (8, (s, out)) ≡ liftedOut nextEventCall s out
+  pub event-short : 1 ≤ waitingOf s → length out < 32 → (8, (s, out)) ≡ liftedOut nextEventCall s out
   event-short h g =
       let n = length-oldest in
-      let d : List ℕ = take 32 (drop (2560 + le 2 s 220 * 32) s) in
+      let d : List ℕ = take 32 (drop (eventsAt + firstOf s * 32) s) in
       out-no s out t nextEventCall b NoRoom
       (after (length out) (view s) (Refused NoRoom) (first-is h (length out) ∙ fits-not (length out) d (Wrote d) (omega arith)))
 
-  pub event-taken : 1 ≤ le 2 s 222 → 32 ≤ length out → (f n : ℕ) (d o s₁ s₂ : List ℕ) → f ≡ le 2 s 220 → n ≡ le 2 s 222
-      → d ≡ take 32 (drop (2560 + f * 32) s) → o ≡ sets out 0 d → s₁ ≡ put 2 s 220 ((f + 1) % 1024) → s₂ ≡ put 2 s₁ 222 (n - 1)
-      → (2 ^ 8 * 32, (s₂, o)) ≡ liftedOut nextEventCall s out
+  pub event-taken : 1 ≤ waitingOf s → 32 ≤ length out → (f n : ℕ) (a : Bool) (d o s₁ : List ℕ) → f ≡ firstOf s → n ≡ waitingOf s → a ≡ toBool (faultOf s)
+      → d ≡ take 32 (drop (eventsAt + f * 32) s) → o ≡ sets out 0 d → s₁ ≡ put 4 s ringAt ((n - 1) * 2048 + (f + 1) % 1024 * 2 + boolByte a)
+      → (2 ^ 8 * 32, (s₁, o)) ≡ liftedOut nextEventCall s out
   unfolding nextEventEffect oldestGone
-  event-taken h g f n d o s₁ s₂ ef en ed eo e₁ e₂ =
-      let x : List ℕ = take 32 (drop (2560 + le 2 s 220 * 32) s) in
+  event-taken h g f n a d o s₁ ef en ea ed eo es =
+      let x : List ℕ = take 32 (drop (eventsAt + firstOf s * 32) s) in
       let m = length-oldest in
-      out-wrote s out t nextEventCall 32 s₂ o x (nextEventEffect (view s))
+      out-wrote s out t nextEventCall 32 s₁ o x (nextEventEffect (view s))
       (after (length out) (view s) (Wrote x) (first-is h (length out) ∙ fits-in (length out) x (Wrote x) (omega arith)))
       (sym m)
-      (e₂ ∙ ap (λ (z : List ℕ). put 2 z 222 (n - 1)) e₁ ∙ (λ i. put 2 (put 2 s 220 ((ef i + 1) % 1024)) 222 (en i - 1)) ∙ taken-stored s t b)
-      (eo ∙ ap (sets out 0) (ed ∙ ap (λ (k : ℕ). take 32 (drop (2560 + k * 32) s)) ef))
+      (es
+      ∙ ap (λ (k : ℕ). put 4 s ringAt ((n - 1) * 2048 + (f + 1) % 1024 * 2 + k)) (byte-of a)
+      ∙ (λ i. put 4 s ringAt (wordOf (en i - 1) ((ef i + 1) % 1024) (ea i)))
+      ∙ taken-stored s t b)
+      (eo ∙ ap (sets out 0) (ed ∙ ap (λ (k : ℕ). take 32 (drop (eventsAt + k * 32) s)) ef))

@@ -10,18 +10,22 @@ pub fn next_event(s: &mut [u8], out: &mut [u8]) -> Outcome
     requires { ⌜ Passed (now s) ⌝ }
     ensures { λ r. ⌜ (outcomeNumber r, (now (s .exit), now (out .exit))) ≡ liftedOut nextEventCall (now (s .entry)) (now (out .entry)) ⌝ }
 {
-    let n = cells::u16_at(s, 222);
+    let n = layout::events_waiting(s);
     if n < 1 {
         return Outcome::NothingThere;
     }
     if out.len() < 32 {
         return Outcome::NoRoom;
     }
-    let first = cells::u16_at(s, 220);
-    let a = 2560 + first as usize * 32;
+    let first = layout::first_slot(s);
+    let fault = layout::faulty(s);
+    let a = layout::EVENTS + first as usize * 32;
     let e = a + 32;
-    cells::copy_in(out, 0, &s[a..e]);
-    cells::put_u16(s, 220, (first + 1) % 1024);
-    cells::put_u16(s, 222, n - 1);
+    copies::copy_in(out, 0, &s[a..e]);
+    cells::put_u32(
+        s,
+        layout::RING,
+        (n - 1) * 2048 + (first + 1) % 1024 * 2 + fault as u32,
+    );
     Outcome::Wrote(32)
 }

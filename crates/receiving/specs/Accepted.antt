@@ -3,7 +3,7 @@ use Prim.Native.Nat.{ℕ, _+_}
 use mathlib.Core.Bool.{true, not, _&&_}
 use mathlib.Core.List.{List, [], _∷_}
 use mathlib.Core.Option.{Option, none, some}
-use mathlib.Core.Path.{_≡_, _∙_}
+use mathlib.Core.Path.{_≡_, refl, _∙_}
 use native.Mathlib.Omega.{arith}
 use lib.Dec.{eqb, ltb}
 use lib.ListN.{length, length-drop}
@@ -17,11 +17,12 @@ use Rattle.rules.specs.declared.Conn.{Conn}
 use Rattle.rules.specs.declared.Event.{Event}
 use Rattle.wire_items.specs.Frames.{ioOf}
 use Rattle.image.specs.Image.{view, store, tested}
+use Rattle.image.specs.RowsFit.{fits-change}
 use Rattle.image.specs.Fits.{Suits}
 use Rattle.image.specs.ViewLaws.{suits-view}
 use Rattle.image.specs.Passes.{tested-store}
 use Rattle.image.specs.Kept.{suits-table, suits-content}
-use Rattle.image.specs.Searches.{change-at-place}
+use Rattle.searches.specs.Searches.{change-at-place}
 use Rattle.events.specs.Pushes.{suits-told}
 
 -- data that is taken has the output's size
@@ -30,6 +31,11 @@ unfolding taken
 taken-size st f c e =
     let r = and-right (newer (c .heard) (f .sequence) && hasCip f c && not (repeats f (c .heard))) (rightSize (st .setup) f (c .fixed)) e in
     eqb-true (length (f .payload)) (shapeAt (st .setup) (c .fixed .output) .size + 6) (and-right (ltb (c .fixed .output) (length (st .setup .assemblies))) (eqb (length (f .payload)) (shapeAt (st .setup) (c .fixed .output) .size + 6)) r)
+
+-- a frame changes nothing of a row that never changes
+hear-fixed : (t : ℕ) (f : Frame) (c : Conn) → hear t f c .fixed ≡ c .fixed
+unfolding hear
+hear-fixed t f c = either-way (λ (x : Conn). x .fixed ≡ c .fixed) (newer (c .heard) (f .sequence)) refl refl
 
 module _ (l : List ℕ) where
   suits-delivered : (f : Frame) (c : Conn) (st : State) → Suits st l → Suits (withContents (delivered (st .setup) f c (st .contents)) st) l
@@ -58,7 +64,7 @@ module _ (l : List ℕ) where
       let n = length-change (meantFor from f) (hear t f) (st .table) in
       let m = w .fits .table in
       let parts = go (find (meantFor from f) (st .table)) in
-      suits-table _ l parts cs (omega arith)
+      suits-table _ l parts cs (omega arith) (fits-change (meantFor from f) (hear t f) (hear-fixed t f) (st .table) (w .fits .rows))
     where
       go : (to : Option Conn) → Suits (withEvents (pushedAll (maybe [] (λ c. outputEvents (st .setup) f c (st .contents)) to) (st .events)) (withContents (maybe (st .contents) (λ c. delivered (st .setup) f c (st .contents)) to) st)) l
       go none = suits-one [] st w

@@ -6,7 +6,7 @@ use mathlib.Core.Option.{Option, none, some}
 use mathlib.Core.Path.{_≡_, refl, ap, ap₂, sym, _∙_}
 use native.Mathlib.Omega.{arith}
 use lib.Dec.{eqb, leb, ltb}
-use lib.ListN.{length, getD, take, drop, set}
+use lib.ListN.{length, getD, set}
 use lib.Seq.{set-getD}
 use Rattle.cells.specs.Numbers.{le}
 use Rattle.tables.specs.Ring.{by-cases}
@@ -22,15 +22,15 @@ use Rattle.rules.specs.declared.Fixed.{Fixed}
 use Rattle.rules.specs.declared.Heard.{Heard}
 use Rattle.rules.specs.declared.Event.{Event}
 use Rattle.rules.specs.declared.Event.the-variants.{OutputChanged}
-use Rattle.layout.specs.Places.{tableIn}
-use Rattle.layout.specs.Rows.{decFixed, decHeard, decConn}
+use Rattle.layout.specs.Places.{tableIn, rowSize, connectionsOf}
+use Rattle.layout.specs.Rows.{decFixed, decHeard, decConn, rowAt, connAt, connsIn}
 use Rattle.image.specs.Image.{store}
 use Rattle.image.specs.Updates.{noConn}
 use Rattle.image.specs.Fits.{Suits}
 use Rattle.image.specs.Holds.{Holds, Becomes, conns-held, conn-held, table-held}
 use Rattle.image.specs.Kept.{suits-row}
 use Rattle.image.specs.Changes.{heardAs}
-use Rattle.image.specs.Searches.{place-in, find-at, change-at, change-at-place}
+use Rattle.searches.specs.Searches.{place-in, find-at, change-at, change-at-place}
 use Rattle.layout.specs.Searched.{placeIn}
 use Rattle.layout.specs.declared.Found.{Found}
 use Rattle.layout.specs.declared.Found.the-variants.{At, Nowhere}
@@ -100,12 +100,12 @@ module _ (t : ℕ) (f : Frame) (i : ℕ) (st : State) where
 
 -- ---- hear
 
-module _ (s : List ℕ) (st : State) (l : List ℕ) (h : Holds s st l) (i : ℕ) (p : i < le 2 s 224) (t q : ℕ) (d : List ℕ)
-    (f : Frame) (eq : f .sequence ≡ q) (ed : f .payload ≡ d) (y : Heard) (ey : y ≡ decHeard (take 70 (drop (i * 70) (tableIn s)))) where
+module _ (s : List ℕ) (st : State) (l : List ℕ) (h : Holds s st l) (i : ℕ) (p : i < connectionsOf s) (t q : ℕ) (d : List ℕ)
+    (f : Frame) (eq : f .sequence ≡ q) (ed : f .payload ≡ d) (y : Heard) (ey : y ≡ decHeard (rowAt (tableIn s) i)) where
   abbrev c : Conn
   c = getD (st .table) i noConn
 
-  is-conn : decConn (take 70 (drop (i * 70) (tableIn s))) ≡ getD (st .table) i noConn
+  is-conn : connAt (tableIn s) i ≡ getD (st .table) i noConn
   is-conn = conn-held s st l h i (let e = conns-held s st l h in omega arith)
 
   heard-is : getD (st .table) i noConn .heard ≡ y
@@ -117,7 +117,7 @@ module _ (s : List ℕ) (st : State) (l : List ℕ) (h : Holds s st l) (i : ℕ)
   pub hear-old : newer y q ≡ false → s ≡ store (heardAt t f i st) l
   hear-old e = h .is ∙ ap (λ (z : State). store z l) (sym (old-state t f i st (newer-is ∙ e)))
 
-  module _ (nw : newer y q ≡ true) (x : Fixed) (ex : x ≡ decFixed (take 70 (drop (i * 70) (tableIn s))))
+  module _ (nw : newer y q ≡ true) (x : Fixed) (ex : x ≡ decFixed (rowAt (tableIn s) i))
       (u : ℕ) (eu : u ≡ t + timeoutOf (x .otrpi) (x .multiplier)) (b : Bool) (eb : b ≡ isOwner (x .kind) && leb 2 (length d)) where
     fixed-is : getD (st .table) i noConn .fixed ≡ x
     fixed-is = sym (ex ∙ ap (λ (z : Conn). z .fixed) is-conn)
@@ -165,7 +165,7 @@ module _ (s : List ℕ) (st : State) (l : List ℕ) (h : Holds s st l) (i : ℕ)
       pub hear-offered : r ≡ false → (s₂ : List ℕ) → Offers (x .output) d s₁ s₂ → s₂ ≡ store (heardAt t f i st) l
       hear-offered e s₂ bo =
           let st₁ : State = heardAs i new st in
-          let w : Suits st₁ l = suits-row st l (h .suits) i (withHeard new c) in
+          let w : Suits st₁ l = suits-row st l (h .suits) i (withHeard new c) refl in
           bo f ed st₁ l (record { is = be st l h; suits = w })
           ∙ ap (λ (z : Fixed). store (offered f (z .output) st₁) l) (sym fixed-is)
           ∙ ap (λ (z : State). store z l) (sym (offer-state t f i st (newer-is ∙ nw) new whole-is (cip-is ∙ aye) (repeats-is ∙ e)))
@@ -224,18 +224,18 @@ module _ (t from : ℕ) (f : Frame) (st : State) where
         counters = st .counters;
       }
 
-module _ (s : List ℕ) (t from : ℕ) (id : OtId) (q : ℕ) (d : List ℕ) (n : ℕ) (en : n ≡ le 2 s 224)
-    (r : Found) (er : placeIn r ≡ place (hears id from) (rows 70 decConn n (tableIn s))) where
+module _ (s : List ℕ) (t from : ℕ) (id : OtId) (q : ℕ) (d : List ℕ) (n : ℕ) (en : n ≡ connectionsOf s)
+    (r : Found) (er : placeIn r ≡ place (hears id from) (connsIn n (tableIn s))) where
   abbrev frame : Frame
   frame = record { id = id; sequence = q; payload = d }
 
   place-is : (st : State) (l : List ℕ) → Holds s st l → place (hears id from) (st .table) ≡ placeIn r
-  place-is st l h = ap (place (hears id from)) (sym (ap (λ (k : ℕ). rows 70 decConn k (tableIn s)) en ∙ table-held s st l h)) ∙ sym er
+  place-is st l h = ap (place (hears id from)) (sym (ap (λ (k : ℕ). connsIn k (tableIn s)) en ∙ table-held s st l h)) ∙ sym er
 
-  pub found-inside : (i : ℕ) → r ≡ At i → i < le 2 s 224
+  pub found-inside : (i : ℕ) → r ≡ At i → i < connectionsOf s
   found-inside i e =
-      let z = place-in (hears id from) noConn (rows 70 decConn n (tableIn s)) i (sym er ∙ ap placeIn e) in
-      let k = length-rows 70 decConn n (tableIn s) in omega arith
+      let z = place-in (hears id from) noConn (connsIn n (tableIn s)) i (sym er ∙ ap placeIn e) in
+      let k = length-rows rowSize decConn n (tableIn s) in omega arith
 
   pub from-found : (i : ℕ) → r ≡ At i → (s₂ : List ℕ) → Hears i t q d s s₂ → HearsFrom t from id q d s s₂
   from-found i e s₂ b st l h =

@@ -5,56 +5,48 @@ use mathlib.Core.List.{List, [], _∷_}
 use mathlib.Core.Path.{_≡_, refl, ap, sym, _∙_, subst}
 use native.Mathlib.Omega.{arith}
 use borrow.Author.Tests.{le-ltb, lt-ltb, eq-eqb, ne-eqb}
-use borrow.Rule.Slice.PartMut.{putMid}
 use lib.Dec.{eqb, ltb}
 use lib.ListN.{length, getD, take, drop, set, length-drop}
-use lib.Seq.{sets, set-getD, set-set, getD-set-same, length-take-le}
-use Rattle.cells.specs.Numbers.{le, lent}
+use lib.Seq.{sets, set-getD, set-set, getD-set-same}
 use Rattle.cells.specs.Records.{toBool}
-use Rattle.tables.specs.Slots.{sets-whole}
+use Rattle.tables.specs.Ring.{sets-same}
+use Rattle.copies.specs.Same.{Tells}
 use Rattle.rules.specs.Lists.{same}
 use Rattle.rules.specs.State.{Shape, Content, State, contentAt, noContent, shapeAt, withContents}
 use Rattle.rules.specs.Events.{pushedAll}
 use Rattle.rules.specs.Receiving.{Frame, runBit, dataOf, changes, deliver}
 use Rattle.rules.specs.declared.Event.the-variants.{OutputChanged}
 use Rattle.layout.specs.Setups.{shapeIn}
-use Rattle.image.specs.Image.{runIn, notifiedIn, markOf, store}
-use Rattle.image.specs.Contents.{run-of-mark, notified-of-mark}
+use Rattle.layout.specs.Places.{dataFrom, markAt, assembliesOf}
+use Rattle.layout.specs.Bits.{runIn, notifiedIn}
+use Rattle.image.specs.Image.{store}
 use Rattle.image.specs.Fits.{Suits}
-use Rattle.image.specs.Holds.{Holds, Ready, Becomes, assemblies-held, shape-held, mark-held, bytes-held}
-use Rattle.image.specs.Kept.{Kept, kept-sets, suits-content}
-use Rattle.image.specs.Changes.{bytesAs, markAs, marked, bytes-become}
+use Rattle.image.specs.Holds.{Holds, Ready, Becomes, assemblies-held, shape-held, run-held, notified-held, bytes-held}
+use Rattle.image.specs.Kept.{suits-content}
+use Rattle.image.specs.Changes.{BytesBecome, bytesAs, markAs, marked, bytes-become}
 use Rattle.events.specs.Pushes.{eventTold}
-use Rattle.receiving.specs.DecisionLaws.{same-eq}
+use Rattle.receiving.specs.DecisionLaws.{same-eq, told-same}
 use Rattle.receiving.specs.Steps.{Replaces, TakesIn, Offers, told, accepted, offered}
 
 -- ---- put_data
 
-module _ (s : List ℕ) (r : Ready s) (i : ℕ) (p : i < le 1 s 0) (d : List ℕ) (q : length d ≤ 512) (x : List ℕ) (ex : x ≡ d) where
-  abbrev a : ℕ
-  a = 35328 + i * 512
-
-  put-is : putMid (35328 + i * 512) (35328 + i * 512 + length d - (35328 + i * 512)) s x ≡ sets s (35328 + i * 512) d
-  put-is =
-      let n = r .long in let b = r .assemblies in
-      let k : ℕ = a + length d - a in
-      let e : k ≡ length d = omega arith in
-      let m : length (take k (drop a s)) ≡ k = length-take-le k (drop a s) (rw length-drop (omega arith)) in
-      ap (putMid a k s) (ex ∙ sym (sets-whole (take k (drop a s)) d (omega arith))) ∙ lent s a k d (omega arith) (omega arith)
-
-  pub data-kept : Kept (le 2 s 224) s (putMid (35328 + i * 512) (35328 + i * 512 + length d - (35328 + i * 512)) s x)
-  data-kept = rw put-is (kept-sets s r (35328 + i * 512) d (omega arith))
-
-  pub data-put : (v : ℕ) → eqb v 0 ≡ same (take (35328 + i * 512 + length d - (35328 + i * 512)) (drop (35328 + i * 512) s)) d
-      → Replaces i d s (putMid (35328 + i * 512) (35328 + i * 512 + length d - (35328 + i * 512)) s x) (not (eqb v 0))
-  data-put v ev st l h n =
-      let k : ℕ = a + length d - a in
-      let e : k ≡ length (contentAt st i .bytes) = omega arith in
+module _ (s : List ℕ) (i : ℕ) (p : i < assembliesOf s) (d : List ℕ) (v : Bool) (t : Tells v (take (length d) (drop (dataFrom + i * 512) s) ≡ d)) where
+  told-held : (st : State) (l : List ℕ) → Holds s st l → length d ≡ length (contentAt st i .bytes) → v ≡ same (contentAt st i .bytes) d
+  told-held st l h n =
       let m = assemblies-held s st l h in
-      record {
-        is = put-is ∙ bytes-become s i d p st l h n;
-        changed = ap not (ev ∙ ap (λ (z : List ℕ). same z d) (ap (λ (j : ℕ). take j (drop a s)) e ∙ bytes-held s st l h i (omega arith)));
-      }
+      told-same v (take (length d) (drop (dataFrom + i * 512) s)) d t
+      ∙ ap (λ (z : List ℕ). same z d) (ap (λ (j : ℕ). take j (drop (dataFrom + i * 512) s)) n ∙ bytes-held s st l h i (omega arith))
+
+  -- the same bytes, put, would leave what stands there
+  pub data-same : v ≡ true → Ready s → length d ≤ 512 → Replaces i d s s false
+  data-same e r q st l h n =
+      let w = r .long in let b = r .assemblies in
+      let a : ℕ = dataFrom + i * 512 in
+      let there : s ≡ sets s a d = sym (ap (sets s a) (sym (t .0 e)) ∙ sets-same s a (length d) (omega arith)) in
+      record { is = there ∙ bytes-become s i d p st l h n; changed = ap not (sym e ∙ told-held st l h n) }
+
+  pub data-new : v ≡ false → (x : List ℕ) → BytesBecome i d s x → Replaces i d s x true
+  data-new e x b st l h n = record { is = b st l h n; changed = ap not (sym e ∙ told-held st l h n) }
 
 -- ---- take_in
 
@@ -96,9 +88,9 @@ module _ (f : Frame) (o : ℕ) (st : State) where
       let v : told f o st ≡ OutputChanged (shapeAt (st .setup) o .instance) ∷ [] = rw (e, n) in
       λ j. record { setup = st .setup; contents = set (st .contents) o (c j); table = st .table; events = pushedAll (v j) (st .events); fault = st .fault; nextId = st .nextId; counters = st .counters }
 
-module _ (s : List ℕ) (o : ℕ) (p : o < le 1 s 0) (d : List ℕ) (m : ℕ) (em : m ≡ getD s (240 + o) 0)
+module _ (s : List ℕ) (o : ℕ) (p : o < assembliesOf s) (d : List ℕ) (was : Bool) (ew : was ≡ runIn (markAt s o))
     (run : Bool) (er : run ≡ eqb (getD d 2 0 % 2) 1) (s₁ : List ℕ) (ch : Bool) (x : List ℕ) (ex : x ≡ drop 6 d) (rep₀ : Replaces o x s s₁ ch)
-    (b : Bool) (eb : b ≡ ch || not (Bool·beq (toBool (m % 2)) run)) where
+    (b : Bool) (eb : b ≡ ch || not (Bool·beq was run)) where
   rep : Replaces o (drop 6 d) s s₁ ch
   rep = subst (λ (z : List ℕ). Replaces o z s s₁ ch) ex rep₀
 
@@ -118,14 +110,8 @@ module _ (s : List ℕ) (o : ℕ) (p : o < le 1 s 0) (d : List ℕ) (m : ℕ) (e
     run-is : run ≡ runBit f
     run-is = er ∙ ap (λ (z : List ℕ). eqb (getD z 2 0 % 2) 1) (sym ef)
 
-    mark-is : m ≡ markOf (contentAt st o)
-    mark-is = em ∙ mark-held s st l h o there
-
-    was-is : toBool (m % 2) ≡ contentAt st o .run
-    was-is = ap runIn mark-is ∙ run-of-mark (contentAt st o)
-
-    told-is : toBool (m / 2 % 2) ≡ contentAt st o .notified
-    told-is = ap notifiedIn mark-is ∙ notified-of-mark (contentAt st o)
+    was-is : was ≡ contentAt st o .run
+    was-is = ew ∙ run-held s st l h o there
 
     test-is : b ≡ changes f (contentAt st o)
     unfolding changes
@@ -137,7 +123,7 @@ module _ (s : List ℕ) (o : ℕ) (p : o < le 1 s 0) (d : List ℕ) (m : ℕ) (e
 
     pub take-same : b ≡ false → s₁ ≡ store (accepted f o st) l
     take-same e =
-        let c : ch ≡ false = or-left ch (not (Bool·beq (toBool (m % 2)) run)) (sym eb ∙ e) in
+        let c : ch ≡ false = or-left ch (not (Bool·beq was run)) (sym eb ∙ e) in
         let w : contentAt st o .bytes ≡ drop 6 d =
         same-eq (contentAt st o .bytes) (drop 6 d) (not-false-is (same (contentAt st o .bytes) (drop 6 d)) (sym (rep st l h long .changed) ∙ c)) in
         let k : bytesAs o (drop 6 d) st ≡ st =
@@ -160,19 +146,24 @@ module _ (s : List ℕ) (o : ℕ) (p : o < le 1 s 0) (d : List ℕ) (m : ℕ) (e
       is₂ : s₂ ≡ store (fresh f o st) l
       is₂ = be (bytesAs o (drop 6 d) st) l held ∙ ap (λ (z : State). store z l) marked-is
 
-      pub take-quiet : toBool (m / 2 % 2) ≡ true → s₂ ≡ store (accepted f o st) l
-      take-quiet y = is₂ ∙ ap (λ (z : State). store z l) (sym (quiet-state f o st (sym test-is ∙ e) (sym told-is ∙ y)))
+      -- whether an event waits already
+      module _ (waits : Bool) (ew′ : waits ≡ notifiedIn (markAt s o)) where
+        told-is : waits ≡ contentAt st o .notified
+        told-is = ew′ ∙ notified-held s st l h o there
 
-      pub take-told : toBool (m / 2 % 2) ≡ false → (v : ℕ) → v ≡ shapeIn s o .instance → (s₃ : List ℕ) → Becomes s₂ s₃ (eventTold (OutputChanged v)) → s₃ ≡ store (accepted f o st) l
-      take-told y v ev s₃ bp =
-          let w : Suits (fresh f o st) l = suits-content st l (h .suits) o (record { bytes = dataOf f; run = runBit f; notified = true }) (ap length (sym data-is) ∙ long) in
-          bp (fresh f o st) l (record { is = is₂; suits = w })
-          ∙ ap (λ (z : ℕ). store (eventTold (OutputChanged z) (fresh f o st)) l) (ev ∙ ap (λ (z : Shape). z .instance) (shape-held s st l h o p))
-          ∙ ap (λ (z : State). store z l) (sym (told-state f o st (sym test-is ∙ e) (sym told-is ∙ y)))
+        pub take-quiet : waits ≡ true → s₂ ≡ store (accepted f o st) l
+        take-quiet y = is₂ ∙ ap (λ (z : State). store z l) (sym (quiet-state f o st (sym test-is ∙ e) (sym told-is ∙ y)))
+
+        pub take-told : waits ≡ false → (v : ℕ) → v ≡ shapeIn s o .instance → (s₃ : List ℕ) → Becomes s₂ s₃ (eventTold (OutputChanged v)) → s₃ ≡ store (accepted f o st) l
+        take-told y v ev s₃ bp =
+            let w : Suits (fresh f o st) l = suits-content st l (h .suits) o (record { bytes = dataOf f; run = runBit f; notified = true }) (ap length (sym data-is) ∙ long) in
+            bp (fresh f o st) l (record { is = is₂; suits = w })
+            ∙ ap (λ (z : ℕ). store (eventTold (OutputChanged z) (fresh f o st)) l) (ev ∙ ap (λ (z : Shape). z .instance) (shape-held s st l h o p))
+            ∙ ap (λ (z : State). store z l) (sym (told-state f o st (sym test-is ∙ e) (sym told-is ∙ y)))
 
 -- ---- offer
 
-module _ (s : List ℕ) (o : ℕ) (d : List ℕ) (n : ℕ) (en : n ≡ le 1 s 0) where
+module _ (s : List ℕ) (o : ℕ) (d : List ℕ) (n : ℕ) (en : n ≡ assembliesOf s) where
   pub offer-nowhere : n ≤ o → Offers o d s s
   unfolding offered
   offer-nowhere p f ef st l h =

@@ -7,12 +7,10 @@ use wire_items::IoFrame;
 ghost use mathlib.Core.Path.{_≡_};
 ghost use mathlib.Core.Bool.{not, _||_, Bool·beq};
 ghost use Prim.Native.Nat.{_+_, _≤_, _<_};
-ghost use lib.Dec.{eqb};
 ghost use lib.ListN.{length};
-ghost use Rattle.cells.specs.Numbers.{le};
 ghost use Rattle.wire_opens.specs.Timeout.{timeoutOf};
-ghost use Rattle.rules.specs.Lists.{same};
 ghost use Rattle.rules.specs.Receiving.{receiveEffect};
+ghost use Rattle.layout.specs.Places.{connectionsOf, assembliesOf};
 ghost use Rattle.image.specs.Holds.{Ready, Slotted, Becomes};
 ghost use Rattle.image.specs.Kept.{Kept};
 ghost use Rattle.receiving.specs.Steps.{Replaces, TakesIn, Offers, Hears, HearsFrom};
@@ -39,46 +37,33 @@ fn differs(changed: bool, was: bool, run: bool) -> bool
 
 // ---- the output's data
 
-// The bytes compared and copied in one pass; 0 where none differs.
-fn copy_diff(dst: &mut [u8], src: &[u8]) -> u8
-    requires { ⌜ length (now dst) ≡ length (now src) ⌝ }
-    ensures { λ r. ⌜ (now (dst .exit) ≡ now (src .entry)) × (eqb r 0 ≡ same (now (dst .entry)) (now (src .entry))) ⌝ }
-{
-    let mut d: u8 = 0;
-    let mut i: usize = 0;
-    while i < src.len() {
-        let b = src[i];
-        d = d | (dst[i] ^ b);
-        dst[i] = b;
-        i += 1;
-    }
-    d
-}
-
 // As many bytes over an assembly's, and whether they differ from what it had.
 fn put_data(s: &mut [u8], i: usize, d: &[u8]) -> bool
-    requires { ⌜ Ready (now s) × (i < le 1 (now s) 0) × (length (now d) ≤ 512) ⌝ }
-    ensures { λ r. ⌜ Kept (le 2 (now (s .entry)) 224) (now (s .entry)) (now (s .exit)) × Replaces i (now (d .entry)) (now (s .entry)) (now (s .exit)) r ⌝ }
+    requires { ⌜ Ready (now s) × (i < assembliesOf (now s)) × (length (now d) ≤ 512) ⌝ }
+    ensures { λ r. ⌜ Kept (connectionsOf (now (s .entry))) (now (s .entry)) (now (s .exit)) × Replaces i (now (d .entry)) (now (s .entry)) (now (s .exit)) r ⌝ }
 {
-    let a = 35328 + i * 512;
-    let e = a + d.len();
-    copy_diff(&mut s[a..e], d) != 0
+    if copies::same_at(s, layout::DATA + i * layout::SLOT, d) {
+        return false;
+    }
+    changes::put_bytes(s, i, d);
+    true
 }
 
 // A payload of the right size: data and run bit, the event only on a change, once until the output is read.
 fn take_in(s: &mut [u8], i: usize, d: &[u8])
-    requires { ⌜ Ready (now s) × (i < le 1 (now s) 0) × (6 ≤ length (now d)) × (length (now d) ≤ 518) ⌝ }
+    requires { ⌜ Ready (now s) × (i < assembliesOf (now s)) × (6 ≤ length (now d)) × (length (now d) ≤ 518) ⌝ }
     ensures { λ _. ⌜ TakesIn i (now (d .entry)) (now (s .entry)) (now (s .exit)) ⌝ }
 {
-    let mark = s[240 + i];
+    let was = layout::runs(s, i);
+    let told = layout::told(s, i);
     let run = d[2] % 2 == 1;
     let instance = layout::instance_at(s, i);
     let changed = put_data(s, i, &d[6..]);
-    if !differs(changed, mark % 2 != 0, run) {
+    if !differs(changed, was, run) {
         return;
     }
     changes::put_mark(s, i, run, true);
-    if mark / 2 % 2 != 0 {
+    if told {
         return;
     }
     events::tell_assembly(s, 5, instance, 0);
@@ -104,14 +89,14 @@ fn offer(s: &mut [u8], output: u8, d: &[u8])
 // A frame's payload at the connection of a place: sequence and time are recorded first, then the CIP sequence, then header and
 // length are looked at.
 fn hear(s: &mut [u8], i: usize, time: u64, q: u32, d: &[u8])
-    requires { ⌜ Ready (now s) × Slotted (now s) × (i < le 2 (now s) 224) × (time < 9223372036854775808) ⌝ }
+    requires { ⌜ Ready (now s) × Slotted (now s) × (i < connectionsOf (now s)) × (time < 9223372036854775808) ⌝ }
     ensures { λ _. ⌜ Hears i time q (now (d .entry)) (now (s .entry)) (now (s .exit)) ⌝ }
 {
-    let h = layout::heard_at(&s[256..2560], i);
+    let h = layout::heard_at(&s[layout::TABLE..layout::EVENTS], i);
     if !hearing::is_newer(h, q) {
         return;
     }
-    let f = layout::fixed_at(&s[256..2560], i);
+    let f = layout::fixed_at(&s[layout::TABLE..layout::EVENTS], i);
     let k = f.kind;
     let until = lives_until(time, f.otrpi, f.multiplier);
     if !hearing::has_cip(k, d) {
@@ -144,8 +129,8 @@ fn hear_from(s: &mut [u8], time: u64, from: u32, id: OtId, q: u32, d: &[u8])
     requires { ⌜ Ready (now s) × Slotted (now s) × (time < 9223372036854775808) ⌝ }
     ensures { λ _. ⌜ HearsFrom time from id q (now (d .entry)) (now (s .entry)) (now (s .exit)) ⌝ }
 {
-    let n = cells::u16_at(s, 224) as usize;
-    match hearing::find(&s[256..2560], n, id, from) {
+    let n = cells::u16_at(s, layout::CONNECTIONS) as usize;
+    match hearing::find(&s[layout::TABLE..layout::EVENTS], n, id, from) {
         Found::At(i) => {
             hear(s, i, time, q, d);
         }

@@ -8,10 +8,10 @@ ghost use Prim.Native.Nat.{ℕ, _+_, _≤_, _<_};
 ghost use mathlib.Core.List.{[], _∷_};
 ghost use lib.ListN.{length};
 ghost use lib.Seq.{sets};
-ghost use Rattle.cells.specs.Numbers.{le};
 ghost use Rattle.cells.specs.Records.{putFields, ofBool};
 ghost use Rattle.rules.specs.Events.{kindNumber, infoOf, infoRecord};
 ghost use Rattle.layout.specs.Setups.{setupFrom};
+ghost use Rattle.layout.specs.Places.{setupSize, assembliesOf};
 ghost use Rattle.records.specs.Fields.{wLow, wHigh};
 ghost use Rattle.records.specs.Shapes.{shapeOf, ifOwner};
 
@@ -19,7 +19,7 @@ ghost use Rattle.records.specs.Shapes.{shapeOf, ifOwner};
 
 // The instance at a place of the setup's list; 0 past the list.
 pub fn instance_of(r: &[u8], i: u8) -> u16
-    requires { ⌜ (192 ≤ length (now r)) × (le 1 (now r) 0 ≤ 16) ⌝ }
+    requires { ⌜ (setupSize ≤ length (now r)) × (assembliesOf (now r) ≤ 16) ⌝ }
     ensures { λ x. ⌜ x ≡ shapeOf (now (r .entry)) i .instance ⌝ }
 {
     let n = cells::u8_at(r, 0);
@@ -30,7 +30,7 @@ pub fn instance_of(r: &[u8], i: u8) -> u16
 }
 
 fn size_of(r: &[u8], i: u8) -> u16
-    requires { ⌜ (192 ≤ length (now r)) × (le 1 (now r) 0 ≤ 16) ⌝ }
+    requires { ⌜ (setupSize ≤ length (now r)) × (assembliesOf (now r) ≤ 16) ⌝ }
     ensures { λ x. ⌜ x ≡ shapeOf (now (r .entry)) i .size ⌝ }
 {
     let n = cells::u8_at(r, 0);
@@ -53,7 +53,7 @@ fn owned_number(k: Kind, n: u16) -> u16
 
 // What the host is told of a connection, from its row and the setup's region.
 fn info_of(r: &[u8], f: Fixed) -> Info
-    requires { ⌜ (192 ≤ length (now r)) × (le 1 (now r) 0 ≤ 16) ⌝ }
+    requires { ⌜ (setupSize ≤ length (now r)) × (assembliesOf (now r) ≤ 16) ⌝ }
     ensures { λ x. ⌜ x ≡ infoOf (setupFrom (now (r .entry)) []) f ⌝ }
 {
     let kind = f.kind;
@@ -157,7 +157,7 @@ fn put_info(row: &mut [u8], what: u8, i: Info)
 
 // The record of the connection whose row says f, told as `what`.
 pub fn put_record(row: &mut [u8], what: u8, r: &[u8], f: Fixed)
-    requires { ⌜ (32 ≤ length (now row)) × (192 ≤ length (now r)) × (le 1 (now r) 0 ≤ 16) ⌝ }
+    requires { ⌜ (32 ≤ length (now row)) × (setupSize ≤ length (now r)) × (assembliesOf (now r) ≤ 16) ⌝ }
     ensures { λ _. ⌜ now (row .exit) ≡ sets (now (row .entry)) 0 (infoRecord what (infoOf (setupFrom (now (r .entry)) []) f)) ⌝ }
 {
     put_info(row, what, info_of(r, f));

@@ -6,10 +6,9 @@ use mathlib.Core.Option.{none}
 use mathlib.Core.Path.{_≡_, refl, ap, sym, _∙_}
 use native.Mathlib.Omega.{arith}
 use lib.ListN.{length, getD, set, length-set}
-use Rattle.cells.specs.Numbers.{le, le-1, le-8}
+use Rattle.cells.specs.Numbers.{le, le-8}
 use Rattle.cells.specs.Back.{Bytes}
 use Rattle.rules.specs.Lists.{find, place, changeFirst, changeAt}
-use Rattle.tables.specs.Tables.{rows}
 use Rattle.rules_laws.specs.ListLaws.{by-cases}
 use Rattle.rules.specs.State.{Content, State, noContent, contentAt, withContents, withTable, withSent, isOwner, produces}
 use Rattle.rules.specs.Removal.{inStream, idle}
@@ -17,16 +16,15 @@ use Rattle.rules.specs.declared.Conn.{Conn}
 use Rattle.rules.specs.declared.Kind.{Kind}
 use Rattle.rules.specs.declared.Sent.{Sent}
 use Rattle.ids.specs.declared.ToId.{ToId}
-use Rattle.layout.specs.Places.{tableIn}
-use Rattle.layout.specs.Rows.{rowAt, ofDue, decSent, decConn}
+use Rattle.layout.specs.Places.{tableIn, rowSize, connectionsOf, markAt, assembliesOf}
+use Rattle.layout.specs.Bits.{notifiedIn}
+use Rattle.layout.specs.Rows.{rowAt, ofDue, decSent, connsIn}
 use Rattle.layout.specs.RowLaws.{of-to-due, in-row}
-use Rattle.image.specs.Image.{notifiedIn}
-use Rattle.image.specs.Contents.{notified-of-mark}
 use Rattle.image.specs.Updates.{noConn}
-use Rattle.image.specs.Holds.{Becomes, assemblies-held, mark-held}
+use Rattle.image.specs.Holds.{Becomes, assemblies-held, notified-held}
 use Rattle.image.specs.Kept.{suits-row, suits-content}
 use Rattle.image.specs.Changes.{sentAs, markAs}
-use Rattle.image.specs.Searches.{change-at, change-at-place}
+use Rattle.searches.specs.Searches.{change-at, change-at-place}
 use Rattle.layout.specs.declared.Found.{Found}
 use Rattle.layout.specs.declared.Found.the-variants.{At, Nowhere}
 use Rattle.lookup.specs.RowTests.{foundOf, place-none}
@@ -57,7 +55,7 @@ module _ (multicast : Bool) (id : ToId) (x : Sent) (s : List ℕ) where
       handing : (st : State) → withTable (changeFirst (inStream id) (withSent x) (st .table)) st ≡ handed multicast id x st
       handing st = λ j. withTable (cond (sym em j && sym ep j) (changeFirst (inStream id) (withSent x) (st .table)) (st .table)) st
 
-      module _ (n : ℕ) (y : Found) (en : n ≡ le 2 s 224) (ey : y ≡ foundOf (place (inStream id) (rows 70 decConn n (tableIn s)))) where
+      module _ (n : ℕ) (y : Found) (en : n ≡ connectionsOf s) (ey : y ≡ foundOf (place (inStream id) (connsIn n (tableIn s)))) where
         pub hands-nowhere : y ≡ Nowhere → Turns s s (handed multicast id x)
         hands-nowhere e =
             turn-none s (handed multicast id x)
@@ -69,7 +67,7 @@ module _ (multicast : Bool) (id : ToId) (x : Sent) (s : List ℕ) where
         pub hands-on : (j : ℕ) → y ≡ At j → (s′ : List ℕ) → Becomes s s′ (sentAs j x) → Turns s s′ (handed multicast id x)
         hands-on j e s′ b =
             turn-as s s′ (sentAs j x) (handed multicast id x)
-            (turn s s′ (sentAs j x) b (λ st l w. suits-row st l w j (withSent x (getD (st .table) j noConn)))
+            (turn s s′ (sentAs j x) b (λ st l w. suits-row st l w j (withSent x (getD (st .table) j noConn)) refl)
             (λ st. let q = length-set (st .table) j (withSent x (getD (st .table) j noConn)) in omega arith))
             (λ st l o.
             ap (λ (z : List Conn). withTable z st)
@@ -86,9 +84,9 @@ le-8-small l at b =
 pub sent-small : (r : List ℕ) (i : ℕ) (x : Sent) → Bytes r → x ≡ decSent (rowAt r i) → ofDue (x .due) < 18446744073709551616
 unfolding decSent
 sent-small r i x b e =
-    let q : ofDue (x .due) ≡ le 8 r (i * 70 + 0) =
-    ap (λ (z : Sent). ofDue (z .due)) e ∙ of-to-due (le 8 (rowAt r i) 0) ∙ in-row 8 70 0 r (i * 70) (omega arith) in
-    let h = le-8-small r (i * 70 + 0) b in omega arith
+    let q : ofDue (x .due) ≡ le 8 r (i * rowSize + 0) =
+    ap (λ (z : Sent). ofDue (z .due)) e ∙ of-to-due (le 8 (rowAt r i) 0) ∙ in-row 8 rowSize 0 r (i * rowSize) (omega arith) in
+    let h = le-8-small r (i * rowSize + 0) b in omega arith
 
 -- ---- the owner's output loses run
 
@@ -104,7 +102,7 @@ module _ (k : Kind) (i : ℕ) (s : List ℕ) where
   pub idles-not : isOwner k ≡ false → Turns s s (idled k i)
   idles-not e = turn-none s (idled k i) (λ st l o. ap (λ (b : Bool). withContents (cond b (changeAt i idle (st .contents)) (st .contents)) st) (sym e))
 
-  module _ (ek : isOwner k ≡ true) (n : ℕ) (en : n ≡ le 1 s 0) where
+  module _ (ek : isOwner k ≡ true) (n : ℕ) (en : n ≡ assembliesOf s) where
     idling : (st : State) → withContents (changeAt i idle (st .contents)) st ≡ idled k i st
     idling st = ap (λ (b : Bool). withContents (cond b (changeAt i idle (st .contents)) (st .contents)) st) (sym ek)
 
@@ -113,14 +111,14 @@ module _ (k : Kind) (i : ℕ) (s : List ℕ) where
         turn-none s (idled k i)
         (λ st l o. ap (λ (z : List Content). withContents z st) (sym (change-past idle (st .contents) i (let q = assemblies-held s st l (o .holds) in omega arith))) ∙ idling st)
 
-    pub idles : i < n → (m : ℕ) (b : Bool) (s′ : List ℕ) → m ≡ le 1 s (240 + i) → b ≡ notifiedIn m → Becomes s s′ (markAs i false b) → Turns s s′ (idled k i)
-    idles h m b s′ em eb d =
+    pub idles : i < n → (b : Bool) (s′ : List ℕ) → b ≡ notifiedIn (markAt s i) → Becomes s s′ (markAs i false b) → Turns s s′ (idled k i)
+    idles h b s′ eb d =
         turn-as s s′ (markAs i false b) (idled k i)
         (turn s s′ (markAs i false b) d (λ st l w. suits-content st l w i (record { bytes = contentAt st i .bytes; run = false; notified = b }) refl) (λ st. omega arith))
         (λ st l o.
         let q = assemblies-held s st l (o .holds) in
         let c : Content = contentAt st i in
-        let e : b ≡ c .notified = eb ∙ ap notifiedIn (em ∙ le-1 s (240 + i) ∙ mark-held s st l (o .holds) i (omega arith)) ∙ notified-of-mark c in
+        let e : b ≡ c .notified = eb ∙ notified-held s st l (o .holds) i (omega arith) in
         ap (λ (v : Bool). withContents (set (st .contents) i (record { bytes = c .bytes; run = false; notified = v })) st) e
         ∙ ap (λ (z : List Content). withContents z st) (sym (change-at-place idle noContent (st .contents) i))
         ∙ idling st)

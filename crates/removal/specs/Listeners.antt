@@ -8,9 +8,7 @@ use native.Mathlib.Omega.{arith}
 use lib.Dec.{eqb}
 use lib.ListN.{getD}
 use borrow.Author.Tests.{eq-eqb}
-use Rattle.cells.specs.Numbers.{le}
 use Rattle.cells.specs.Records.{ofBool}
-use Rattle.tables.specs.Tables.{rows}
 use Rattle.rules.specs.Lists.{maybe, find, place, any, keep, withoutFirst}
 use Rattle.rules_laws.specs.ListLaws.{by-cases, clash, find-passes, keep-all, all-to, none-found, without-keep-out}
 use Rattle.rules.specs.State.{State, withTable, isListener}
@@ -20,13 +18,13 @@ use Rattle.rules.specs.declared.Conn.{Conn}
 use Rattle.rules.specs.declared.Fixed.{Fixed}
 use Rattle.rules.specs.declared.Kind.{Kind}
 use Rattle.ids.specs.declared.ToId.{ToId}
-use Rattle.layout.specs.Places.{tableIn}
-use Rattle.layout.specs.Rows.{rowAt, decConn, decFixed}
+use Rattle.layout.specs.Places.{tableIn, connectionsOf}
+use Rattle.layout.specs.Rows.{rowAt, decFixed, connsIn}
 use Rattle.image.specs.Updates.{noConn}
 use Rattle.image.specs.Holds.{Held, Ready}
 use Rattle.image.specs.Kept.{Kept}
 use Rattle.image.specs.Changes.{rowGone}
-use Rattle.image.specs.Searches.{find-at, without-at}
+use Rattle.searches.specs.Searches.{find-at, without-at}
 use Rattle.layout.specs.declared.Found.{Found}
 use Rattle.layout.specs.declared.Found.the-variants.{At, Nowhere}
 use Rattle.lookup.specs.RowTests.{foundOf, place-any, place-none, place-never}
@@ -109,7 +107,7 @@ all-one id st = go (find (inStream id) (st .table)) refl
 
 pub record Dropped (r : Bool) (s s′ : List ℕ) : Type 0 where
   pub ready : Ready s′
-  pub count : le 2 s′ 224 + ofBool r ≡ le 2 s 224
+  pub count : connectionsOf s′ + ofBool r ≡ connectionsOf s
 
 pub record ClosedOne (id : ToId) (r : Bool) (s′ : List ℕ) (st : State) (l : List ℕ) : Type 0 where
   pub held : Held s′ (oneClosed id st) l
@@ -121,7 +119,7 @@ Closes id r s s′ = (st : State) (l : List ℕ) → Held s st l → ClosedOne i
 pub dropped-none : (s : List ℕ) → Ready s → Dropped false s s
 dropped-none s r = record { ready = r; count = omega arith }
 
-module _ (id : ToId) (s : List ℕ) (n : ℕ) (x : Found) (en : n ≡ le 2 s 224) (ex : x ≡ foundOf (place (inStream id) (rows 70 decConn n (tableIn s)))) where
+module _ (id : ToId) (s : List ℕ) (n : ℕ) (x : Found) (en : n ≡ connectionsOf s) (ex : x ≡ foundOf (place (inStream id) (connsIn n (tableIn s)))) where
   pub closes-none : x ≡ Nowhere → Closes id false s s
   closes-none e st l o =
       let q : find (inStream id) (st .table) ≡ none = place-none (inStream id) (st .table) (found-nowhere (inStream id) s n x en ex e st l o) in
@@ -143,7 +141,7 @@ module _ (id : ToId) (s : List ℕ) (n : ℕ) (x : Found) (en : n ≡ le 2 s 224
         none-left = λ h. clash true refl h;
       }
 
-  pub dropped-one : (i : ℕ) → x ≡ At i → (s₁ s₂ : List ℕ) → Kept (le 2 s 224 - 1) s s₁ → Kept (le 2 s₁ 224) s₁ s₂ → Dropped true s s₂
+  pub dropped-one : (i : ℕ) → x ≡ At i → (s₁ s₂ : List ℕ) → Kept (connectionsOf s - 1) s s₁ → Kept (connectionsOf s₁) s₁ s₂ → Dropped true s s₂
   dropped-one i e s₁ s₂ a b =
       let h = found-in (inStream id) s n x en ex i e in
       let p = a .conns in let q = b .conns in
@@ -179,7 +177,7 @@ pub closing-end : (id : ToId) (go : Bool) (s₀ s : List ℕ) → Closing id go 
 closing-end id go s₀ s g e st l o =
     let w = g st l o in subst (λ (z : State). Held s z l) (sym (all-none id (w .at) (w .over e)) ∙ w .rest) (w .held)
 
-pub closing-less : (go r : Bool) (s s′ : List ℕ) → go ≡ true → Dropped r s s′ → le 2 s′ 224 + ofBool r < le 2 s 224 + ofBool go
+pub closing-less : (go r : Bool) (s s′ : List ℕ) → go ≡ true → Dropped r s s′ → connectionsOf s′ + ofBool r < connectionsOf s + ofBool go
 closing-less go r s s′ e d = let q = d .count in rw e (omega arith)
 
 pub fewer-dropped : (r : Bool) (s₀ s s′ : List ℕ) → Fewer s₀ s → Dropped r s s′ → Fewer s₀ s′
@@ -248,8 +246,8 @@ module _ (k : Kind) (multicast : Bool) (id : ToId) (s : List ℕ) where
       turn-none s (ended k multicast id)
       (λ st l o. ended-when k multicast id st false (ends-is (st .table) false (any (feeds id) (st .table)) (sym er ∙ e) refl))
 
-  module _ (r : Bool) (er : r ≡ feeder k multicast) (e : r ≡ true) (n : ℕ) (x : Found) (en : n ≡ le 2 s 224)
-      (ex : x ≡ foundOf (place (feeds id) (rows 70 decConn n (tableIn s)))) where
+  module _ (r : Bool) (er : r ≡ feeder k multicast) (e : r ≡ true) (n : ℕ) (x : Found) (en : n ≡ connectionsOf s)
+      (ex : x ≡ foundOf (place (feeds id) (connsIn n (tableIn s)))) where
     pub ends-fed : (i : ℕ) → x ≡ At i → Turns s s (ended k multicast id)
     ends-fed i ei =
         turn-none s (ended k multicast id)

@@ -6,8 +6,6 @@ use mathlib.Core.Option.{some}
 use mathlib.Core.Path.{_≡_, ap, sym, subst, _∙_}
 use native.Mathlib.Omega.{arith}
 use lib.ListN.{getD}
-use Rattle.cells.specs.Numbers.{le}
-use Rattle.tables.specs.Tables.{rows}
 use Rattle.rules.specs.Lists.{place, withoutFirst}
 use Rattle.rules.specs.State.{State, withFault}
 use Rattle.rules.specs.declared.Event.{Event}
@@ -19,13 +17,13 @@ use Rattle.rules_laws.specs.RemovalLaws.{removedIf}
 use Rattle.rules.specs.declared.Conn.{Conn}
 use Rattle.rules.specs.declared.Fixed.{Fixed}
 use Rattle.rules.specs.declared.Sent.{Sent}
-use Rattle.layout.specs.Places.{tableIn}
-use Rattle.layout.specs.Rows.{rowAt, decConn, decFixed, decSent}
+use Rattle.layout.specs.Places.{tableIn, connectionsOf}
+use Rattle.layout.specs.Rows.{rowAt, decFixed, decSent, connsIn}
 use Rattle.image.specs.Updates.{noConn}
 use Rattle.image.specs.Holds.{Held}
 use Rattle.image.specs.Kept.{Kept}
 use Rattle.image.specs.Changes.{rowGone}
-use Rattle.image.specs.Searches.{find-at, without-at}
+use Rattle.searches.specs.Searches.{find-at, without-at}
 use Rattle.layout.specs.declared.Found.{Found}
 use Rattle.layout.specs.declared.Found.the-variants.{At, Nowhere}
 use Rattle.lookup.specs.RowTests.{foundOf, place-none}
@@ -46,7 +44,7 @@ module _ (s s₁ s₂ s₃ s₄ : List ℕ) where
       let st₂ : State = ended (f .kind) (f .multicast) (f .toid) st₁ in
       d (idled (f .kind) (f .output) st₂) l (c st₂ l (b st₁ l (a st l o)))
 
-  pub fewer-follows : Kept (le 2 s 224) s s₁ → Fewer s₁ s₂ → Kept (le 2 s₂ 224) s₂ s₃ → Kept (le 2 s₃ 224) s₃ s₄ → Fewer s s₄
+  pub fewer-follows : Kept (connectionsOf s) s s₁ → Fewer s₁ s₂ → Kept (connectionsOf s₂) s₂ s₃ → Kept (connectionsOf s₃) s₃ s₄ → Fewer s s₄
   fewer-follows a b c d =
       let p = a .conns in let q = b .fewer in let r = c .conns in let u = d .conns in
       record { ready = d .ready; fewer = omega arith }
@@ -55,7 +53,7 @@ module _ (s s₁ s₂ s₃ s₄ : List ℕ) where
 abbrev pub goneAt : ℕ → ℕ → State → State
 goneAt what i st = without-it what (getD (st .table) i noConn .fixed) (getD (st .table) i noConn .sent) (rowGone i st)
 
-pub goes : (s s₁ s₂ : List ℕ) (what i : ℕ) (f : Fixed) (x : Sent) → i < le 2 s 224 → f ≡ decFixed (rowAt (tableIn s) i) → x ≡ decSent (rowAt (tableIn s) i)
+pub goes : (s s₁ s₂ : List ℕ) (what i : ℕ) (f : Fixed) (x : Sent) → i < connectionsOf s → f ≡ decFixed (rowAt (tableIn s) i) → x ≡ decSent (rowAt (tableIn s) i)
     → Turns s s₁ (rowGone i) → Turns s₁ s₂ (without-it what f x) → Turns s s₂ (goneAt what i)
 goes s s₁ s₂ what i f x p ef ex a b st l o =
     let c = row-held s i p st l o in
@@ -109,7 +107,7 @@ pub record Ended (t : ℕ) (r : Bool) (s′ : List ℕ) (st : State) (l : List �
 abbrev pub Ends : ℕ → Bool → List ℕ → List ℕ → Type 0
 Ends t r s s′ = (st : State) (l : List ℕ) → Held s st l → Ended t r s′ st l
 
-module _ (t : ℕ) (s : List ℕ) (n : ℕ) (x : Found) (en : n ≡ le 2 s 224) (ex : x ≡ foundOf (place (expired t) (rows 70 decConn n (tableIn s)))) where
+module _ (t : ℕ) (s : List ℕ) (n : ℕ) (x : Found) (en : n ≡ connectionsOf s) (ex : x ≡ foundOf (place (expired t) (connsIn n (tableIn s)))) where
   pub ends-none : x ≡ Nowhere → Ends t false s s
   unfolding expiredFirst
   ends-none e st l o =

@@ -6,21 +6,20 @@ use mathlib.Core.Option.{none, some}
 use mathlib.Core.Path.{_≡_, ap, sym, subst, _∙_}
 use native.Mathlib.Omega.{arith}
 use lib.ListN.{length, getD}
-use Rattle.cells.specs.Numbers.{le}
 use Rattle.tables.specs.Tables.{rows, length-rows}
 use Rattle.rules.specs.Lists.{place}
 use Rattle.rules.specs.State.{State}
 use Rattle.rules.specs.Events.{infoOf, infoRecord}
 use Rattle.rules.specs.declared.Conn.{Conn}
 use Rattle.rules.specs.declared.Fixed.{Fixed}
-use Rattle.layout.specs.Places.{tableIn}
-use Rattle.layout.specs.Rows.{rowAt, decConn}
+use Rattle.layout.specs.Places.{tableIn, rowSize, connectionsOf}
+use Rattle.layout.specs.Rows.{decConn, connAt, connsIn}
 use Rattle.image.specs.Fits.{Suits}
 use Rattle.image.specs.Updates.{noConn}
 use Rattle.image.specs.Holds.{Held, Ready, Becomes, BecomesHeld, conns-held, table-held, conn-held}
 use Rattle.image.specs.Kept.{Kept, length-without, suits-removed}
 use Rattle.image.specs.Changes.{rowGone, suits-pushed}
-use Rattle.image.specs.Searches.{place-in}
+use Rattle.searches.specs.Searches.{place-in}
 use Rattle.records.specs.Fields.{length-info}
 use Rattle.events.specs.Pushes.{told}
 use Rattle.layout.specs.declared.Found.{Found}
@@ -34,7 +33,7 @@ Turns s s′ f = (st : State) (l : List ℕ) → Held s st l → Held s′ (f st
 -- the bounds, and no more connections
 pub record Fewer (s s′ : List ℕ) : Type 0 where
   pub ready : Ready s′
-  pub fewer : le 2 s′ 224 ≤ le 2 s 224
+  pub fewer : connectionsOf s′ ≤ connectionsOf s
 
 pub fewer-none : (s : List ℕ) → Ready s → Fewer s s
 fewer-none s r = record { ready = r; fewer = omega arith }
@@ -42,7 +41,7 @@ fewer-none s r = record { ready = r; fewer = omega arith }
 pub fewer-both : (s₀ s s′ : List ℕ) → Fewer s₀ s → Fewer s s′ → Fewer s₀ s′
 fewer-both s₀ s s′ a b = record { ready = b .ready; fewer = let p = a .fewer in let q = b .fewer in omega arith }
 
-pub fewer-kept : (n : ℕ) (s s′ : List ℕ) → Kept n s s′ → n ≤ le 2 s 224 → Fewer s s′
+pub fewer-kept : (n : ℕ) (s s′ : List ℕ) → Kept n s s′ → n ≤ connectionsOf s → Fewer s s′
 fewer-kept n s s′ k h = record { ready = k .ready; fewer = let e = k .conns in omega arith }
 
 -- ---- how a step is made
@@ -78,15 +77,15 @@ turn-told s s′ what f b =
 
 -- ---- what a search along a held state's rows found
 
-module _ (p : Conn → Bool) (s : List ℕ) (n : ℕ) (x : Found) (en : n ≡ le 2 s 224) (ex : x ≡ foundOf (place p (rows 70 decConn n (tableIn s)))) where
+module _ (p : Conn → Bool) (s : List ℕ) (n : ℕ) (x : Found) (en : n ≡ connectionsOf s) (ex : x ≡ foundOf (place p (connsIn n (tableIn s)))) where
   held-place : (st : State) (l : List ℕ) → Held s st l → foundOf (place p (st .table)) ≡ x
   held-place st l o =
-      sym (ex ∙ ap (λ (k : ℕ). foundOf (place p (rows 70 decConn k (tableIn s)))) en ∙ ap (λ (z : List Conn). foundOf (place p z)) (table-held s st l (o .holds)))
+      sym (ex ∙ ap (λ (k : ℕ). foundOf (place p (connsIn k (tableIn s)))) en ∙ ap (λ (z : List Conn). foundOf (place p z)) (table-held s st l (o .holds)))
 
-  pub found-in : (i : ℕ) → x ≡ At i → i < le 2 s 224
+  pub found-in : (i : ℕ) → x ≡ At i → i < connectionsOf s
   found-in i e =
-      let z = place-in p noConn (rows 70 decConn n (tableIn s)) i (found-at (place p (rows 70 decConn n (tableIn s))) i (sym ex ∙ e)) in
-      let w = length-rows 70 decConn n (tableIn s) in omega arith
+      let z = place-in p noConn (connsIn n (tableIn s)) i (found-at (place p (connsIn n (tableIn s))) i (sym ex ∙ e)) in
+      let w = length-rows rowSize decConn n (tableIn s) in omega arith
 
   pub found-there : (i : ℕ) → x ≡ At i → (st : State) (l : List ℕ) → Held s st l → place p (st .table) ≡ some i
   found-there i e st l o = found-at (place p (st .table)) i (held-place st l o ∙ e)
@@ -95,5 +94,5 @@ module _ (p : Conn → Bool) (s : List ℕ) (n : ℕ) (x : Found) (en : n ≡ le
   found-nowhere e st l o = found-none (place p (st .table)) (held-place st l o ∙ e)
 
 -- a row that is read is the connection's
-pub row-held : (s : List ℕ) (i : ℕ) → i < le 2 s 224 → (st : State) (l : List ℕ) → Held s st l → decConn (rowAt (tableIn s) i) ≡ getD (st .table) i noConn
+pub row-held : (s : List ℕ) (i : ℕ) → i < connectionsOf s → (st : State) (l : List ℕ) → Held s st l → connAt (tableIn s) i ≡ getD (st .table) i noConn
 row-held s i p st l o = let n = conns-held s st l (o .holds) in conn-held s st l (o .holds) i (omega arith)

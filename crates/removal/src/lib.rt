@@ -8,9 +8,9 @@ use rules::Kind;
 use rules::Sent;
 ghost use mathlib.Core.Path.{_≡_};
 ghost use Prim.Native.Nat.{_<_};
-ghost use Rattle.cells.specs.Numbers.{le};
 ghost use Rattle.rules.specs.State.{produces};
 ghost use Rattle.layout.specs.Rows.{ofDue};
+ghost use Rattle.layout.specs.Places.{connectionsOf};
 ghost use Rattle.image.specs.Holds.{Ready};
 ghost use Rattle.image.specs.Kept.{Kept};
 ghost use Rattle.removal.specs.Turns.{Turns, Fewer};
@@ -32,7 +32,7 @@ fn does_produce(d: Due) -> bool
 // A multicast producer that went hands its stream to the first that is left.
 fn hand_over(s: &mut [u8], multicast: bool, id: ToId, x: Sent)
     requires { ⌜ Ready (now s) × (ofDue (x .due) < 18446744073709551616) ⌝ }
-    ensures { λ _. ⌜ Kept (le 2 (now (s .entry)) 224) (now (s .entry)) (now (s .exit)) × Turns (now (s .entry)) (now (s .exit)) (handed multicast id x) ⌝ }
+    ensures { λ _. ⌜ Kept (connectionsOf (now (s .entry))) (now (s .entry)) (now (s .exit)) × Turns (now (s .entry)) (now (s .exit)) (handed multicast id x) ⌝ }
 {
     if !multicast {
         return;
@@ -41,8 +41,8 @@ fn hand_over(s: &mut [u8], multicast: bool, id: ToId, x: Sent)
     if !does_produce(due) {
         return;
     }
-    let n = cells::u16_at(s, 224) as usize;
-    match lookup::find_stream(&s[256..2560], n, id) {
+    let n = cells::u16_at(s, layout::CONNECTIONS) as usize;
+    match lookup::find_stream(&s[layout::TABLE..layout::EVENTS], n, id) {
         Found::Nowhere => {}
         Found::At(j) => {
             changes::put_sent(s, j, x);
@@ -57,11 +57,11 @@ fn close_first(s: &mut [u8], id: ToId) -> bool
     requires { ⌜ Ready (now s) ⌝ }
     ensures { λ r. ⌜ Dropped r (now (s .entry)) (now (s .exit)) × Closes id r (now (s .entry)) (now (s .exit)) ⌝ }
 {
-    let n = cells::u16_at(s, 224) as usize;
-    match lookup::find_stream(&s[256..2560], n, id) {
+    let n = cells::u16_at(s, layout::CONNECTIONS) as usize;
+    match lookup::find_stream(&s[layout::TABLE..layout::EVENTS], n, id) {
         Found::Nowhere => false,
         Found::At(j) => {
-            let f = layout::fixed_at(&s[256..2560], j);
+            let f = layout::fixed_at(&s[layout::TABLE..layout::EVENTS], j);
             changes::remove_row(s, j);
             events::tell(s, 2, f);
             true
@@ -100,8 +100,8 @@ fn end_stream(s: &mut [u8], k: Kind, multicast: bool, id: ToId)
     if !can_feed(k, multicast) {
         return;
     }
-    let n = cells::u16_at(s, 224) as usize;
-    match lookup::find_feeder(&s[256..2560], n, id) {
+    let n = cells::u16_at(s, layout::CONNECTIONS) as usize;
+    match lookup::find_feeder(&s[layout::TABLE..layout::EVENTS], n, id) {
         Found::Nowhere => {
             close_stream(s, id);
         }
@@ -114,7 +114,7 @@ fn end_stream(s: &mut [u8], k: Kind, multicast: bool, id: ToId)
 // It loses run; its bytes stay.
 fn lose_run(s: &mut [u8], k: Kind, output: u8)
     requires { ⌜ Ready (now s) ⌝ }
-    ensures { λ _. ⌜ Kept (le 2 (now (s .entry)) 224) (now (s .entry)) (now (s .exit)) × Turns (now (s .entry)) (now (s .exit)) (idled k output) ⌝ }
+    ensures { λ _. ⌜ Kept (connectionsOf (now (s .entry))) (now (s .entry)) (now (s .exit)) × Turns (now (s .entry)) (now (s .exit)) (idled k output) ⌝ }
 {
     if !layout::is_owner(k) {
         return;
@@ -124,8 +124,8 @@ fn lose_run(s: &mut [u8], k: Kind, output: u8)
         return;
     }
     let i = output as usize;
-    let mark = cells::u8_at(s, 240 + i);
-    changes::put_mark(s, i, false, mark / 2 % 2 != 0);
+    let told = layout::told(s, i);
+    changes::put_mark(s, i, false, told);
 }
 
 // ---- removal
@@ -145,11 +145,11 @@ fn finish(s: &mut [u8], what: u8, f: Fixed, x: Sent)
 
 // The connection at a place removed, and told as 2 (closed) or 3 (timed out).
 pub fn remove_conn(s: &mut [u8], i: usize, what: u8)
-    requires { ⌜ Ready (now s) × (i < le 2 (now s) 224) ⌝ }
+    requires { ⌜ Ready (now s) × (i < connectionsOf (now s)) ⌝ }
     ensures { λ _. ⌜ Fewer (now (s .entry)) (now (s .exit)) × Turns (now (s .entry)) (now (s .exit)) (goneAt what i) ⌝ }
 {
-    let f = layout::fixed_at(&s[256..2560], i);
-    let x = layout::sent_at(&s[256..2560], i);
+    let f = layout::fixed_at(&s[layout::TABLE..layout::EVENTS], i);
+    let x = layout::sent_at(&s[layout::TABLE..layout::EVENTS], i);
     changes::remove_row(s, i);
     finish(s, what, f, x);
 }

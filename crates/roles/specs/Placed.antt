@@ -6,7 +6,6 @@ use mathlib.Core.Option.{Option, none, some}
 use mathlib.Core.Path.{_≡_, refl, ap, sym, _∙_}
 use native.Mathlib.Omega.{arith}
 use lib.ListN.{length, drop}
-use Rattle.cells.specs.Numbers.{le}
 use Rattle.tables.specs.Tables.{length-rows}
 use Rattle.tables.specs.Ring.{by-cases}
 use Rattle.wire_paths.specs.declared.ConnectionPath.{ConnectionPath}
@@ -17,7 +16,8 @@ use Rattle.rules_laws.specs.ListLaws.{clash}
 use Rattle.rules_laws.specs.CheckLaws.{must-none, then-none}
 use Rattle.rules.specs.Checks as checks
 use Rattle.layout.specs.Setups.{decShape, setupFrom}
-use Rattle.image.specs.Searches.{place-in}
+use Rattle.layout.specs.Places.{shapesAt, assembliesOf, shapeSize}
+use Rattle.searches.specs.Searches.{place-in}
 use Rattle.roles.specs.declared.Roles.{Roles}
 use Rattle.roles.specs.Roles.{placeIn, rolesIn}
 
@@ -63,11 +63,11 @@ pub record Placed (n : ℕ) (x : Roles) : Type 0 where
   pub output : isOwner (x .kind) ≡ true → x .output < n
   pub config : (i : ℕ) → placeIn (x .config) ≡ some i → i < n
 
-assemblies-counted : (r : List ℕ) → length (setupFrom r [] .assemblies) ≡ le 1 r 0
-assemblies-counted r = length-rows 5 decShape (le 1 r 0) (drop 110 r)
+assemblies-counted : (r : List ℕ) → length (setupFrom r [] .assemblies) ≡ assembliesOf r
+assemblies-counted r = length-rows shapeSize decShape (assembliesOf r) (drop shapesAt r)
 
 pub placed : (r : List ℕ) (p : ConnectionPath) (x : Roles) → none ≡ checks.pointsCheck (setupFrom r []) p
-    → rolesIn x ≡ checks.rolesOf (setupFrom r []) p → Placed (le 1 r 0) x
+    → rolesIn x ≡ checks.rolesOf (setupFrom r []) p → Placed (assembliesOf r) x
 placed r p x h e =
     let u : Setup = setupFrom r [] in
     let n = assemblies-counted r in

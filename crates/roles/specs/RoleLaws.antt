@@ -8,7 +8,6 @@ use native.Mathlib.Omega.{arith}
 use lib.Dec.{eqb}
 use lib.ListN.{drop}
 use borrow.Author.Tests.{eq-eqb, ne-eqb}
-use Rattle.cells.specs.Numbers.{le}
 use Rattle.tables.specs.Tables.{rows, length-rows}
 use Rattle.wire_paths.specs.declared.ConnectionPath.{ConnectionPath}
 use Rattle.rules.specs.declared.Kind.{Kind}
@@ -21,11 +20,12 @@ use Rattle.rules.specs.State.{Shape, Setup, noShape, isInput, isOutput, isOwner
 use Rattle.rules.specs.Lists.{place, isSome}
 use Rattle.rules.specs.Host.{kindTest}
 use Rattle.rules.specs.Checks as checks
-use Rattle.layout.specs.Setups.{decShape, setupFrom}
+use Rattle.layout.specs.Setups.{decShape, setupFrom, shapesOf}
 use Rattle.layout.specs.declared.Found.{Found}
 use Rattle.layout.specs.declared.Found.the-variants.{At, Nowhere}
 use Rattle.layout.specs.Searched as ends
-use Rattle.image.specs.Searches.{place-in}
+use Rattle.layout.specs.Places.{shapesAt, assembliesOf, shapeSize}
+use Rattle.searches.specs.Searches.{place-in}
 use Rattle.checking.specs.SaysLaws.{must-yes, must-no, then-on, then-no}
 use Rattle.roles.specs.declared.Roles.{Roles}
 use Rattle.roles.specs.declared.Points.{Points}
@@ -75,7 +75,7 @@ module _ (u : Setup) (point a : ℕ) (ea : a ≡ u .inputOnly) where
 
 module _ (r : List ℕ) (kind point : ℕ) where
   abbrev shapes : List Shape
-  shapes = rows 5 decShape (le 1 r 0) (drop 110 r)
+  shapes = shapesOf r
 
   abbrev searched : Option ℕ
   searched = place (checks.isAt (kindTest kind) point) shapes
@@ -92,10 +92,10 @@ module _ (r : List ℕ) (kind point : ℕ) where
     unfolding checks.placeOf
     place-nowhere h = sym (ap ends.placeIn h) ∙ e
 
-    pub place-small : (i : ℕ) → f ≡ At i → i < le 1 r 0
+    pub place-small : (i : ℕ) → f ≡ At i → i < assembliesOf r
     place-small i h =
         let a = place-in (checks.isAt (kindTest kind) point) noShape shapes i (sym (found i h)) in
-        let n = length-rows 5 decShape (le 1 r 0) (drop 110 r) in omega arith
+        let n = length-rows shapeSize decShape (assembliesOf r) (drop shapesAt r) in omega arith
 
 -- ---- the output: for an owner that of its point
 

@@ -13,10 +13,10 @@ ghost use mathlib.Core.Bool.{_&&_, _||_};
 ghost use Prim.Native.Nat.{_≤_};
 ghost use lib.Dec.{eqb};
 ghost use lib.ListN.{length};
-ghost use Rattle.cells.specs.Numbers.{le};
 ghost use Rattle.rules.specs.Host.{kindTest};
 ghost use Rattle.rules.specs.Checks.{kindOf, otPoint, toPoint, placeOf, pointsCheck, rolesOf};
 ghost use Rattle.layout.specs.Setups.{setupFrom};
+ghost use Rattle.layout.specs.Places.{setupSize, assembliesOf};
 ghost use Rattle.roles.specs.Roles.{placeIn, configOf, outputOf, rolesWith, inputCheck, said, rolesOr};
 
 // What the points of an open come to: the output counts for an owner only and is 0 for others.
@@ -35,7 +35,7 @@ pub enum Points {
 
 // O→T is tried as input-only heartbeat, listen-only heartbeat, output assembly.
 pub fn kind_of(r: &[u8], point: u32) -> Kind
-    requires { ⌜ 192 ≤ length (now r) ⌝ }
+    requires { ⌜ setupSize ≤ length (now r) ⌝ }
     ensures { λ x. ⌜ x ≡ kindOf (setupFrom (now (r .entry)) []) point ⌝ }
 {
     let input_only = cells::u32_at(r, 20);
@@ -87,7 +87,7 @@ fn is_counted(n: usize) -> bool
 
 // The place of the assembly of that kind and instance, of which there are at most 16.
 fn place(r: &[u8], kind: u8, point: u32) -> Stores
-    requires { ⌜ (192 ≤ length (now r)) × (le 1 (now r) 0 ≤ 16) ⌝ }
+    requires { ⌜ (setupSize ≤ length (now r)) × (assembliesOf (now r) ≤ 16) ⌝ }
     ensures { λ x. ⌜ placeIn x ≡ placeOf (kindTest kind) (setupFrom (now (r .entry)) []) point ⌝ }
 {
     match places::find(r, kind, point) {
@@ -97,7 +97,7 @@ fn place(r: &[u8], kind: u8, point: u32) -> Stores
 }
 
 fn output(r: &[u8], kind: Kind, point: u32) -> Stores
-    requires { ⌜ (192 ≤ length (now r)) × (le 1 (now r) 0 ≤ 16) ⌝ }
+    requires { ⌜ (setupSize ≤ length (now r)) × (assembliesOf (now r) ≤ 16) ⌝ }
     ensures { λ x. ⌜ placeIn x ≡ outputOf (setupFrom (now (r .entry)) []) kind point ⌝ }
 {
     match kind {
@@ -108,7 +108,7 @@ fn output(r: &[u8], kind: Kind, point: u32) -> Stores
 }
 
 fn config_place(r: &[u8], p: ConnectionPath) -> Stores
-    requires { ⌜ (192 ≤ length (now r)) × (le 1 (now r) 0 ≤ 16) ⌝ }
+    requires { ⌜ (setupSize ≤ length (now r)) × (assembliesOf (now r) ≤ 16) ⌝ }
     ensures { λ x. ⌜ placeIn x ≡ configOf (setupFrom (now (r .entry)) []) p ⌝ }
 {
     if p.count == 3 {
@@ -118,7 +118,7 @@ fn config_place(r: &[u8], p: ConnectionPath) -> Stores
 }
 
 fn with_input(r: &[u8], p: ConnectionPath, kind: Kind, output: u8) -> Points
-    requires { ⌜ (192 ≤ length (now r)) × (le 1 (now r) 0 ≤ 16) ⌝ }
+    requires { ⌜ (setupSize ≤ length (now r)) × (assembliesOf (now r) ≤ 16) ⌝ }
     ensures { λ x. ⌜ said x ≡ inputCheck (setupFrom (now (r .entry)) []) p ⌝ }
     ensures { λ x. ⌜ rolesOr (rolesWith (setupFrom (now (r .entry)) []) p kind output) x ≡ rolesWith (setupFrom (now (r .entry)) []) p kind output ⌝ }
 {
@@ -139,7 +139,7 @@ fn with_input(r: &[u8], p: ConnectionPath, kind: Kind, output: u8) -> Points
 
 // Check 4.
 pub fn resolve(r: &[u8], p: ConnectionPath) -> Points
-    requires { ⌜ (192 ≤ length (now r)) × (le 1 (now r) 0 ≤ 16) ⌝ }
+    requires { ⌜ (setupSize ≤ length (now r)) × (assembliesOf (now r) ≤ 16) ⌝ }
     ensures { λ x. ⌜ said x ≡ pointsCheck (setupFrom (now (r .entry)) []) p ⌝ }
     ensures { λ x. ⌜ rolesOr (rolesOf (setupFrom (now (r .entry)) []) p) x ≡ rolesOf (setupFrom (now (r .entry)) []) p ⌝ }
 {

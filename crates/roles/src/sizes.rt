@@ -13,17 +13,17 @@ ghost use mathlib.Core.Bool.{true};
 ghost use mathlib.Core.Option.{some};
 ghost use Prim.Native.Nat.{_+_, _≤_};
 ghost use lib.ListN.{length};
-ghost use Rattle.cells.specs.Numbers.{le};
 ghost use Rattle.rules.specs.State.{shapeAt};
 ghost use Rattle.rules.specs.declared.Stop.the-variants.{OwnerSize, HeartbeatSize};
 ghost use Rattle.rules.specs.Checks.{must, sizeOk, beatSize, configStop, configCheck, otSizeCheck, toSizeCheck};
 ghost use Rattle.layout.specs.Setups.{setupFrom, goodShapes};
+ghost use Rattle.layout.specs.Places.{setupSize, assembliesOf};
 ghost use Rattle.checking.specs.Says.{stopIn};
 ghost use Rattle.roles.specs.Roles.{placeIn, rolesIn};
 
 // A place past the list has size 0.
 fn size_in(r: &[u8], i: u8) -> u16
-    requires { ⌜ (192 ≤ length (now r)) × (le 1 (now r) 0 ≤ 16) × (goodShapes (now r) ≡ true) ⌝ }
+    requires { ⌜ (setupSize ≤ length (now r)) × (assembliesOf (now r) ≤ 16) × (goodShapes (now r) ≡ true) ⌝ }
     ensures { λ x. ⌜ (x ≡ shapeAt (setupFrom (now (r .entry)) []) i .size) × (x ≤ 512) ⌝ }
 {
     let n = cells::u8_at(r, 0);
@@ -34,7 +34,7 @@ fn size_in(r: &[u8], i: u8) -> u16
 }
 
 fn length_at(r: &[u8], len: usize, i: u8) -> Check
-    requires { ⌜ (192 ≤ length (now r)) × (le 1 (now r) 0 ≤ 16) × (goodShapes (now r) ≡ true) ⌝ }
+    requires { ⌜ (setupSize ≤ length (now r)) × (assembliesOf (now r) ≤ 16) × (goodShapes (now r) ≡ true) ⌝ }
     ensures { λ x. ⌜ stopIn x ≡ configStop (setupFrom (now (r .entry)) []) len (some i) ⌝ }
 {
     let size = size_in(r, i);
@@ -48,7 +48,7 @@ fn length_at(r: &[u8], len: usize, i: u8) -> Check
 }
 
 fn config_length(r: &[u8], len: usize, config: Stores) -> Check
-    requires { ⌜ (192 ≤ length (now r)) × (le 1 (now r) 0 ≤ 16) × (goodShapes (now r) ≡ true) ⌝ }
+    requires { ⌜ (setupSize ≤ length (now r)) × (assembliesOf (now r) ≤ 16) × (goodShapes (now r) ≡ true) ⌝ }
     ensures { λ x. ⌜ stopIn x ≡ configStop (setupFrom (now (r .entry)) []) len (placeIn config) ⌝ }
 {
     match config {
@@ -59,7 +59,7 @@ fn config_length(r: &[u8], len: usize, config: Stores) -> Check
 
 // Check 5.
 pub fn config(r: &[u8], p: ConnectionPath, roles: Roles) -> Check
-    requires { ⌜ (192 ≤ length (now r)) × (le 1 (now r) 0 ≤ 16) × (goodShapes (now r) ≡ true) ⌝ }
+    requires { ⌜ (setupSize ≤ length (now r)) × (assembliesOf (now r) ≤ 16) × (goodShapes (now r) ≡ true) ⌝ }
     ensures { λ x. ⌜ stopIn x ≡ configCheck (setupFrom (now (r .entry)) []) p (rolesIn roles) ⌝ }
 {
     if p.datalen == 0 {
@@ -96,7 +96,7 @@ fn is_beat(n: u32) -> bool
 }
 
 fn owner_size(r: &[u8], n: NetParams, i: u8) -> Check
-    requires { ⌜ (192 ≤ length (now r)) × (le 1 (now r) 0 ≤ 16) × (goodShapes (now r) ≡ true) ⌝ }
+    requires { ⌜ (setupSize ≤ length (now r)) × (assembliesOf (now r) ≤ 16) × (goodShapes (now r) ≡ true) ⌝ }
     ensures { λ x. ⌜ stopIn x ≡ must (sizeOk n (shapeAt (setupFrom (now (r .entry)) []) i .size + 6)) (OwnerSize (n .size) (shapeAt (setupFrom (now (r .entry)) []) i .size + 6)) ⌝ }
 {
     let wanted = size_in(r, i) + 6;
@@ -120,7 +120,7 @@ fn heartbeat_size(n: u32) -> Check
 
 // Check 8: run/idle header and CIP sequence before an owner's data.
 pub fn ot_size(r: &[u8], o: ForwardOpen, roles: Roles) -> Check
-    requires { ⌜ (192 ≤ length (now r)) × (le 1 (now r) 0 ≤ 16) × (goodShapes (now r) ≡ true) ⌝ }
+    requires { ⌜ (setupSize ≤ length (now r)) × (assembliesOf (now r) ≤ 16) × (goodShapes (now r) ≡ true) ⌝ }
     ensures { λ x. ⌜ stopIn x ≡ otSizeCheck (setupFrom (now (r .entry)) []) o (rolesIn roles) ⌝ }
 {
     let way = o.ot;
@@ -135,7 +135,7 @@ pub fn ot_size(r: &[u8], o: ForwardOpen, roles: Roles) -> Check
 
 // Check 9: the CIP sequence before the input.
 pub fn to_size(r: &[u8], o: ForwardOpen, roles: Roles) -> Check
-    requires { ⌜ (192 ≤ length (now r)) × (le 1 (now r) 0 ≤ 16) × (goodShapes (now r) ≡ true) ⌝ }
+    requires { ⌜ (setupSize ≤ length (now r)) × (assembliesOf (now r) ≤ 16) × (goodShapes (now r) ≡ true) ⌝ }
     ensures { λ x. ⌜ stopIn x ≡ toSizeCheck (setupFrom (now (r .entry)) []) o (rolesIn roles) ⌝ }
 {
     let way = o.to;

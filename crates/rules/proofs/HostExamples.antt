@@ -132,7 +132,7 @@ lists =
     (next (Call.Stats 24) two is two) ∷
     (next (Call.Deadline 8) two is two) ∷
     (next (Call.OpenRefusal 0x54 [] 10) two is two) ∷
-    (next (Call.Message 0 0 [] 516 NoUpload) two is two) ∷
+    (next (Call.Message 0 0 [] 516 NoUpload) (withEvents (waitingFor 1) two) is withEvents (waitingFor 1) two) ∷
     []
 
 pub the-lists : Hold lists

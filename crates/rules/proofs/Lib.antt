@@ -6,6 +6,7 @@ pub mod OpenExamples
 pub mod AcceptedExamples
 pub mod RemovalExamples
 pub mod ObjectExamples
+pub mod Sessions
 pub mod RoutingExamples
 pub mod Small
 pub mod ReceiveExamples

@@ -161,6 +161,8 @@ identityExamples =
     reads device 0x01 1 2 (0x0C ∷ 0x00 ∷ []) ∷
     reads device 0x01 1 3 (0x41 ∷ 0x00 ∷ []) ∷
     reads device 0x01 1 4 (2 ∷ 3 ∷ []) ∷
+    -- 13.21: a session's upload goes on behind it
+    answers device (at 1 2 0 0) (getAttribute 0x01 1 1) (0x8E ∷ 0 ∷ 0 ∷ 0 ∷ 0x34 ∷ 0x12 ∷ []) (at 1 2 0 0) ∷
     -- status: no connections; an owner idle, an owner in run, a reader alone; faulted, without and with an owner
     reads device 0x01 1 5 (0x30 ∷ 0x00 ∷ []) ∷
     reads (stateWith setup [] false (conn Owner ∷ []) false) 0x01 1 5 (0x71 ∷ 0x00 ∷ []) ∷

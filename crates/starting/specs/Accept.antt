@@ -16,7 +16,8 @@ use Rattle.image.specs.TestLaws.{setup-passes}
 use Rattle.rules.specs.Lists.{any}
 use Rattle.rules.specs.State.{Shape}
 use Rattle.rules.specs.Setup.{shapeOk, distinct, assembliesOk, nameOk, edsOk, transferOk, setupOk}
-use Rattle.layout.specs.Setups.{decShape, testsSetup, goodSetup}
+use Rattle.layout.specs.Setups.{decShape, testsSetup, goodSetup, shapesOf}
+use Rattle.layout.specs.Places.{shapesAt, assembliesOf, shapeSize}
 use Rattle.starting.specs.Block.{kindGiven, regionOf, edsMark, setupGiven, testsBlock, accepted}
 use Rattle.starting.specs.Given.{flag-bit, absent, short-eds, few, short-name, short-eds-name, some-transfer, kinds-ok, shapes-ok, no-eds, some-eds}
 use Rattle.starting.specs.Shapes.{shapeGiven, instancesIn}
@@ -62,7 +63,7 @@ head-all true bs e = (refl, e)
 head-all false bs e = unlike (sym e)
 
 shapes-split : (n : ℕ) (x : List ℕ) → all (rows 5 shapeGiven n x) ≡ true
-    → (all (rows 5 kindGiven n x) ≡ true) × (not (any (λ a. not (shapeOk a)) (rows 5 decShape n x)) ≡ true)
+    → (all (rows 5 kindGiven n x) ≡ true) × (not (any (λ a. not (shapeOk a)) (rows shapeSize decShape n x)) ≡ true)
 unfolding rows shapeGiven
 shapes-split zero x e = (all-nil, refl)
 shapes-split (suc n) x e =
@@ -70,15 +71,15 @@ shapes-split (suc n) x e =
     let t = shapes-split n (drop 5 x) (h .1) in
     let k = first-half (kindGiven (take 5 x)) (shapeOk (decShape (take 5 x))) (h .0) in
     let s = second-half (kindGiven (take 5 x)) (shapeOk (decShape (take 5 x))) (h .0) in
-    (all-cons (kindGiven (take 5 x)) (rows 5 kindGiven n (drop 5 x)) k (t .0), none-of (shapeOk (decShape (take 5 x))) (any (λ a. not (shapeOk a)) (rows 5 decShape n (drop 5 x))) s (t .1))
+    (all-cons (kindGiven (take 5 x)) (rows 5 kindGiven n (drop 5 x)) k (t .0), none-of (shapeOk (decShape (take 5 x))) (any (λ a. not (shapeOk a)) (rows shapeSize decShape n (drop 5 x))) s (t .1))
 
-shapes-joined : (n : ℕ) (x : List ℕ) → all (rows 5 kindGiven n x) ≡ true → not (any (λ a. not (shapeOk a)) (rows 5 decShape n x)) ≡ true
+shapes-joined : (n : ℕ) (x : List ℕ) → all (rows 5 kindGiven n x) ≡ true → not (any (λ a. not (shapeOk a)) (rows shapeSize decShape n x)) ≡ true
     → all (rows 5 shapeGiven n x) ≡ true
 unfolding rows shapeGiven
 shapes-joined zero x k s = all-nil
 shapes-joined (suc n) x k s =
     let h = head-all (kindGiven (take 5 x)) (rows 5 kindGiven n (drop 5 x)) k in
-    let t = neither (shapeOk (decShape (take 5 x))) (any (λ a. not (shapeOk a)) (rows 5 decShape n (drop 5 x))) s in
+    let t = neither (shapeOk (decShape (take 5 x))) (any (λ a. not (shapeOk a)) (rows shapeSize decShape n (drop 5 x))) s in
     all-cons (shapeGiven (take 5 x)) (rows 5 shapeGiven n (drop 5 x))
     (both (kindGiven (take 5 x)) (shapeOk (decShape (take 5 x))) (h .0) (t .0))
     (shapes-joined n (drop 5 x) (h .1) (t .1))
@@ -129,13 +130,13 @@ module _ (block eds : List ℕ) where
       let m = flag-bit block eds ok in
       sym (setup-passes block (omega arith) (omega arith) (omega arith) (omega arith) (omega arith)))
 
-  pub wrong-shapes : (n : ℕ) → n ≡ le 1 block 0 → all (rows 5 shapeGiven n (drop 110 block)) ≡ false → false ≡ accepted block eds
+  pub wrong-shapes : (n : ℕ) → n ≡ assembliesOf block → all (rows 5 shapeGiven n (drop shapesAt block)) ≡ false → false ≡ accepted block eds
   wrong-shapes n e =
-      refused (all (rows 5 shapeGiven n (drop 110 block)))
+      refused (all (rows 5 shapeGiven n (drop shapesAt block)))
       (λ ok.
-      ap (λ (k : ℕ). all (rows 5 shapeGiven k (drop 110 block))) e ∙
-      shapes-joined (le 1 block 0) (drop 110 block) (kinds-ok block eds ok)
-      (ap₂ (λ (n : ℕ) (x : List ℕ). not (any (λ a. not (shapeOk a)) (rows 5 decShape n x))) (sym (low-same 0 (omega arith))) (sym (rest-same 110 (omega arith)))
+      ap (λ (k : ℕ). all (rows 5 shapeGiven k (drop shapesAt block))) e ∙
+      shapes-joined (assembliesOf block) (drop shapesAt block) (kinds-ok block eds ok)
+      (ap₂ (λ (n : ℕ) (x : List ℕ). not (any (λ a. not (shapeOk a)) (rows shapeSize decShape n x))) (sym (low-same 0 (omega arith))) (sym (rest-same shapesAt (omega arith)))
       ∙ shapes-ok block eds ok))
 
 -- ---- all but the last hold
@@ -152,24 +153,24 @@ first-of-five false b c d e p q r s = refl
 third : (a b c : Bool) → a ≡ true → b ≡ true → a && b && c ≡ c
 third a b c p q = rw (p, q) refl
 
-pub few-given : (block : List ℕ) → goodSetup block ≡ true → le 1 block 0 ≤ 16
+pub few-given : (block : List ℕ) → goodSetup block ≡ true → assembliesOf block ≤ 16
 unfolding goodSetup
-few-given block g = leb-true (le 1 block 0) 16 (all-at (testsSetup block) g 0)
+few-given block g = leb-true (assembliesOf block) 16 (all-at (testsSetup block) g 0)
 
 module _ (block eds : List ℕ) (long : length block ≡ 192) (f : le 4 block 4 ≤ 1) (x : edsFits (le 4 block 4) (length eds) ≡ true) (g : goodSetup block ≡ true) where
-  assemblies-given : setupGiven block eds .assemblies ≡ rows 5 decShape (le 1 block 0) (drop 110 block)
+  assemblies-given : setupGiven block eds .assemblies ≡ shapesOf block
   unfolding setupGiven
-  assemblies-given = ap₂ (rows 5 decShape) (low-same block eds 0 (omega arith)) (rest-same block eds 110 (omega arith))
+  assemblies-given = ap₂ (rows shapeSize decShape) (low-same block eds 0 (omega arith)) (rest-same block eds shapesAt (omega arith))
 
-  assemblies-told : all (rows 5 shapeGiven (le 1 block 0) (drop 110 block)) ≡ true → assembliesOk (setupGiven block eds .assemblies) ≡ distinct (instancesIn (le 1 block 0) block)
+  assemblies-told : all (rows 5 shapeGiven (assembliesOf block) (drop shapesAt block)) ≡ true → assembliesOk (setupGiven block eds .assemblies) ≡ distinct (instancesIn (assembliesOf block) block)
   unfolding instancesIn
   assemblies-told y =
-      let xs : List Shape = rows 5 decShape (le 1 block 0) (drop 110 block) in
-      let n = length-rows 5 decShape (le 1 block 0) (drop 110 block) in
+      let xs : List Shape = shapesOf block in
+      let n = length-rows shapeSize decShape (assembliesOf block) (drop shapesAt block) in
       let h = few-given block g in
       ap assembliesOk assemblies-given
       ∙ third (leb (length xs) 16) (not (any (λ a. not (shapeOk a)) xs)) (distinct (map (λ a. a .instance) xs))
-      (le-leb (length xs) 16 (omega arith)) (shapes-split (le 1 block 0) (drop 110 block) y .1)
+      (le-leb (length xs) 16 (omega arith)) (shapes-split (assembliesOf block) (drop shapesAt block) y .1)
 
   name-fits : (n k : ℕ) → n ≤ 32 → k + 32 ≤ 192 → nameOk (take n (drop k block)) ≡ true
   name-fits n k h q =
@@ -210,16 +211,16 @@ module _ (block eds : List ℕ) (long : length block ≡ 192) (f : le 4 block 4 
       ap transferOk (low-same block eds 1 (omega arith))
       ∙ both (leb 1 (le 1 block 1)) (leb (le 1 block 1) 255) (le-leb 1 (le 1 block 1) (omega arith)) (le-leb (le 1 block 1) 255 (omega arith))
 
-  pub given-once : (n : ℕ) → n ≡ le 1 block 0 → getD block 1 0 ≤ 255 → all (rows 5 shapeGiven n (drop 110 block)) ≡ true → distinct (instancesIn n block) ≡ accepted block eds
+  pub given-once : (n : ℕ) → n ≡ assembliesOf block → getD block 1 0 ≤ 255 → all (rows 5 shapeGiven n (drop shapesAt block)) ≡ true → distinct (instancesIn n block) ≡ accepted block eds
   unfolding accepted setupOk
   given-once n e t y =
       let u = setupGiven block eds in
-      let z : all (rows 5 shapeGiven (le 1 block 0) (drop 110 block)) ≡ true = ap (λ (k : ℕ). all (rows 5 shapeGiven k (drop 110 block))) (sym e) ∙ y in
+      let z : all (rows 5 shapeGiven (assembliesOf block) (drop shapesAt block)) ≡ true = ap (λ (k : ℕ). all (rows 5 shapeGiven k (drop shapesAt block))) (sym e) ∙ y in
       ap (λ (k : ℕ). distinct (instancesIn k block)) e
       ∙ sym
       (last-of (eqb (length block) 192) (leb (le 4 block 4) 1) (not (eqb (le 4 block 4) 0) || eqb (length eds) 0)
-      (all (rows 5 kindGiven (le 1 block 0) (drop 110 block))) (setupOk u)
-      (eq-eqb (length block) 192 long) (le-leb (le 4 block 4) 1 f) bytes-given (shapes-split (le 1 block 0) (drop 110 block) z .0)
+      (all (rows 5 kindGiven (assembliesOf block) (drop shapesAt block))) (setupOk u)
+      (eq-eqb (length block) 192 long) (le-leb (le 4 block 4) 1 f) bytes-given (shapes-split (assembliesOf block) (drop shapesAt block) z .0)
       ∙ first-of-five (assembliesOk (u .assemblies)) (nameOk (u .identity .name)) (nameOk (u .edsName)) (edsOk (u .eds)) (transferOk (u .transferLimit))
       name-given eds-name-given eds-given (transfer-given (let b = le-1 block 1 in omega arith))
       ∙ assemblies-told z)

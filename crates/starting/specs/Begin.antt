@@ -11,7 +11,7 @@ use Rattle.tables.specs.Slots.{sets-whole}
 use Rattle.tables.specs.Regions.{joined, Sized, none, one, start, sized-set}
 use Rattle.tables.specs.RegionWrites.{region-sets}
 use Rattle.rules.specs.Setup.{firstId}
-use Rattle.layout.specs.Places.{widths, wHead}
+use Rattle.layout.specs.Places.{widths, wHead, tableSize, eventsSize, dataSize, edsAt, stateSize, nextIdAt}
 use Rattle.starting.specs.Block.{edsMark, regionOf, zeros, listFresh, started}
 use Rattle.starting.specs.Fresh.{length-zeros, drop-zeros}
 
@@ -21,13 +21,13 @@ zeros-add zero b = ap (λ (n : ℕ). replicate n 0) (let e : 0 + b ≡ b = omega
 zeros-add (suc a) b = ap (λ (n : ℕ). replicate n 0) (let e : suc a + b ≡ suc (a + b) = omega arith in e) ∙ ap (λ (z : List ℕ). 0 ∷ z) (zeros-add a b)
 
 abbrev nothing : List (List ℕ)
-nothing = zeros 192 ∷ zeros 48 ∷ zeros 16 ∷ zeros 2304 ∷ zeros 32768 ∷ zeros 8192 ∷ zeros 65536 ∷ []
+nothing = zeros 192 ∷ zeros 48 ∷ zeros 16 ∷ zeros tableSize ∷ zeros eventsSize ∷ zeros dataSize ∷ zeros 65536 ∷ []
 
 nothing-sized : Sized widths nothing
 nothing-sized =
-    one (length-zeros 192) (one (length-zeros 48) (one (length-zeros 16) (one (length-zeros 2304) (one (length-zeros 32768) (one (length-zeros 8192) (one (length-zeros 65536) none))))))
+    one (length-zeros 192) (one (length-zeros 48) (one (length-zeros 16) (one (length-zeros tableSize) (one (length-zeros eventsSize) (one (length-zeros dataSize) (one (length-zeros 65536) none))))))
 
-all-nothing : zeros 109056 ≡ joined nothing
+all-nothing : zeros stateSize ≡ joined nothing
 unfolding joined
 all-nothing =
     zeros-add 192 108864
@@ -36,15 +36,15 @@ all-nothing =
     ∙ ap (λ (z : List ℕ). zeros 48 ++ z)
     (zeros-add 16 108800
     ∙ ap (λ (z : List ℕ). zeros 16 ++ z)
-    (zeros-add 2304 106496
-    ∙ ap (λ (z : List ℕ). zeros 2304 ++ z)
-    (zeros-add 32768 73728
-    ∙ ap (λ (z : List ℕ). zeros 32768 ++ z)
-    (zeros-add 8192 65536
-    ∙ ap (λ (z : List ℕ). zeros 8192 ++ z) (sym (append-nil (zeros 65536))))))))
+    (zeros-add tableSize 106496
+    ∙ ap (λ (z : List ℕ). zeros tableSize ++ z)
+    (zeros-add eventsSize 73728
+    ∙ ap (λ (z : List ℕ). zeros eventsSize ++ z)
+    (zeros-add dataSize 65536
+    ∙ ap (λ (z : List ℕ). zeros dataSize ++ z) (sym (append-nil (zeros 65536))))))))
 
 -- the head: zeros, but the next id
-head-begun : (seed : ℕ) → sets (zeros 48) 24 (bytesLe 4 (firstId seed)) ≡ encFields wHead (listFresh seed) ++ zeros 12
+head-begun : (seed : ℕ) → sets (zeros 48) 24 (bytesLe 4 (firstId seed)) ≡ encFields wHead (listFresh seed) ++ zeros 14
 unfolding zeros encFields bytesLe
 head-begun seed = refl
 
@@ -57,10 +57,10 @@ eds-begun eds h =
 
 module _ (block eds : List ℕ) (seed mark : ℕ) (long : length block ≡ 192) (short : length eds ≤ 65535) (em : mark ≡ edsMark (le 4 block 4) eds) where
   abbrev head : List ℕ
-  head = encFields wHead (listFresh seed) ++ zeros 12
+  head = encFields wHead (listFresh seed) ++ zeros 14
 
-  pub begun : (s₀ s₁ s₂ s₃ s₄ : List ℕ) (id : ℕ) → id ≡ firstId seed → s₀ ≡ zeros 109056 → s₁ ≡ sets s₀ 0 block → s₂ ≡ put 4 s₁ 4 mark → s₃ ≡ put 4 s₂ 216 id
-      → s₄ ≡ sets s₃ 43520 eds → s₄ ≡ started block eds seed
+  pub begun : (s₀ s₁ s₂ s₃ s₄ : List ℕ) (id : ℕ) → id ≡ firstId seed → s₀ ≡ zeros stateSize → s₁ ≡ sets s₀ 0 block → s₂ ≡ put 4 s₁ 4 mark → s₃ ≡ put 4 s₂ nextIdAt id
+      → s₄ ≡ sets s₃ edsAt eds → s₄ ≡ started block eds seed
   unfolding put started regionOf start
   begun s₀ s₁ s₂ s₃ s₄ id ei e₀ e₁ e₂ e₃ e₄ =
       let r₁ : List (List ℕ) = set nothing 0 block in
@@ -83,10 +83,10 @@ module _ (block eds : List ℕ) (seed mark : ℕ) (long : length block ≡ 192) 
       ∙ ap (λ (x : List ℕ). joined (set nothing 0 x)) (sets-whole (zeros 192) block (length-zeros 192 ∙ sym long)) in
       let q₂ : s₂ ≡ joined r₂ = e₂ ∙ ap (λ (x : List ℕ). sets x 4 m) q₁ ∙ region-sets 0 4 m z₁ (omega arith) (omega arith) in
       let q₃ : s₃ ≡ joined r₃ =
-      e₃ ∙ ap₂ (λ (x : List ℕ) (n : ℕ). sets x 216 (bytesLe 4 n)) q₂ ei ∙ region-sets 1 24 i z₂ (omega arith) (omega arith) in
-      e₄ ∙ ap (λ (x : List ℕ). sets x 43520 eds) q₃
+      e₃ ∙ ap₂ (λ (x : List ℕ) (n : ℕ). sets x nextIdAt (bytesLe 4 n)) q₂ ei ∙ region-sets 1 24 i z₂ (omega arith) (omega arith) in
+      e₄ ∙ ap (λ (x : List ℕ). sets x edsAt eds) q₃
       ∙ region-sets 6 0 eds z₃ (omega arith) (omega arith)
-      ∙ (λ j. joined (sets block 4 (bytesLe 4 (em j)) ∷ head-begun seed j ∷ zeros 16 ∷ zeros 2304 ∷ zeros 32768 ∷ zeros 8192 ∷ eds-begun eds (omega arith) j ∷ []))
+      ∙ (λ j. joined (sets block 4 (bytesLe 4 (em j)) ∷ head-begun seed j ∷ zeros 16 ∷ zeros tableSize ∷ zeros eventsSize ∷ zeros dataSize ∷ eds-begun eds (omega arith) j ∷ []))
 
 -- every byte made zero
 pub all-zero : (s x : List ℕ) → x ≡ sets s 0 (replicate (length s) 0) → x ≡ zeros (length s)

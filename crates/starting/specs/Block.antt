@@ -13,7 +13,7 @@ use Rattle.tables.specs.Regions.{joined}
 use Rattle.rules.specs.State.{Setup}
 use Rattle.rules.specs.Answers.{Done, Refused, BadSetup, answerNumber}
 use Rattle.rules.specs.Setup.{within, setupOk, firstId}
-use Rattle.layout.specs.Places.{wHead}
+use Rattle.layout.specs.Places.{wHead, tableSize, eventsSize, dataSize, stateSize, shapesAt, assembliesOf}
 use Rattle.layout.specs.Setups.{setupFrom}
 
 -- the mark of the EDS in the state: 0 for no EDS, else its length and one
@@ -38,7 +38,7 @@ testsBlock block eds =
     eqb (length block) 192
     ∷ leb (le 4 block 4) 1
     ∷ (not (eqb (le 4 block 4) 0) || eqb (length eds) 0)
-    ∷ all (rows 5 kindGiven (le 1 block 0) (drop 110 block))
+    ∷ all (rows 5 kindGiven (assembliesOf block) (drop shapesAt block))
     ∷ setupOk (setupGiven block eds)
     ∷ []
 
@@ -50,16 +50,16 @@ zeros n = replicate n 0
 
 -- the fresh state: what was set up, the next id, the EDS, and zeros
 abbrev pub listFresh : ℕ → List ℕ
-listFresh seed = 0 ∷ 0 ∷ 0 ∷ firstId seed ∷ 0 ∷ 0 ∷ 0 ∷ 0 ∷ []
+listFresh seed = 0 ∷ 0 ∷ 0 ∷ firstId seed ∷ 0 ∷ 0 ∷ []
 
 abbrev pub regionsFresh : List ℕ → List ℕ → ℕ → List (List ℕ)
 regionsFresh block eds seed =
     regionOf block eds
-    ∷ (encFields wHead (listFresh seed) ++ zeros 12)
+    ∷ (encFields wHead (listFresh seed) ++ zeros 14)
     ∷ zeros 16
-    ∷ zeros 2304
-    ∷ zeros 32768
-    ∷ zeros 8192
+    ∷ zeros tableSize
+    ∷ zeros eventsSize
+    ∷ zeros dataSize
     ∷ (eds ++ zeros (65536 - length eds))
     ∷ []
 
@@ -69,6 +69,6 @@ started block eds seed = joined (regionsFresh block eds seed)
 -- SETUP on lent bytes: No. 1 for a state of another size, No. 2, or the fresh state
 unfoldable pub setupCall : List ℕ → List ℕ → List ℕ → ℕ → ℕ × List ℕ
 setupCall l block eds seed =
-    pick (eqb (length l) 109056)
+    pick (eqb (length l) stateSize)
     (pick (accepted block eds) (answerNumber Done, started block eds seed) (answerNumber (Refused BadSetup), l))
     (1, l)

@@ -10,32 +10,33 @@ use borrow.Author.Tests.{eqb-true, eqb-false, eq-eqb, ne-eqb}
 use Rattle.tables.specs.Ring.{by-cases}
 use Rattle.rules.specs.Answers.{answerNumber}
 use Rattle.rules.specs.Setup.{fresh}
+use Rattle.layout.specs.Places.{stateSize}
 use Rattle.image.specs.Image.{view, tested}
 use Rattle.starting.specs.Block.{setupGiven, accepted, started, setupCall}
 use Rattle.starting.specs.Fresh.{view-started, tested-started}
 
 module _ (l block eds : List ℕ) (seed : ℕ) where
-  pub other-size : (length l ≡ 109056 → ⊥) → (1, l) ≡ setupCall l block eds seed
+  pub other-size : (length l ≡ stateSize → ⊥) → (1, l) ≡ setupCall l block eds seed
   unfolding setupCall
-  other-size h = rw (ne-eqb (length l) 109056 h) refl
+  other-size h = rw (ne-eqb (length l) stateSize h) refl
 
-  module _ (h : length l ≡ 109056) where
+  module _ (h : length l ≡ stateSize) where
     pub bad-setup : accepted block eds ≡ false → (2, l) ≡ setupCall l block eds seed
     unfolding setupCall answerNumber
-    bad-setup e = rw (eq-eqb (length l) 109056 h, e) refl
+    bad-setup e = rw (eq-eqb (length l) stateSize h, e) refl
 
     pub set-up : accepted block eds ≡ true → (0, started block eds seed) ≡ setupCall l block eds seed
     unfolding setupCall answerNumber
-    set-up e = rw (eq-eqb (length l) 109056 h, e) refl
+    set-up e = rw (eq-eqb (length l) stateSize h, e) refl
 
   -- whoever is answered 0 has the rules' fresh state, and it passes the state test
   pub setup-fresh : setupCall l block eds seed .0 ≡ 0
       → (tested (setupCall l block eds seed .1) ≡ true) × (view (setupCall l block eds seed .1) ≡ fresh (setupGiven block eds) seed)
   setup-fresh z =
-      by-cases (eqb (length l) 109056)
+      by-cases (eqb (length l) stateSize)
       (λ a.
       by-cases (accepted block eds)
-      (λ e. let q = set-up (eqb-true (length l) 109056 a) e in
+      (λ e. let q = set-up (eqb-true (length l) stateSize a) e in
       (ap (λ (x : ℕ × List ℕ). tested (x .1)) (sym q) ∙ tested-started block eds seed e, ap (λ (x : ℕ × List ℕ). view (x .1)) (sym q) ∙ view-started block eds seed e))
-      (λ e. let q : 2 ≡ 0 = ap (λ (x : ℕ × List ℕ). x .0) (bad-setup (eqb-true (length l) 109056 a) e) ∙ z in absurd (omega arith)))
-      (λ a. let q : 1 ≡ 0 = ap (λ (x : ℕ × List ℕ). x .0) (other-size (eqb-false (length l) 109056 a)) ∙ z in absurd (omega arith))
+      (λ e. let q : 2 ≡ 0 = ap (λ (x : ℕ × List ℕ). x .0) (bad-setup (eqb-true (length l) stateSize a) e) ∙ z in absurd (omega arith)))
+      (λ a. let q : 1 ≡ 0 = ap (λ (x : ℕ × List ℕ). x .0) (other-size (eqb-false (length l) stateSize a)) ∙ z in absurd (omega arith))

@@ -1,5 +1,5 @@
 -- What an accepted setup leaves is the rules' fresh state, and passes the state test.
-use Prim.Native.Nat.{ℕ, zero, suc, _+_, _*_, _-_, _%_, _≤_, _<_}
+use Prim.Native.Nat.{ℕ, zero, suc, _+_, _*_, _-_, _/_, _%_, _≤_, _<_}
 use mathlib.Core.Bool.{Bool, true, false, not, _&&_, _||_}
 use mathlib.Core.List.{List, [], _∷_, _++_, append-assoc, map}
 use mathlib.Core.Path.{_≡_, refl, ap, ap₂, sym, _∙_}
@@ -7,7 +7,7 @@ use native.Mathlib.Omega.{arith}
 use lib.Dec.{eqb, leb}
 use lib.ListN.{length, getD, take, drop, replicate, length-append, length-replicate}
 use borrow.Author.Tests.{eqb-false}
-use Rattle.cells.specs.Numbers.{le, leOf}
+use Rattle.cells.specs.Numbers.{le}
 use Rattle.cells.specs.Records.{encFields, decFields, toBool, sum, dec-enc, length-encFields}
 use Rattle.cells.specs.Back.{all, all-cons, all-nil}
 use Rattle.tables.specs.Tables.{rows, length-rows}
@@ -16,10 +16,10 @@ use Rattle.tables.specs.Regions.{joined, Sized, none, one, start, length-joined
 use Rattle.rules.specs.Lists.{any}
 use Rattle.rules.specs.State.{Shape, Setup, noShape}
 use Rattle.rules.specs.Setup.{within, shapeOk, blank, firstId, fresh}
-use Rattle.layout.specs.Places.{widths, setupIn, wHead, marksIn, tableIn, ringIn, dataIn, edsIn}
-use Rattle.layout.specs.Setups.{decShape, identityOf, setupFrom, setupOf, goodShape, goodShapes, goodSetup}
-use Rattle.layout.specs.Rows.{decConn, goodRow}
-use Rattle.image.specs.Image.{contentOf, contentsOf, record32, asIs, view, goodMark, goodHead, tested}
+use Rattle.layout.specs.Places.{widths, setupIn, wHead, marksIn, tableIn, ringIn, dataIn, edsIn, tableSize, eventsSize, dataSize, stateSize, shapesAt, headUsed, assembliesOf, shapeSize}
+use Rattle.layout.specs.Setups.{decShape, identityOf, setupFrom, setupOf, goodShape, goodShapes, goodSetup, shapesOf}
+use Rattle.layout.specs.Rows.{connsIn}
+use Rattle.image.specs.Image.{contentOf, contentsOf, record32, asIs, view, goodHead, tested}
 use Rattle.image.specs.Fits.{size-short}
 use Rattle.image.specs.TestLaws.{setup-passes, head-passes, state-passes}
 use Rattle.starting.specs.Block.{regionOf, setupGiven, accepted, zeros, listFresh, regionsFresh, started}
@@ -65,20 +65,6 @@ contents-fresh (a ∷ ss) m d h g =
     ap₂ _∷_ e
     (ap₂ (contentsOf ss) (drop-zeros 1 m) (drop-zeros 512 d) ∙ contents-fresh ss (m - 1) (d - 512) (λ i. h (suc i)) (omega arith))
 
-one-zero : goodMark (zeros 1) ≡ true
-unfolding goodMark zeros le leOf
-one-zero = refl
-
--- every mark is zero
-marks-fresh : (n m : ℕ) → n ≤ m → all (rows 1 goodMark n (zeros m)) ≡ true
-unfolding rows goodMark
-marks-fresh zero m h = all-nil
-marks-fresh (suc n) zero h = absurd (omega arith)
-marks-fresh (suc n) (suc m) h =
-    all-cons (goodMark (take 1 (zeros (suc m)))) (rows 1 goodMark n (drop 1 (zeros (suc m))))
-    (ap goodMark (take-zeros 1 (suc m) (omega arith)) ∙ one-zero)
-    (ap (λ (z : List ℕ). all (rows 1 goodMark n z)) (drop-zeros 1 (suc m)) ∙ marks-fresh n (suc m - 1) (omega arith))
-
 -- shapes that the rules accept pass the state test
 shape-pair : (a b : Bool) → not (not a || b) ≡ true → (a ≡ true) × (not b ≡ true)
 shape-pair true b e = (refl, e)
@@ -92,13 +78,13 @@ good : (b : List ℕ) → shapeOk (decShape b) ≡ true → goodShape b ≡ true
 unfolding goodShape decShape
 good b h = small-of (within 1 65535 (le 2 b 0)) (leb (le 2 b 2) 512) h
 
-shapes-fresh : (n : ℕ) (x : List ℕ) → not (any (λ a. not (shapeOk a)) (rows 5 decShape n x)) ≡ true → all (rows 5 goodShape n x) ≡ true
+shapes-fresh : (n : ℕ) (x : List ℕ) → not (any (λ a. not (shapeOk a)) (rows shapeSize decShape n x)) ≡ true → all (rows shapeSize goodShape n x) ≡ true
 unfolding rows
 shapes-fresh zero x e = all-nil
 shapes-fresh (suc n) x e =
     let a : Shape = decShape (take 5 x) in
-    let p = shape-pair (shapeOk a) (any (λ b. not (shapeOk b)) (rows 5 decShape n (drop 5 x))) e in
-    all-cons (goodShape (take 5 x)) (rows 5 goodShape n (drop 5 x)) (good (take 5 x) (p .0)) (shapes-fresh n (drop 5 x) (p .1))
+    let p = shape-pair (shapeOk a) (any (λ b. not (shapeOk b)) (rows shapeSize decShape n (drop 5 x))) e in
+    all-cons (goodShape (take 5 x)) (rows shapeSize goodShape n (drop 5 x)) (good (take 5 x) (p .0)) (shapes-fresh n (drop 5 x) (p .1))
 
 first-odd : (seed : ℕ) → 0 < firstId seed
 first-odd seed =
@@ -117,12 +103,12 @@ module _ (block eds : List ℕ) (seed : ℕ) (ok : accepted block eds ≡ true) 
   abbrev r : List ℕ
   r = regionOf block eds
 
-  length-freshHead : length (encFields wHead (listFresh seed) ++ zeros 12) ≡ 48
+  length-freshHead : length (encFields wHead (listFresh seed) ++ zeros 14) ≡ 48
   unfolding sum
   length-freshHead =
-      let a : length (encFields wHead (listFresh seed)) ≡ 36 = length-encFields wHead (listFresh seed) tt in
-      let b = length-zeros 12 in
-      length-append (encFields wHead (listFresh seed)) (zeros 12) ∙ omega arith
+      let a : length (encFields wHead (listFresh seed)) ≡ headUsed = length-encFields wHead (listFresh seed) tt in
+      let b = length-zeros 14 in
+      length-append (encFields wHead (listFresh seed)) (zeros 14) ∙ omega arith
 
   length-edsRegion : length (eds ++ zeros (65536 - length eds)) ≡ 65536
   length-edsRegion =
@@ -131,9 +117,9 @@ module _ (block eds : List ℕ) (seed : ℕ) (ok : accepted block eds ≡ true) 
 
   sized : Sized widths (regionsFresh block eds seed)
   sized =
-      one (length-region block eds ok) (one length-freshHead (one (length-zeros 16) (one (length-zeros 2304) (one (length-zeros 32768) (one (length-zeros 8192) (one length-edsRegion none))))))
+      one (length-region block eds ok) (one length-freshHead (one (length-zeros 16) (one (length-zeros tableSize) (one (length-zeros eventsSize) (one (length-zeros dataSize) (one length-edsRegion none))))))
 
-  pub length-started : length (started block eds seed) ≡ 109056
+  pub length-started : length (started block eds seed) ≡ stateSize
   unfolding started sum
   length-started = length-joined sized
 
@@ -145,11 +131,11 @@ module _ (block eds : List ℕ) (seed : ℕ) (ok : accepted block eds ≡ true) 
   unfolding started start
   marks-at = region-at 2 sized (omega arith)
 
-  table-at : tableIn (started block eds seed) ≡ zeros 2304
+  table-at : tableIn (started block eds seed) ≡ zeros tableSize
   unfolding started start
   table-at = region-at 3 sized (omega arith)
 
-  data-at : dataIn (started block eds seed) ≡ zeros 8192
+  data-at : dataIn (started block eds seed) ≡ zeros dataSize
   unfolding started start
   data-at = region-at 5 sized (omega arith)
 
@@ -161,9 +147,9 @@ module _ (block eds : List ℕ) (seed : ℕ) (ok : accepted block eds ≡ true) 
   unfolding started joined
   head-at =
       let e : List ℕ = encFields wHead (listFresh seed) in
-      let q : List ℕ = zeros 16 ++ (zeros 2304 ++ (zeros 32768 ++ (zeros 8192 ++ ((eds ++ zeros (65536 - length eds)) ++ [])))) in
-      ap (λ (z : List ℕ). decFields wHead (r ++ z) 192) (append-assoc e (zeros 12) q)
-      ∙ dec-enc wHead (listFresh seed) tt r (zeros 12 ++ q) 192 (length-region block eds ok)
+      let q : List ℕ = zeros 16 ++ (zeros tableSize ++ (zeros eventsSize ++ (zeros dataSize ++ ((eds ++ zeros (65536 - length eds)) ++ [])))) in
+      ap (λ (z : List ℕ). decFields wHead (r ++ z) 192) (append-assoc e (zeros 14) q)
+      ∙ dec-enc wHead (listFresh seed) tt r (zeros 14 ++ q) 192 (length-region block eds ok)
 
   number : (k : ℕ) → getD (decFields wHead (started block eds seed) 192) k 0 ≡ getD (listFresh seed) k 0
   number k = ap (λ (vs : List ℕ). getD vs k 0) head-at
@@ -184,18 +170,18 @@ module _ (block eds : List ℕ) (seed : ℕ) (ok : accepted block eds ≡ true) 
         mac = take 6 (drop 40 r);
         eds = eds-same block eds ok (zeros (65536 - length eds)) i;
         edsName = take (le 1 r 3) (drop 78 r);
-        assemblies = rows 5 decShape (le 1 r 0) (drop 110 r);
+        assemblies = shapesOf r;
       })
 
   shapes-good : goodShapes (regionOf block eds) ≡ true
   unfolding goodShapes
-  shapes-good = shapes-fresh (le 1 r 0) (drop 110 r) (shapes-ok block eds ok)
+  shapes-good = shapes-fresh (assembliesOf r) (drop shapesAt r) (shapes-ok block eds ok)
 
-  few-bytes : length (setupOf (started block eds seed) .assemblies) * 512 ≤ 8192
+  few-bytes : length (setupOf (started block eds seed) .assemblies) * 512 ≤ dataSize
   unfolding setupGiven
   few-bytes =
       let e : length (setupOf s .assemblies) ≡ length (setupGiven block eds .assemblies) = ap (λ (z : Setup). length (z .assemblies)) setup-started in
-      let n = length-rows 5 decShape (le 1 r 0) (drop 110 r) in
+      let n = length-rows shapeSize decShape (assembliesOf r) (drop shapesAt r) in
       let f = few block eds ok in
       omega arith
 
@@ -205,15 +191,15 @@ module _ (block eds : List ℕ) (seed : ℕ) (ok : accepted block eds ≡ true) 
       let u : Setup = setupOf s in
       let c : contentsOf (setupOf s .assemblies) (marksIn s) (dataIn s) ≡ map blank (setupGiven block eds .assemblies) =
       ap₂ (contentsOf (setupOf s .assemblies)) marks-at data-at
-      ∙ contents-fresh (setupOf s .assemblies) 16 8192 (size-short s (ap goodShapes setup-at ∙ shapes-good)) few-bytes
+      ∙ contents-fresh (setupOf s .assemblies) 16 dataSize (size-short s (ap goodShapes setup-at ∙ shapes-good)) few-bytes
       ∙ ap (λ (z : Setup). map blank (z .assemblies)) setup-started in
       λ i.
       record {
         setup = setup-started i;
         contents = c i;
-        table = rows 70 decConn (number 6 i) (tableIn s);
-        events = record { gone = number 4 i; waiting = ringOf 32 record32 asIs (number 4 i) (number 5 i) (ringIn s) };
-        fault = toBool (number 7 i);
+        table = connsIn (number 5 i) (tableIn s);
+        events = record { gone = number 4 i / 2 % 1024; waiting = ringOf 32 record32 asIs (number 4 i / 2 % 1024) (number 4 i / 2048) (ringIn s) };
+        fault = toBool (number 4 i % 2);
         nextId = number 3 i;
         counters = record { produced = number 0 i; late = number 1 i; maxLate = number 2 i };
       }
@@ -225,10 +211,5 @@ module _ (block eds : List ℕ) (seed : ℕ) (ok : accepted block eds ≡ true) 
       ap goodSetup setup-at
       ∙ sym (setup-passes r (few block eds ok) (some-transfer block eds ok) (short-name block eds ok) (short-eds-name block eds ok) (small-mark block eds ok)) in
       let h : goodHead s ≡ true =
-      sym (head-passes s (rw (number 3) (first-odd seed)) (rw (number 4) (omega arith)) (rw (number 5) (omega arith)) (rw (number 6) (omega arith)) (rw (number 7) (omega arith))) in
-      let m : all (rows 1 goodMark (le 1 (setupIn s) 0) (marksIn s)) ≡ true =
-      ap₂ (λ (n : ℕ) (z : List ℕ). all (rows 1 goodMark n z)) (ap (λ (z : List ℕ). le 1 z 0) setup-at) marks-at
-      ∙ marks-fresh (le 1 r 0) 16 (few block eds ok) in
-      let c : all (rows 70 goodRow (le 2 s 224) (tableIn s)) ≡ true =
-      ap (λ (n : ℕ). all (rows 70 goodRow n (tableIn s))) (number 6) ∙ all-nil in
-      sym (state-passes s length-started a h (ap goodShapes setup-at ∙ shapes-good) m c)
+      sym (head-passes s (rw (number 3) (first-odd seed)) (rw (number 4) (omega arith)) (rw (number 5) (omega arith))) in
+      sym (state-passes s length-started a h (ap goodShapes setup-at ∙ shapes-good))

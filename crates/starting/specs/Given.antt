@@ -16,7 +16,8 @@ use Rattle.tables.specs.Ring.{by-cases}
 use Rattle.rules.specs.Lists.{any}
 use Rattle.rules.specs.State.{Shape}
 use Rattle.rules.specs.Setup.{shapeOk, distinct, assembliesOk, nameOk, edsOk, transferOk, setupOk}
-use Rattle.layout.specs.Setups.{decShape, edsOf}
+use Rattle.layout.specs.Setups.{decShape, edsOf, shapesOf}
+use Rattle.layout.specs.Places.{shapesAt, assembliesOf, shapeSize}
 use Rattle.starting.specs.Block.{edsMark, kindGiven, regionOf, setupGiven, testsBlock, accepted}
 
 -- ---- a chain of tests, one by one
@@ -93,7 +94,7 @@ module _ (block eds : List ℕ) (ok : accepted block eds ≡ true) where
   unfolding accepted
   no-bytes = all-at (testsBlock block eds) ok 2
 
-  pub kinds-ok : all (rows 5 kindGiven (le 1 block 0) (drop 110 block)) ≡ true
+  pub kinds-ok : all (rows 5 kindGiven (assembliesOf block) (drop shapesAt block)) ≡ true
   unfolding accepted
   kinds-ok = all-at (testsBlock block eds) ok 3
 
@@ -111,21 +112,21 @@ module _ (block eds : List ℕ) (ok : accepted block eds ≡ true) where
       five-of (assembliesOk (setupGiven block eds .assemblies)) (nameOk (setupGiven block eds .identity .name)) (nameOk (setupGiven block eds .edsName))
       (edsOk (setupGiven block eds .eds)) (transferOk (setupGiven block eds .transferLimit)) sizes-ok
 
-  assemblies-chain : (leb (length (rows 5 decShape (le 1 (regionOf block eds) 0) (drop 110 (regionOf block eds)))) 16 ≡ true)
-      × (not (any (λ a. not (shapeOk a)) (rows 5 decShape (le 1 (regionOf block eds) 0) (drop 110 (regionOf block eds)))) ≡ true)
+  assemblies-chain : (leb (length (shapesOf (regionOf block eds))) 16 ≡ true)
+      × (not (any (λ a. not (shapeOk a)) (shapesOf (regionOf block eds))) ≡ true)
   unfolding setupGiven
   assemblies-chain =
-      let xs : List Shape = rows 5 decShape (le 1 r 0) (drop 110 r) in
+      let xs : List Shape = shapesOf r in
       two-of (leb (length xs) 16) (not (any (λ a. not (shapeOk a)) xs)) (distinct (map (λ a. a .instance) xs)) (chain .one)
 
   pub few : le 1 (regionOf block eds) 0 ≤ 16
   few =
-      let xs : List Shape = rows 5 decShape (le 1 r 0) (drop 110 r) in
-      let n = length-rows 5 decShape (le 1 r 0) (drop 110 r) in
+      let xs : List Shape = shapesOf r in
+      let n = length-rows shapeSize decShape (assembliesOf r) (drop shapesAt r) in
       let h : length xs ≤ 16 = leb-true (length xs) 16 (assemblies-chain .0) in
       omega arith
 
-  pub shapes-ok : not (any (λ a. not (shapeOk a)) (rows 5 decShape (le 1 (regionOf block eds) 0) (drop 110 (regionOf block eds)))) ≡ true
+  pub shapes-ok : not (any (λ a. not (shapeOk a)) (shapesOf (regionOf block eds))) ≡ true
   shapes-ok = assemblies-chain .1
 
   -- a name of at most 32 bytes that are all there

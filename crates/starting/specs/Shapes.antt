@@ -16,6 +16,7 @@ use Rattle.rules.specs.State.{Shape, noShape}
 use Rattle.rules.specs.Setup.{shapeOk, distinct}
 use Rattle.layout.specs.Setups.{decShape, shapeIn}
 use Rattle.layout.specs.RowLaws.{in-row}
+use Rattle.layout.specs.Places.{shapesAt, shapeSize}
 use Rattle.starting.specs.Block.{kindGiven}
 
 -- a shape of a kind that there is, within the rules' sizes
@@ -24,36 +25,36 @@ shapeGiven b = kindGiven b && shapeOk (decShape b)
 
 -- the instances, in the block's order
 unfoldable pub instancesIn : ℕ → List ℕ → List ℕ
-instancesIn n r = map (λ a. a .instance) (rows 5 decShape n (drop 110 r))
+instancesIn n r = map (λ a. a .instance) (rows shapeSize decShape n (drop shapesAt r))
 
 -- ---- one shape
 
 module _ (r : List ℕ) (i : ℕ) where
   abbrev b : List ℕ
-  b = take 5 (drop (i * 5) (drop 110 r))
+  b = take shapeSize (drop (i * shapeSize) (drop shapesAt r))
 
-  kind-in : le 1 (take 5 (drop (i * 5) (drop 110 r))) 4 ≡ le 1 r (i * 5 + 114)
-  kind-in = in-row 1 5 4 (drop 110 r) (i * 5) (omega arith) ∙ le-drop 1 r 110 (i * 5 + 4) ∙ ap (le 1 r) (omega arith)
+  kind-in : le 1 (take shapeSize (drop (i * shapeSize) (drop shapesAt r))) 4 ≡ le 1 r (i * 5 + 114)
+  kind-in = in-row 1 5 4 (drop shapesAt r) (i * 5) (omega arith) ∙ le-drop 1 r shapesAt (i * 5 + 4) ∙ ap (le 1 r) (omega arith)
 
-  pub kind-low : le 1 r (i * 5 + 114) < 1 → false ≡ shapeGiven (take 5 (drop (i * 5) (drop 110 r)))
+  pub kind-low : le 1 r (i * 5 + 114) < 1 → false ≡ shapeGiven (take shapeSize (drop (i * shapeSize) (drop shapesAt r)))
   unfolding shapeGiven kindGiven
   kind-low h = let e = kind-in in simp (lt-leb 1 (le 1 b 4) (omega arith))
 
-  pub kind-high : 1 ≤ le 1 r (i * 5 + 114) → 3 < le 1 r (i * 5 + 114) → false ≡ shapeGiven (take 5 (drop (i * 5) (drop 110 r)))
+  pub kind-high : 1 ≤ le 1 r (i * 5 + 114) → 3 < le 1 r (i * 5 + 114) → false ≡ shapeGiven (take shapeSize (drop (i * shapeSize) (drop shapesAt r)))
   unfolding shapeGiven kindGiven
   kind-high g h = let e = kind-in in simp (le-leb 1 (le 1 b 4) (omega arith), lt-leb (le 1 b 4) 3 (omega arith))
 
   module _ (g : 1 ≤ le 1 r (i * 5 + 114)) (h : le 1 r (i * 5 + 114) ≤ 3) where
-    kind-good : kindGiven (take 5 (drop (i * 5) (drop 110 r))) ≡ true
+    kind-good : kindGiven (take shapeSize (drop (i * shapeSize) (drop shapesAt r))) ≡ true
     unfolding kindGiven
     kind-good = let e = kind-in in simp (le-leb 1 (le 1 b 4) (omega arith), le-leb (le 1 b 4) 3 (omega arith))
 
-    pub no-instance : (n : ℕ) → n ≡ shapeIn r i .instance → n < 1 → false ≡ shapeGiven (take 5 (drop (i * 5) (drop 110 r)))
+    pub no-instance : (n : ℕ) → n ≡ shapeIn r i .instance → n < 1 → false ≡ shapeGiven (take shapeSize (drop (i * shapeSize) (drop shapesAt r)))
     unfolding shapeGiven
     no-instance n e p = simp (kind-good, lt-leb 1 (shapeIn r i .instance) (omega arith))
 
     pub shape-rest : (n m : ℕ) → n ≡ shapeIn r i .instance → m ≡ shapeIn r i .size → 1 ≤ n → n ≤ 65535
-        → leb m 512 ≡ shapeGiven (take 5 (drop (i * 5) (drop 110 r)))
+        → leb m 512 ≡ shapeGiven (take shapeSize (drop (i * shapeSize) (drop shapesAt r)))
     unfolding shapeGiven
     shape-rest n m e f p q =
         ap (λ (k : ℕ). leb k 512) f
@@ -64,11 +65,11 @@ module _ (r : List ℕ) (i : ℕ) where
 module _ (n : ℕ) (r : List ℕ) where
   length-instances : length (instancesIn n r) ≡ n
   unfolding instancesIn
-  length-instances = length-map (rows 5 decShape n (drop 110 r)) (λ a. a .instance) ∙ length-rows 5 decShape n (drop 110 r)
+  length-instances = length-map (rows shapeSize decShape n (drop shapesAt r)) (λ a. a .instance) ∙ length-rows shapeSize decShape n (drop shapesAt r)
 
   instance-at : (i : ℕ) → i < n → getD (instancesIn n r) i 0 ≡ shapeIn r i .instance
   unfolding instancesIn
-  instance-at i h = List·getD-map (λ a. a .instance) (rows 5 decShape n (drop 110 r)) i noShape ∙ ap (λ (a : Shape). a .instance) (row-at 5 decShape n (drop 110 r) i noShape h)
+  instance-at i h = List·getD-map (λ a. a .instance) (rows shapeSize decShape n (drop shapesAt r)) i noShape ∙ ap (λ (a : Shape). a .instance) (row-at shapeSize decShape n (drop shapesAt r) i noShape h)
 
   here : (i : ℕ) → i < n → drop i (instancesIn n r) ≡ shapeIn r i .instance ∷ drop (i + 1) (instancesIn n r)
   here i h =

@@ -8,6 +8,7 @@ ghost use Prim.Native.Nat.{ℕ, _+_, _≤_};
 ghost use lib.Dec.{eqb};
 ghost use lib.ListN.{length};
 ghost use Rattle.rules.specs.Setup.{firstId};
+ghost use Rattle.layout.specs.Places.{stateSize};
 ghost use Rattle.starting.specs.Block.{started};
 
 // The EDS mark: 0 for no EDS, else its length and one.
@@ -33,15 +34,15 @@ fn first_id(seed: u32) -> u32
 
 // The fresh state, written over whatever the bytes were.
 pub fn begin(s: &mut [u8], block: &[u8], eds: &[u8], seed: u32)
-    requires { ⌜ (length (now s) ≡ 109056) × (length (now block) ≡ 192) × (length (now eds) ≤ 65535) ⌝ }
+    requires { ⌜ (length (now s) ≡ stateSize) × (length (now block) ≡ 192) × (length (now eds) ≤ 65535) ⌝ }
     ensures { λ _. ⌜ now (s .exit) ≡ started (now (block .entry)) (now (eds .entry)) seed ⌝ }
 {
     let mark = eds_mark(cells::u32_at(block, 4), eds.len());
     let id = first_id(seed);
     let n = s.len();
     cells::zero(s, 0, n);
-    cells::copy_in(s, 0, block);
+    copies::copy_in(s, 0, block);
     cells::put_u32(s, 4, mark);
-    cells::put_u32(s, 216, id);
-    cells::copy_in(s, 43520, eds);
+    cells::put_u32(s, layout::NEXT_ID, id);
+    copies::copy_in(s, layout::EDS, eds);
 }

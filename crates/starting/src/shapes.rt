@@ -8,11 +8,12 @@ ghost use Rattle.tables.specs.Tables.{rows};
 ghost use Rattle.rules.specs.Lists.{any};
 ghost use Rattle.rules.specs.Setup.{distinct};
 ghost use Rattle.layout.specs.Setups.{shapeIn};
+ghost use Rattle.layout.specs.Places.{setupSize, shapesAt, shapeSize};
 ghost use Rattle.starting.specs.Shapes.{shapeGiven, instancesIn};
 
 fn shape_given(r: &[u8], i: usize) -> bool
-    requires { ⌜ (i < 16) × (192 ≤ length (now r)) ⌝ }
-    ensures { λ x. ⌜ x ≡ shapeGiven (take 5 (drop (i * 5) (drop 110 (now (r .entry))))) ⌝ }
+    requires { ⌜ (i < 16) × (setupSize ≤ length (now r)) ⌝ }
+    ensures { λ x. ⌜ x ≡ shapeGiven (take shapeSize (drop (i * shapeSize) (drop shapesAt (now (r .entry))))) ⌝ }
 {
     let k = cells::u8_at(r, i * 5 + 114);
     if k < 1 {
@@ -29,8 +30,8 @@ fn shape_given(r: &[u8], i: usize) -> bool
 }
 
 pub fn shapes_given(r: &[u8], n: usize) -> bool
-    requires { ⌜ (n ≤ 16) × (192 ≤ length (now r)) ⌝ }
-    ensures { λ x. ⌜ x ≡ all (rows 5 shapeGiven n (drop 110 (now (r .entry)))) ⌝ }
+    requires { ⌜ (n ≤ 16) × (setupSize ≤ length (now r)) ⌝ }
+    ensures { λ x. ⌜ x ≡ all (rows 5 shapeGiven n (drop shapesAt (now (r .entry)))) ⌝ }
 {
     let mut i = 0;
     while i < n {
@@ -44,7 +45,7 @@ pub fn shapes_given(r: &[u8], n: usize) -> bool
 
 // Whether the instance x stands at a place from j on.
 fn again(r: &[u8], x: u16, j: usize, n: usize) -> bool
-    requires { ⌜ (n ≤ 16) × (192 ≤ length (now r)) ⌝ }
+    requires { ⌜ (n ≤ 16) × (setupSize ≤ length (now r)) ⌝ }
     ensures { λ y. ⌜ y ≡ any (eqb x) (drop j (instancesIn n (now (r .entry)))) ⌝ }
 {
     let mut i = j;
@@ -58,7 +59,7 @@ fn again(r: &[u8], x: u16, j: usize, n: usize) -> bool
 }
 
 pub fn once_each(r: &[u8], n: usize) -> bool
-    requires { ⌜ (n ≤ 16) × (192 ≤ length (now r)) ⌝ }
+    requires { ⌜ (n ≤ 16) × (setupSize ≤ length (now r)) ⌝ }
     ensures { λ y. ⌜ y ≡ distinct (instancesIn n (now (r .entry))) ⌝ }
 {
     let mut i = 0;

@@ -1,14 +1,13 @@
 -- The identity status as code computes it: what a row says, what a place says, and the ways through.
-use Prim.Native.Nat.{ℕ, _+_, _*_, _%_, _^_, _≤_, _<_}
-use mathlib.Core.Bool.{Bool, true, false, cond, not, _&&_}
+use Prim.Native.Nat.{ℕ, _+_, _*_, _^_, _≤_, _<_}
+use mathlib.Core.Bool.{Bool, true, false, cond, _&&_}
 use mathlib.Core.List.{List}
 use mathlib.Core.Path.{_≡_, refl, ap, sym, _∙_}
 use native.Mathlib.Omega.{arith}
 use lib.Dec.{eqb}
 use lib.ListN.{length, List·getD-eq-default}
 use borrow.Author.Tests.{eq-eqb, ne-eqb}
-use Rattle.cells.specs.Numbers.{le}
-use Rattle.cells.specs.Records.{toBool, ofBool, to-of}
+use Rattle.cells.specs.Records.{toBool, ofBool}
 use Rattle.cells.specs.Back.{Bytes}
 use Rattle.tables.specs.Tables.{rows, length-rows}
 use Rattle.rules.specs.Lists.{any}
@@ -16,8 +15,9 @@ use Rattle.rules.specs.declared.Fixed.{Fixed}
 use Rattle.rules.specs.declared.Conn.{Conn}
 use Rattle.rules.specs.State.{State, Content, noContent, isOwner, contentAt}
 use Rattle.rules.specs.Objects.{owned, running, extendedStatus, identityStatus}
-use Rattle.layout.specs.Places.{tableIn}
-use Rattle.layout.specs.Rows.{decConn}
+use Rattle.layout.specs.Places.{tableIn, rowSize, connectionsOf, faultOf, markAt, assembliesOf}
+use Rattle.layout.specs.Bits.{runIn}
+use Rattle.layout.specs.Rows.{decConn, connsIn}
 use Rattle.image.specs.Image.{view, tested}
 use Rattle.image.specs.Holds.{holds-tested, assemblies-held}
 use Rattle.application.specs.Assemblies.{run-is}
@@ -31,22 +31,22 @@ runsIn st c = isOwner (c .fixed .kind) && contentAt st (c .fixed .output) .run
 -- ---- the mark of the assembly at a place
 
 module _ (s : List ℕ) (t : tested s ≡ true) (b : Bytes s) (i : ℕ) where
-  pub run-past : le 1 s 0 ≤ i → false ≡ contentAt (view s) i .run
+  pub run-past : assembliesOf s ≤ i → false ≡ contentAt (view s) i .run
   run-past h =
       let e = assemblies-held s (view s) s (holds-tested s t b) in
       ap (λ (x : Content). x .run) (sym (List·getD-eq-default (view s .contents) noContent {n = i} (omega arith)))
 
-  pub run-at : i < le 1 s 0 → toBool (le 1 s (240 + i) % 2) ≡ contentAt (view s) i .run
-  run-at h = ap toBool (run-is s t b i h) ∙ to-of (contentAt (view s) i .run)
+  pub run-at : i < assembliesOf s → runIn (markAt s i) ≡ contentAt (view s) i .run
+  run-at h = run-is s t b i h
 
 -- ---- the extended device status
 
 module _ (s : List ℕ) where
-  pub table-long : length (view s .table) ≡ le 2 s 224
+  pub table-long : length (view s .table) ≡ connectionsOf s
   unfolding view
-  table-long = length-rows 70 decConn (le 2 s 224) (tableIn s)
+  table-long = length-rows rowSize decConn (connectionsOf s) (tableIn s)
 
-  fault-is : view s .fault ≡ toBool (le 2 s 226)
+  fault-is : view s .fault ≡ toBool (faultOf s)
   unfolding view
   fault-is = refl
 
@@ -55,23 +55,23 @@ module _ (s : List ℕ) where
   unfolding extendedStatus
   extended a b c p q r = λ i. cond (p i) 2 (cond (q i) 3 (cond (r i) 6 7))
 
-  pub status-fault : (le 2 s 226 ≡ 0 → ⊥) → 2 ≡ extendedStatus (view s)
-  status-fault h = sym (extended true _ _ (fault-is ∙ ap not (ne-eqb (le 2 s 226) 0 h)) refl refl)
+  pub status-fault : (f : Bool) → f ≡ toBool (faultOf s) → f ≡ true → 2 ≡ extendedStatus (view s)
+  status-fault f ef h = sym (extended true _ _ (fault-is ∙ sym ef ∙ h) refl refl)
 
-  module _ (h : le 2 s 226 ≡ 0) where
-    pub status-none : le 2 s 224 ≡ 0 → 3 ≡ extendedStatus (view s)
-    status-none g = sym (extended false true _ (fault-is ∙ ap not (eq-eqb (le 2 s 226) 0 h)) (eq-eqb (length (view s .table)) 0 (table-long ∙ g)) refl)
+  module _ (f : Bool) (ef : f ≡ toBool (faultOf s)) (h : f ≡ false) where
+    pub status-none : connectionsOf s ≡ 0 → 3 ≡ extendedStatus (view s)
+    status-none g = sym (extended false true _ (fault-is ∙ sym ef ∙ h) (eq-eqb (length (view s .table)) 0 (table-long ∙ g)) refl)
 
-    module _ (g : le 2 s 224 ≡ 0 → ⊥) (x : Bool) (e : x ≡ running (view s)) where
+    module _ (g : connectionsOf s ≡ 0 → ⊥) (x : Bool) (e : x ≡ running (view s)) where
       rest : (c : Bool) → x ≡ c → extendedStatus (view s) ≡ cond c 6 7
-      rest c f =
-          extended false false c (fault-is ∙ ap not (eq-eqb (le 2 s 226) 0 h)) (ne-eqb (length (view s .table)) 0 (λ k. g (sym table-long ∙ k))) (sym e ∙ f)
+      rest c y =
+          extended false false c (fault-is ∙ sym ef ∙ h) (ne-eqb (length (view s .table)) 0 (λ k. g (sym table-long ∙ k))) (sym e ∙ y)
 
       pub status-run : x ≡ true → 6 ≡ extendedStatus (view s)
-      status-run f = sym (rest true f)
+      status-run y = sym (rest true y)
 
       pub status-idle : x ≡ false → 7 ≡ extendedStatus (view s)
-      status-idle f = sym (rest false f)
+      status-idle y = sym (rest false y)
 
   -- ---- the whole
 
@@ -87,11 +87,11 @@ module _ (s : List ℕ) where
 -- ---- the walks along the table
 
 module _ (s : List ℕ) where
-  pub owned-rows : owned (view s) ≡ any ownerIn (rows 70 decConn (le 2 s 224) (tableIn s))
+  pub owned-rows : owned (view s) ≡ any ownerIn (connsIn (connectionsOf s) (tableIn s))
   unfolding owned view
   owned-rows = refl
 
-  pub running-rows : running (view s) ≡ any (runsIn (view s)) (rows 70 decConn (le 2 s 224) (tableIn s))
+  pub running-rows : running (view s) ≡ any (runsIn (view s)) (connsIn (connectionsOf s) (tableIn s))
   unfolding running view
   running-rows = refl
 

@@ -2,20 +2,18 @@
 ghost use mathlib.Core.Path.{_≡_};
 ghost use Prim.Native.Nat.{ℕ, _≤_, _<_};
 ghost use lib.ListN.{length};
-ghost use Rattle.cells.specs.Numbers.{le};
-ghost use Rattle.tables.specs.Tables.{rows};
 ghost use Rattle.rules.specs.Lists.{any};
 ghost use Rattle.rules.specs.State.{contentAt};
 ghost use Rattle.rules.specs.Objects.{owned, running, extendedStatus, identityStatus};
-ghost use Rattle.layout.specs.Rows.{rowAt, decConn};
-ghost use Rattle.layout.specs.Places.{tableIn};
+ghost use Rattle.layout.specs.Rows.{connAt, connsIn};
+ghost use Rattle.layout.specs.Places.{tableIn, tableSize, connectionsOf};
 ghost use Rattle.image.specs.Image.{view};
 ghost use Rattle.application.specs.Outcomes.{Passed};
 ghost use Rattle.status.specs.Status.{ownerIn, runsIn};
 
 fn owner_at(r: &[u8], i: usize) -> bool
-    requires { ⌜ (i < 32) × (2304 ≤ length (now r)) ⌝ }
-    ensures { λ x. ⌜ x ≡ ownerIn (decConn (rowAt (now (r .entry)) i)) ⌝ }
+    requires { ⌜ (i < 32) × (tableSize ≤ length (now r)) ⌝ }
+    ensures { λ x. ⌜ x ≡ ownerIn (connAt (now (r .entry)) i) ⌝ }
 {
     let f = layout::fixed_at(r, i);
     let k = f.kind;
@@ -23,8 +21,8 @@ fn owner_at(r: &[u8], i: usize) -> bool
 }
 
 fn any_owner(r: &[u8], n: usize) -> bool
-    requires { ⌜ (n ≤ 32) × (2304 ≤ length (now r)) ⌝ }
-    ensures { λ x. ⌜ x ≡ any ownerIn (rows 70 decConn n (now (r .entry))) ⌝ }
+    requires { ⌜ (n ≤ 32) × (tableSize ≤ length (now r)) ⌝ }
+    ensures { λ x. ⌜ x ≡ any ownerIn (connsIn n (now (r .entry))) ⌝ }
 {
     let mut i = 0;
     while i < n {
@@ -40,8 +38,8 @@ pub fn is_owned(s: &[u8]) -> bool
     requires { ⌜ Passed (now s) ⌝ }
     ensures { λ x. ⌜ x ≡ owned (view (now (s .entry))) ⌝ }
 {
-    let n = cells::u16_at(s, 224) as usize;
-    any_owner(&s[256..2560], n)
+    let n = cells::u16_at(s, layout::CONNECTIONS) as usize;
+    any_owner(&s[layout::TABLE..layout::EVENTS], n)
 }
 
 // Whether the assembly at that place is in run; a place past the list is not.
@@ -53,14 +51,14 @@ fn runs(s: &[u8], i: usize) -> bool
     if i >= n {
         return false;
     }
-    cells::u8_at(s, 240 + i) % 2 != 0
+    layout::runs(s, i)
 }
 
 fn running_at(s: &[u8], i: usize) -> bool
-    requires { ⌜ Passed (now s) × (i < le 2 (now s) 224) ⌝ }
-    ensures { λ x. ⌜ x ≡ runsIn (view (now (s .entry))) (decConn (rowAt (tableIn (now (s .entry))) i)) ⌝ }
+    requires { ⌜ Passed (now s) × (i < connectionsOf (now s)) ⌝ }
+    ensures { λ x. ⌜ x ≡ runsIn (view (now (s .entry))) (connAt (tableIn (now (s .entry))) i) ⌝ }
 {
-    let f = layout::fixed_at(&s[256..2560], i);
+    let f = layout::fixed_at(&s[layout::TABLE..layout::EVENTS], i);
     let k = f.kind;
     if !layout::is_owner(k) {
         return false;
@@ -72,7 +70,7 @@ pub fn is_running(s: &[u8]) -> bool
     requires { ⌜ Passed (now s) ⌝ }
     ensures { λ x. ⌜ x ≡ running (view (now (s .entry))) ⌝ }
 {
-    let n = cells::u16_at(s, 224) as usize;
+    let n = cells::u16_at(s, layout::CONNECTIONS) as usize;
     let mut i = 0;
     while i < n {
         if running_at(s, i) {
@@ -88,10 +86,10 @@ pub fn extended_status(s: &[u8]) -> u16
     requires { ⌜ Passed (now s) ⌝ }
     ensures { λ x. ⌜ (x ≡ extendedStatus (view (now (s .entry)))) × (x < 16) ⌝ }
 {
-    if cells::u16_at(s, 226) != 0 {
+    if layout::faulty(s) {
         return 2;
     }
-    if cells::u16_at(s, 224) == 0 {
+    if cells::u16_at(s, layout::CONNECTIONS) == 0 {
         return 3;
     }
     if is_running(s) {

@@ -1,13 +1,11 @@
 -- The stream that an open joins, and check 12: one law for each way through.
-use Prim.Native.Nat.{ℕ, zero, suc, _+_, _*_, _/_, _%_, _≤_, _<_}
+use Prim.Native.Nat.{ℕ}
 use mathlib.Core.Bool.{Bool, true, false, cond, not, _&&_, _||_}
 use mathlib.Core.List.{List}
 use mathlib.Core.Option.{Option, none, some}
 use mathlib.Core.Path.{_≡_, refl, ap, sym, _∙_}
-use native.Mathlib.Omega.{arith}
 use lib.Dec.{eqb}
 use borrow.Author.Tests.{eq-eqb, ne-eqb}
-use Rattle.cells.specs.Numbers.{le}
 use Rattle.wire_opens.specs.declared.ForwardOpen.{ForwardOpen}
 use Rattle.rules.specs.declared.Fixed.{Fixed}
 use Rattle.rules.specs.declared.Kind.{Kind}
@@ -18,8 +16,6 @@ use Rattle.rules.specs.declared.Stream.the-variants.{Own}
 use Rattle.rules.specs.Lists.{find}
 use Rattle.rules.specs.State.{isListener}
 use Rattle.rules.specs.Checks.{Roles, must, asksMulticast, carries, streamFound, streamOf, joins, streamCheck}
-use Rattle.layout.specs.Rows.{rowAt, toKind, decFixed}
-use Rattle.layout.specs.RowLaws.{in-row}
 use Rattle.checking.specs.SaysLaws.{must-yes, must-no}
 use Rattle.streams.specs.Owning.{rolesWith}
 
@@ -29,46 +25,31 @@ carriesFor listens input rpi f = f .multicast && not (isListener (f .kind)) && e
 
 -- ---- one row
 
-listener-last : (n : ℕ) → n ≤ 1 → not (isListener (toKind n)) ≡ true
-listener-last zero h = refl
-listener-last (suc zero) h = refl
-listener-last (suc (suc n)) h = absurd (omega arith)
-
-listener-is : (n : ℕ) → 1 < n → not (isListener (toKind n)) ≡ false
-listener-is zero h = absurd (omega arith)
-listener-is (suc zero) h = absurd (omega arith)
-listener-is (suc (suc n)) h = let a = ne-eqb (suc (suc n)) 0 (λ e. omega arith) in let b = ne-eqb (suc (suc n)) 1 (λ e. omega arith) in rw (a, b)
-
-module _ (r : List ℕ) (i : ℕ) (listens : Bool) (input rpi flags found torpi : ℕ)
-    (ef : flags ≡ le 1 r (i * 70 + 28)) (ei : found ≡ le 1 r (i * 70 + 29)) (et : torpi ≡ le 4 r (i * 70 + 49)) where
+module _ (f : Fixed) (listens : Bool) (input rpi found torpi : ℕ) (many listener : Bool)
+    (em : many ≡ f .multicast) (el : listener ≡ isListener (f .kind)) (ei : found ≡ f .input) (et : torpi ≡ f .torpi) where
   abbrev here : Bool
-  here = carriesFor listens input rpi (decFixed (rowAt r i))
+  here = carriesFor listens input rpi f
 
-  carries-is : here ≡ not (eqb (flags / 4 / 3) 0) && not (isListener (toKind (flags / 4 % 3))) && eqb found input && (listens || eqb torpi rpi)
-  unfolding decFixed
-  carries-is =
-      let x : le 1 (rowAt r i) 28 ≡ flags = in-row 1 70 28 r (i * 70) (omega arith) ∙ sym ef in
-      let y : le 1 (rowAt r i) 29 ≡ found = in-row 1 70 29 r (i * 70) (omega arith) ∙ sym ei in
-      let z : le 4 (rowAt r i) 49 ≡ torpi = in-row 4 70 49 r (i * 70) (omega arith) ∙ sym et in
-      λ j. not (eqb (x j / 4 / 3) 0) && not (isListener (toKind (x j / 4 % 3))) && eqb (y j) input && (listens || eqb (z j) rpi)
+  carries-is : here ≡ many && not listener && eqb found input && (listens || eqb torpi rpi)
+  carries-is = sym (λ j. em j && not (el j) && eqb (ei j) input && (listens || eqb (et j) rpi))
 
-  pub carries-single : flags / 4 / 3 ≡ 0 → false ≡ here
-  carries-single h = sym (carries-is ∙ rw (eq-eqb (flags / 4 / 3) 0 h))
+  pub carries-listener : many ≡ true → listener ≡ true → false ≡ here
+  carries-listener h g = sym (carries-is ∙ rw (h, g))
 
-  module _ (h : flags / 4 / 3 ≡ 0 → ⊥) where
-    pub carries-listener : 1 < flags / 4 % 3 → false ≡ here
-    carries-listener g = sym (carries-is ∙ rw (ne-eqb (flags / 4 / 3) 0 h, listener-is (flags / 4 % 3) g))
+  module _ (h : many ≡ true) (g : listener ≡ false) where
+    pub carries-other : (found ≡ input → ⊥) → false ≡ here
+    carries-other k = sym (carries-is ∙ rw (h, g, ne-eqb found input k))
 
-    module _ (g : flags / 4 % 3 ≤ 1) where
-      pub carries-other : (found ≡ input → ⊥) → false ≡ here
-      carries-other k = sym (carries-is ∙ rw (ne-eqb (flags / 4 / 3) 0 h, listener-last (flags / 4 % 3) g, ne-eqb found input k))
+    module _ (k : found ≡ input) where
+      pub carries-any : listens ≡ true → true ≡ here
+      carries-any l = sym (carries-is ∙ rw (h, g, eq-eqb found input k, l))
 
-      module _ (k : found ≡ input) where
-        pub carries-any : listens ≡ true → true ≡ here
-        carries-any l = sym (carries-is ∙ rw (ne-eqb (flags / 4 / 3) 0 h, listener-last (flags / 4 % 3) g, eq-eqb found input k, l))
+      pub carries-equal : listens ≡ false → eqb torpi rpi ≡ here
+      carries-equal l = sym (carries-is ∙ rw (h, g, eq-eqb found input k, l))
 
-        pub carries-equal : listens ≡ false → eqb torpi rpi ≡ here
-        carries-equal l = sym (carries-is ∙ rw (ne-eqb (flags / 4 / 3) 0 h, listener-last (flags / 4 % 3) g, eq-eqb found input k, l))
+-- a point-to-point connection carries for none
+pub carries-single : (f : Fixed) (listens : Bool) (input rpi : ℕ) → f .multicast ≡ false → false ≡ carriesFor listens input rpi f
+carries-single f listens input rpi h = sym (rw h)
 
 -- ---- the stream of an open
 

@@ -1,21 +1,16 @@
 -- Check 11, one law for each way through; and the part of the roles that the checks of the table read.
-use Prim.Native.Nat.{ℕ, zero, suc, _+_, _*_, _/_, _%_}
+use Prim.Native.Nat.{ℕ}
 use mathlib.Core.Bool.{Bool, true, false, not, _&&_}
 use mathlib.Core.List.{List}
 use mathlib.Core.Option.{none, some}
 use mathlib.Core.Path.{_≡_, refl, ap, sym, _∙_}
-use native.Mathlib.Omega.{arith}
 use lib.Dec.{eqb}
-use borrow.Author.Tests.{eq-eqb, ne-eqb}
-use Rattle.cells.specs.Numbers.{le}
 use Rattle.rules.specs.declared.Fixed.{Fixed}
 use Rattle.rules.specs.declared.Kind.{Kind}
 use Rattle.rules.specs.declared.Stop.the-variants.{Owned}
 use Rattle.rules.specs.Lists.{any}
 use Rattle.rules.specs.State.{Setup, shapeAt, isOwner}
 use Rattle.rules.specs.Checks.{Roles, must, owns, ownerCheck}
-use Rattle.layout.specs.Rows.{rowAt, toKind, decFixed}
-use Rattle.layout.specs.RowLaws.{in-row}
 use Rattle.checking.specs.SaysLaws.{must-yes, must-no}
 
 -- the roles, as far as the table's checks read them
@@ -24,25 +19,15 @@ rolesWith kind input output = record { kind = kind; input = input; output = outp
 
 -- ---- one row
 
-pub owner-first : (n : ℕ) → eqb n 0 ≡ isOwner (toKind n)
-owner-first zero = refl
-owner-first (suc zero) = refl
-owner-first (suc (suc n)) =
-    let a = ne-eqb (suc (suc n)) 0 (λ e. omega arith) in let b = ne-eqb (suc (suc n)) 1 (λ e. omega arith) in rw (a, b)
+module _ (f : Fixed) (output found : ℕ) (a : Bool) (ea : a ≡ isOwner (f .kind)) (eo : found ≡ f .output) where
+  owns-is : a && eqb found output ≡ owns output f
+  owns-is = λ j. ea j && eqb (eo j) output
 
-module _ (r : List ℕ) (i output flags found : ℕ) (ef : flags ≡ le 1 r (i * 70 + 28)) (eo : found ≡ le 1 r (i * 70 + 30)) where
-  owns-is : owns output (decFixed (rowAt r i)) ≡ eqb (flags / 4 % 3) 0 && eqb found output
-  unfolding decFixed
-  owns-is =
-      let x : le 1 (rowAt r i) 28 ≡ flags = in-row 1 70 28 r (i * 70) (omega arith) ∙ sym ef in
-      let y : le 1 (rowAt r i) 30 ≡ found = in-row 1 70 30 r (i * 70) (omega arith) ∙ sym eo in
-      (λ j. isOwner (toKind (x j / 4 % 3)) && eqb (y j) output) ∙ ap (λ (b : Bool). b && eqb found output) (sym (owner-first (flags / 4 % 3)))
+  pub owns-not : a ≡ false → false ≡ owns output f
+  owns-not h = ap (λ (b : Bool). b && eqb found output) (sym h) ∙ owns-is
 
-  pub owns-not : (flags / 4 % 3 ≡ 0 → ⊥) → false ≡ owns output (decFixed (rowAt r i))
-  owns-not h = sym (owns-is ∙ ap (λ (b : Bool). b && eqb found output) (ne-eqb (flags / 4 % 3) 0 h))
-
-  pub owns-same : flags / 4 % 3 ≡ 0 → eqb found output ≡ owns output (decFixed (rowAt r i))
-  owns-same h = sym (owns-is ∙ ap (λ (b : Bool). b && eqb found output) (eq-eqb (flags / 4 % 3) 0 h))
+  pub owns-same : a ≡ true → eqb found output ≡ owns output f
+  owns-same h = ap (λ (b : Bool). b && eqb found output) (sym h) ∙ owns-is
 
 -- ---- check 11
 

@@ -8,11 +8,11 @@ ghost use mathlib.Core.Path.{_≡_};
 ghost use mathlib.Core.Option.{some};
 ghost use Prim.Native.Nat.{_≤_, _<_};
 ghost use lib.ListN.{length};
-ghost use Rattle.tables.specs.Tables.{rows};
 ghost use Rattle.rules.specs.Lists.{find};
 ghost use Rattle.rules.specs.State.{isListener};
 ghost use Rattle.rules.specs.Checks.{streamFound, streamOf, joins};
-ghost use Rattle.layout.specs.Rows.{rowAt, decFixed};
+ghost use Rattle.layout.specs.Rows.{rowAt, decFixed, fixedsIn};
+ghost use Rattle.layout.specs.Places.{tableSize};
 ghost use Rattle.checking.specs.Says.{stopIn};
 ghost use Rattle.streams.specs.Owning.{rolesWith};
 ghost use Rattle.streams.specs.Joining.{carriesFor, streamStop};
@@ -29,16 +29,15 @@ fn is_listener(k: Kind) -> bool
 
 // A multicast connection on the input, not listen-only, and of the RPI unless the open only listens.
 fn carries_at(t: &[u8], i: usize, listens: bool, input: u8, rpi: u32) -> bool
-    requires { ⌜ (i < 32) × (2304 ≤ length (now t)) ⌝ }
+    requires { ⌜ (i < 32) × (tableSize ≤ length (now t)) ⌝ }
     ensures { λ x. ⌜ x ≡ carriesFor listens input rpi (decFixed (rowAt (now (t .entry)) i)) ⌝ }
 {
-    let flags = cells::u8_at(t, i * 70 + 28);
-    let found = cells::u8_at(t, i * 70 + 29);
-    let torpi = cells::u32_at(t, i * 70 + 49);
-    if flags / 4 / 3 == 0 {
+    let found = layout::input_at(t, i);
+    let torpi = layout::torpi_at(t, i);
+    if !layout::multicast_at(t, i) {
         return false;
     }
-    if flags / 4 % 3 > 1 {
+    if layout::listens_at(t, i) {
         return false;
     }
     if found != input {
@@ -51,7 +50,7 @@ fn carries_at(t: &[u8], i: usize, listens: bool, input: u8, rpi: u32) -> bool
 }
 
 fn stream_at(t: &[u8], i: usize) -> Stream
-    requires { ⌜ (i < 32) × (2304 ≤ length (now t)) ⌝ }
+    requires { ⌜ (i < 32) × (tableSize ≤ length (now t)) ⌝ }
     ensures { λ x. ⌜ x ≡ streamFound (some (decFixed (rowAt (now (t .entry)) i))) ⌝ }
 {
     let f = layout::fixed_at(t, i);
@@ -65,8 +64,8 @@ fn stream_at(t: &[u8], i: usize) -> Stream
 }
 
 fn first_stream(t: &[u8], n: usize, listens: bool, input: u8, rpi: u32) -> Stream
-    requires { ⌜ (n ≤ 32) × (2304 ≤ length (now t)) ⌝ }
-    ensures { λ x. ⌜ x ≡ streamFound (find (carriesFor listens input rpi) (rows 70 decFixed n (now (t .entry)))) ⌝ }
+    requires { ⌜ (n ≤ 32) × (tableSize ≤ length (now t)) ⌝ }
+    ensures { λ x. ⌜ x ≡ streamFound (find (carriesFor listens input rpi) (fixedsIn n (now (t .entry)))) ⌝ }
 {
     let mut i = 0;
     while i < n {
@@ -80,8 +79,8 @@ fn first_stream(t: &[u8], n: usize, listens: bool, input: u8, rpi: u32) -> Strea
 
 // The stream that an open of this kind joins.
 pub fn stream_of(t: &[u8], n: usize, o: ForwardOpen, kind: Kind, input: u8) -> Stream
-    requires { ⌜ (n ≤ 32) × (2304 ≤ length (now t)) ⌝ }
-    ensures { λ x. ⌜ x ≡ streamOf o (rolesWith kind input 0) (rows 70 decFixed n (now (t .entry))) ⌝ }
+    requires { ⌜ (n ≤ 32) × (tableSize ≤ length (now t)) ⌝ }
+    ensures { λ x. ⌜ x ≡ streamOf o (rolesWith kind input 0) (fixedsIn n (now (t .entry))) ⌝ }
 {
     let way = o.to;
     let params = way.params;

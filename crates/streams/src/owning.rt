@@ -6,31 +6,28 @@ ghost use mathlib.Core.Path.{_≡_};
 ghost use mathlib.Core.List.{[]};
 ghost use Prim.Native.Nat.{_≤_, _<_};
 ghost use lib.ListN.{length};
-ghost use Rattle.cells.specs.Numbers.{le};
-ghost use Rattle.tables.specs.Tables.{rows};
 ghost use Rattle.rules.specs.Lists.{any};
 ghost use Rattle.rules.specs.Checks.{owns, ownerCheck};
-ghost use Rattle.layout.specs.Rows.{rowAt, decFixed};
+ghost use Rattle.layout.specs.Rows.{rowAt, decFixed, fixedsIn};
 ghost use Rattle.layout.specs.Setups.{setupFrom};
+ghost use Rattle.layout.specs.Places.{setupSize, tableSize, assembliesOf};
 ghost use Rattle.checking.specs.Says.{stopIn};
 ghost use Rattle.streams.specs.Owning.{rolesWith};
 
-// The kind is `flags / 4 % 3`: 0 for an owner.
 fn owns_at(t: &[u8], i: usize, output: u8) -> bool
-    requires { ⌜ (i < 32) × (2304 ≤ length (now t)) ⌝ }
+    requires { ⌜ (i < 32) × (tableSize ≤ length (now t)) ⌝ }
     ensures { λ x. ⌜ x ≡ owns output (decFixed (rowAt (now (t .entry)) i)) ⌝ }
 {
-    let flags = cells::u8_at(t, i * 70 + 28);
-    let found = cells::u8_at(t, i * 70 + 30);
-    if flags / 4 % 3 != 0 {
+    let found = layout::output_at(t, i);
+    if !layout::owns_at(t, i) {
         return false;
     }
     found == output
 }
 
 fn owned(t: &[u8], n: usize, output: u8) -> bool
-    requires { ⌜ (n ≤ 32) × (2304 ≤ length (now t)) ⌝ }
-    ensures { λ x. ⌜ x ≡ any (owns output) (rows 70 decFixed n (now (t .entry))) ⌝ }
+    requires { ⌜ (n ≤ 32) × (tableSize ≤ length (now t)) ⌝ }
+    ensures { λ x. ⌜ x ≡ any (owns output) (fixedsIn n (now (t .entry))) ⌝ }
 {
     let mut i = 0;
     while i < n {
@@ -44,8 +41,8 @@ fn owned(t: &[u8], n: usize, output: u8) -> bool
 
 // Check 11, from the setup's region and the table's.
 pub fn owner(r: &[u8], t: &[u8], n: usize, kind: Kind, output: u8) -> Check
-    requires { ⌜ (192 ≤ length (now r)) × (le 1 (now r) 0 ≤ 16) × (n ≤ 32) × (2304 ≤ length (now t)) ⌝ }
-    ensures { λ x. ⌜ stopIn x ≡ ownerCheck (setupFrom (now (r .entry)) []) (rolesWith kind 0 output) (rows 70 decFixed n (now (t .entry))) ⌝ }
+    requires { ⌜ (setupSize ≤ length (now r)) × (assembliesOf (now r) ≤ 16) × (n ≤ 32) × (tableSize ≤ length (now t)) ⌝ }
+    ensures { λ x. ⌜ stopIn x ≡ ownerCheck (setupFrom (now (r .entry)) []) (rolesWith kind 0 output) (fixedsIn n (now (t .entry))) ⌝ }
 {
     if !layout::is_owner(kind) {
         return Check::Holds;

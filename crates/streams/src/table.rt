@@ -7,16 +7,16 @@ ghost use mathlib.Core.Path.{_≡_};
 ghost use Prim.Native.Nat.{_≤_};
 ghost use lib.Dec.{ltb};
 ghost use lib.ListN.{length};
-ghost use Rattle.tables.specs.Tables.{rows};
 ghost use Rattle.rules.specs.declared.Stop.the-variants.{Full};
 ghost use Rattle.rules.specs.Checks.{must, triadCheck, maxConnections};
-ghost use Rattle.layout.specs.Rows.{decFixed};
+ghost use Rattle.layout.specs.Rows.{fixedsIn};
+ghost use Rattle.layout.specs.Places.{tableSize};
 ghost use Rattle.checking.specs.Says.{stopIn};
 
 // Check 10.
 pub fn triad(r: &[u8], n: usize, o: ForwardOpen) -> Check
-    requires { ⌜ (n ≤ 32) × (2304 ≤ length (now r)) ⌝ }
-    ensures { λ x. ⌜ stopIn x ≡ triadCheck o (rows 70 decFixed n (now (r .entry))) ⌝ }
+    requires { ⌜ (n ≤ 32) × (tableSize ≤ length (now r)) ⌝ }
+    ensures { λ x. ⌜ stopIn x ≡ triadCheck o (fixedsIn n (now (r .entry))) ⌝ }
 {
     match lookup::find_triad(r, n, o.triad) {
         Found::At(_) => Check::Stops(Stop::TriadInUse),

@@ -3,3 +3,4 @@ pub mod ByteLaws
 pub mod WholeLaws
 pub mod SendLaws
 pub mod TurnLaws
+pub mod Shared

@@ -1,10 +1,12 @@
--- A step of an upload by value: what it sends, as numbers, and the position after it. The step is the rule's.
+-- A step of an upload by value: what it sends, as numbers, and the position after it; a position of size 0 is none. The step is the rule's.
 use mathlib.Core.Bool.{Bool, true, false, cond}
 use mathlib.Core.List.{List, [], _∷_}
-use mathlib.Core.Path.{_≡_, refl, ap}
+use mathlib.Core.Path.{_≡_, refl, ap, _∙_}
 use Prim.Native.Nat.{ℕ}
-use lib.ListN.{length, take, drop}
+use lib.Dec.{eqb}
+use lib.ListN.{length, getD, take, drop}
 use Rattle.cells.specs.Numbers.{bytesLe}
+use Rattle.cells.specs.Records.{decFields}
 use Rattle.rules.specs.Attributes.{Outcome, Gives, Fails}
 use Rattle.rules.specs.Upload.{checksum, clamped, started, initiateReply, transferReply, turnOf, transferFor, transferAt, initiate, transfer}
 use Rattle.rules.specs.declared.objects.Fault.the-variants.{StateConflict, NotEnoughData}
@@ -13,27 +15,27 @@ use Rattle.rules.specs.declared.objects.Turn.{Turn}
 use Rattle.rules.specs.declared.objects.Turn.the-variants.{Repeat, InTurn, OutOfTurn}
 use Rattle.rules.specs.declared.objects.Upload.{Upload}
 use Rattle.rules.specs.declared.objects.Upload.the-variants.{NoUpload, Under}
+use Rattle.uploads.specs.Positions.{wPosition, asPosition, asUpload, decUpload, heldIn}
 use Rattle.uploads.specs.Steps.{advancedTo, advanced-to}
 use Rattle.uploads.specs.declared.steps.Sends.{Sends}
 use Rattle.uploads.specs.declared.steps.Sends.the-variants.{Length, Part, Nothing}
 use Rattle.uploads.specs.declared.steps.Step.{Step}
 
-unfoldable pub initiateStep : ℕ → Upload → List ℕ → Step
-initiateStep limit up [] = record { sends = Nothing NotEnoughData; after = up }
-initiateStep limit up (wanted ∷ rest) = record { sends = Length (clamped limit wanted); after = Under (started (clamped limit wanted)) }
+unfoldable pub initiateStep : ℕ → Position → List ℕ → Step
+initiateStep limit p [] = record { sends = Nothing NotEnoughData; after = p }
+initiateStep limit p (wanted ∷ rest) = record { sends = Length (clamped limit wanted); after = started (clamped limit wanted) }
 
 abbrev pub stepFor : ℕ → Position → ℕ → Turn → Step
-stepFor len p number (Repeat offset) = record { sends = Part (p .size) number offset; after = Under p }
-stepFor len p number InTurn = record { sends = Part (p .size) number (p .offset); after = Under (advancedTo len p) }
-stepFor len p number OutOfTurn = record { sends = Nothing StateConflict; after = Under p }
+stepFor len p number (Repeat offset) = record { sends = Part (p .size) number offset; after = p }
+stepFor len p number InTurn = record { sends = Part (p .size) number (p .offset); after = advancedTo len p }
+stepFor len p number OutOfTurn = record { sends = Nothing StateConflict; after = p }
 
-abbrev pub stepAt : ℕ → ℕ → Upload → Step
-stepAt len number NoUpload = record { sends = Nothing StateConflict; after = NoUpload }
-stepAt len number (Under p) = stepFor len p number (turnOf p number)
+abbrev pub stepAt : ℕ → ℕ → Position → Step
+stepAt len number p = cond (eqb (p .size) 0) (record { sends = Nothing StateConflict; after = p }) (stepFor len p number (turnOf p number))
 
-unfoldable pub transferStep : ℕ → Upload → List ℕ → Step
-transferStep len up [] = record { sends = Nothing NotEnoughData; after = up }
-transferStep len up (number ∷ rest) = stepAt len number up
+unfoldable pub transferStep : ℕ → Position → List ℕ → Step
+transferStep len p [] = record { sends = Nothing NotEnoughData; after = p }
+transferStep len p (number ∷ rest) = stepAt len number p
 
 -- ---- what is sent, in bytes
 
@@ -48,26 +50,35 @@ outcomeOf eds (Length size) = Gives (initiateReply eds size)
 outcomeOf eds (Part size number offset) = Gives (transferReply eds size number offset)
 outcomeOf eds (Nothing fault) = Fails fault
 
--- ---- it is the rule's step
+-- ---- it is the rule's step, of the upload that the bytes say
 
-abbrev pub done : List ℕ → Step → Outcome × Upload
+abbrev pub done : List ℕ → Step → Outcome × Position
 done eds s = (outcomeOf eds (s .sends), s .after)
 
-pub initiate-done : (limit : ℕ) (eds : List ℕ) (up : Upload) (given : List ℕ) → done eds (initiateStep limit up given) ≡ initiate limit eds up given
+abbrev pub held : Outcome × Upload → Outcome × Position
+held x = (x .0, heldIn (x .1))
+
+pub initiate-done : (limit : ℕ) (eds : List ℕ) (up : Upload) (given : List ℕ) → done eds (initiateStep limit (heldIn up) given) ≡ held (initiate limit eds up given)
 unfolding initiateStep initiate
 initiate-done limit eds up [] = refl
 initiate-done limit eds up (wanted ∷ rest) = refl
 
-turn-done : (eds : List ℕ) (p : Position) (number : ℕ) (turn : Turn) → done eds (stepFor (length eds) p number turn) ≡ transferFor eds p number turn
+turn-done : (eds : List ℕ) (p : Position) (number : ℕ) (turn : Turn) → done eds (stepFor (length eds) p number turn) ≡ held (transferFor eds p number turn)
 turn-done eds p number (Repeat offset) = refl
-turn-done eds p number InTurn = ap (λ (q : Position). (Gives (transferReply eds (p .size) number (p .offset)), Under q)) (advanced-to eds p)
+turn-done eds p number InTurn = ap (λ (q : Position). (Gives (transferReply eds (p .size) number (p .offset)), q)) (advanced-to eds p)
 turn-done eds p number OutOfTurn = refl
 
-at-done : (eds : List ℕ) (number : ℕ) (up : Upload) → done eds (stepAt (length eds) number up) ≡ transferAt eds number up
-at-done eds number NoUpload = refl
-at-done eds number (Under p) = turn-done eds p number (turnOf p number)
+at-done : (eds : List ℕ) (number : ℕ) (vs : List ℕ) → done eds (stepAt (length eds) number (heldIn (asUpload vs))) ≡ held (transferAt eds number (asUpload vs))
+at-done eds number vs = by (eqb (getD vs 0 0) 0) refl
+  where
+    by : (b : Bool) → eqb (getD vs 0 0) 0 ≡ b
+        → done eds (stepAt (length eds) number (heldIn (cond b NoUpload (Under (asPosition vs))))) ≡ held (transferAt eds number (cond b NoUpload (Under (asPosition vs))))
+    by true e = refl
+    by false e =
+        ap (λ (c : Bool). done eds (cond c (record { sends = Nothing StateConflict; after = asPosition vs }) (stepFor (length eds) (asPosition vs) number (turnOf (asPosition vs) number)))) e
+        ∙ turn-done eds (asPosition vs) number (turnOf (asPosition vs) number)
 
-pub transfer-done : (eds : List ℕ) (up : Upload) (given : List ℕ) → done eds (transferStep (length eds) up given) ≡ transfer eds up given
-unfolding transferStep transfer
-transfer-done eds up [] = refl
-transfer-done eds up (number ∷ rest) = at-done eds number up
+pub transfer-done : (eds l given : List ℕ) → done eds (transferStep (length eds) (heldIn (decUpload l)) given) ≡ held (transfer eds (decUpload l) given)
+unfolding transferStep transfer decUpload
+transfer-done eds l [] = refl
+transfer-done eds l (number ∷ rest) = at-done eds number (decFields wPosition l 0)

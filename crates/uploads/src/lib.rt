@@ -9,7 +9,7 @@ ghost use lib.ListN.{length};
 ghost use Rattle.cells.specs.Records.{decFields, putFields};
 ghost use Rattle.rules.specs.Upload.{checksum, clamped, nextTurn, turnOf, lastOk};
 ghost use Rattle.uploads.specs.Steps.{advancedTo};
-ghost use Rattle.uploads.specs.Positions.{wPosition, toLast, decPosition, decUpload, lastNumber, anyLast, lastOffset, heldIn, listUpload, plain, plainList, fits, okWith, uploadTested};
+ghost use Rattle.uploads.specs.Positions.{wPosition, toLast, decPosition, decUpload, lastNumber, anyLast, lastOffset, heldIn, listPosition, plain, plainList, fits, okWith, uploadTested};
 use rules::objects::Last;
 use rules::objects::Position;
 use rules::objects::Turn;
@@ -206,11 +206,19 @@ fn held_in(up: Upload) -> Position
     }
 }
 
-pub fn put_upload(s: &mut [u8], up: Upload)
+// The position that the bytes say; of no upload, one of size 0.
+pub fn position_in(s: &[u8]) -> Position
     requires { ⌜ 8 ≤ length (now s) ⌝ }
-    ensures { λ _. ⌜ now (s .exit) ≡ putFields wPosition (now (s .entry)) 0 (listUpload up) ⌝ }
+    ensures { λ r. ⌜ r ≡ heldIn (decUpload (now (s .entry))) ⌝ }
 {
-    let p = held_in(up);
+    let up = upload_of(s);
+    held_in(up)
+}
+
+pub fn put_position(s: &mut [u8], p: Position)
+    requires { ⌜ 8 ≤ length (now s) ⌝ }
+    ensures { λ _. ⌜ now (s .exit) ≡ putFields wPosition (now (s .entry)) 0 (listPosition p) ⌝ }
+{
     let last = p.last;
     let number = last_number(last);
     let any = any_last(last);

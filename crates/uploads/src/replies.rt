@@ -50,7 +50,7 @@ fn put_part(out: &mut [u8], eds: &[u8], size: u8, offset: u16) -> usize
 {
     let from = within(offset as usize, eds.len());
     let to = within((offset as usize) + (size as usize), eds.len());
-    cells::copy_in(out, 2, &eds[from..to]);
+    copies::copy_in(out, 2, &eds[from..to]);
     to - from
 }
 

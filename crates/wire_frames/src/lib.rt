@@ -35,7 +35,7 @@ pub fn encode_io(out: &mut [u8], id: ToId, sequence: u32, cip: u16, bytes: &[u8]
         return Written::NoRoom;
     }
     put_front(out, id, sequence, cip, (2 + n) as u16);
-    cells::copy_in(out, 20, bytes);
+    copies::copy_in(out, 20, bytes);
     Written::Bytes(20 + n)
 }
 

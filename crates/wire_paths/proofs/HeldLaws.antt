@@ -6,7 +6,7 @@ use Rattle.wire_paths.specs.Segments.{stepAt}
 use Rattle.wire_paths.specs.WalkLaws.{Passed, passed-none, passed-more, passed-all, passed-broken}
 use Rattle.wire_paths.specs.ConnectionPath.{connectionPath, pathRead, pathOf}
 use Rattle.wire_paths.specs.Adding.{added}
-use Rattle.wire_paths.proofs.AddingLaws.{added-more}
+use Rattle.wire_paths.proofs.MoreLaws.{added-more}
 use Rattle.wire_paths.specs.declared.Seg.{Seg}
 use Rattle.wire_paths.specs.declared.SegStep.the-variants.{Segment, End, Broken}
 use Rattle.wire_paths.specs.declared.ConnectionPath.{ConnectionPath}

@@ -1,4 +1,4 @@
 pub mod Examples
 pub mod StepLaws
-pub mod AddingLaws
+pub mod MoreLaws
 pub mod HeldLaws

@@ -1,4 +1,4 @@
--- What is held of a path with one segment more: the step of the walk in code. AddingLaws shows that it keeps connectionPath.
+-- What is held of a path with one segment more: the step of the walk in code. MoreLaws shows that it keeps connectionPath.
 use Prim.Native.Nat.{ℕ, _+_}
 use mathlib.Core.Bool.{true}
 use lib.Dec.{ltb, eqb}

@@ -10,11 +10,25 @@ pub enum Which {
     Original,
 }
 
+/// The numbers of connections that each call is timed at.
+pub const CONNECTIONS: [usize; 3] = [1, 8, 32];
+
+/// The ratios to reach, at 1, 8 and 32 connections.
+pub type Goals = [f64; CONNECTIONS.len()];
+
 pub struct Case {
     pub name: &'static str,
-    /// The data's size matters.
-    pub sized: bool,
+    pub rows: &'static [Row],
+    /// Both, at a number of connections and a size of data.
+    pub pair: fn(usize, usize) -> Pair,
     pub run: fn(&mut Pair, Which, u32, &mut Counters),
+}
+
+/// A row of the table.
+pub struct Row {
+    /// The data's size; None where it does not matter.
+    pub bytes: Option<usize>,
+    pub goals: Option<Goals>,
 }
 
 /// How far a side is: its frames' sequence, and its clock in intervals.
@@ -24,17 +38,33 @@ pub struct Counters {
     intervals: u64,
 }
 
-pub const CASES: [Case; 9] = [
-    Case { name: "receive, new data", sized: true, run: receive_new },
-    Case { name: "receive, unknown id", sized: true, run: receive_unknown },
-    Case { name: "produce, all due", sized: true, run: produce_due },
-    Case { name: "produce, nothing due", sized: false, run: produce_nothing },
-    Case { name: "expire, nothing", sized: false, run: expire_nothing },
-    Case { name: "next_deadline", sized: false, run: next_deadline },
-    Case { name: "open and close", sized: false, run: open_and_close },
-    Case { name: "set_input", sized: true, run: set_input },
-    Case { name: "output", sized: true, run: output },
+const fn sized(bytes: usize, goal: f64) -> Row {
+    Row { bytes: Some(bytes), goals: Some([goal; 3]) }
+}
+
+const fn plain(goals: Goals) -> Row {
+    Row { bytes: None, goals: Some(goals) }
+}
+
+pub static CASES: [Case; 10] = [
+    Case { name: "receive, new data", rows: &[sized(32, 0.5), sized(500, 0.62)], pair: Pair::new, run: receive_new },
+    Case { name: "receive, unknown id", rows: &[sized(32, 0.4)], pair: Pair::new, run: receive_unknown },
+    Case { name: "produce, all due", rows: &[sized(32, 0.22), sized(500, 0.25)], pair: Pair::new, run: produce_due },
+    Case { name: "produce, nothing due", rows: &[plain([0.8; 3])], pair: Pair::new, run: produce_nothing },
+    Case { name: "expire, nothing", rows: &[plain([0.9, 0.22, 0.22])], pair: Pair::new, run: expire_nothing },
+    Case { name: "next_deadline", rows: &[plain([0.45; 3])], pair: Pair::new, run: next_deadline },
+    Case { name: "open and close", rows: &[plain([0.5; 3])], pair: Pair::new, run: open_and_close },
+    Case { name: OPEN_BEHIND, rows: &[Row { bytes: None, goals: None }], pair: behind_others, run: open_behind },
+    Case { name: "set_input", rows: &[sized(32, 1.2), sized(500, 1.25)], pair: Pair::new, run: set_input },
+    Case { name: "output", rows: &[sized(32, 0.5), sized(500, 0.7)], pair: Pair::new, run: output },
 ];
+
+/// Its columns are of the connections that are there before: none, 8 and 31.
+const OPEN_BEHIND: &str = "open, behind 0, 8, 31 others";
+
+fn behind_others(connections: usize, size: usize) -> Pair {
+    Pair::before_an_open(if connections == 8 { 8 } else { connections - 1 }, size)
+}
 
 /// The next frame of an owner: another sequence, CIP sequence and first byte.
 fn advance(frame: &mut [u8], sequence: u32) {
@@ -141,6 +171,23 @@ fn open_and_close(p: &mut Pair, which: Which, times: u32, _: &mut Counters) {
             Which::Original => {
                 black_box(p.original.close(black_box(&p.inputs.close)));
                 black_box(p.original.open(black_box(&p.inputs.open), peer, local, p.then));
+            }
+        }
+    }
+}
+
+/// A connection opens behind the others and is taken back, which costs a copy of 48 bytes or two steps back.
+fn open_behind(p: &mut Pair, which: Which, times: u32, _: &mut Counters) {
+    let (peer, local) = Pair::peers();
+    for _ in 0..times {
+        match which {
+            Which::Library => {
+                black_box(p.library.open(black_box(&p.inputs.open), p.now));
+                p.library.forget_open();
+            }
+            Which::Original => {
+                black_box(p.original.open(black_box(&p.inputs.open), peer, local, p.then));
+                p.original.forget_open();
             }
         }
     }

@@ -1,130 +1,136 @@
 //! The command `bench`: the library and ciplink timed in one run, on the same inputs, by medians of paired ratios.
 
 mod cases;
+mod measure;
 mod pair;
+mod record;
+mod tables;
 
 /// ciplink as it is: compiled from its own text.
 mod ciplink {
     include!(concat!(env!("OUT_DIR"), "/copies.rs"));
 }
 
-use cases::{CASES, Case, Counters, Which};
+use cases::CASES;
 use compare::say;
-use pair::Pair;
+use measure::How;
+use record::Record;
 use std::process::ExitCode;
-use std::time::{Duration, Instant};
+use std::time::Duration;
 
 const USAGE: &str = "\
-usage: bench [--rounds N] [--batch MICROSECONDS] [--case TEXT]
+usage: bench [--rounds N] [--batch MICROSECONDS] [--case TEXT] [--record FILE] [--against FILE [--percent N]]
+       bench --read FILE [--page FILE] [--against FILE [--percent N]]
 
-Times each hot call of the library and of ciplink in turn and prints a table in Markdown for docs/SPEED.md.
+Times each hot call of the library and of ciplink in turn and prints the tables of docs/SPEED.md.
 
-  --rounds N            pairs of batches for each figure (default 101)
-  --batch MICROSECONDS  how long a batch is, about (default 1,000)
+  --rounds N            pairs of batches for each figure (default 1,001)
+  --batch MICROSECONDS  how long a batch is, about (default 100)
   --case TEXT           only calls whose name has that text
+  --record FILE         write what was measured there
+  --read FILE           measure nothing: take what was recorded there
+  --page FILE           put the tables into that page, between its two marks
+  --against FILE        print what changed since what was recorded there, as ratios to ciplink
+  --percent N           how much slower counts as slower (default 10)
+
+Status: 0; 1 with --against where a figure is slower by more than N percent; 2 wrong usage, or a file that cannot be read or written.
 ";
 
-const CONNECTIONS: [usize; 3] = [1, 8, 32];
-const SIZES: [usize; 2] = [32, 500];
-
+#[derive(Default)]
 struct Options {
-    rounds: usize,
-    batch: Duration,
-    case: String,
+    rounds: Option<u64>,
+    batch: Option<u64>,
+    case: Option<String>,
+    record: Option<String>,
+    read: Option<String>,
+    page: Option<String>,
+    against: Option<String>,
+    percent: Option<u64>,
 }
 
-fn number(name: &str, value: Option<String>) -> Result<u64, String> {
-    let value = value.ok_or_else(|| format!("{name} wants a number"))?;
+fn number(name: &str, value: String) -> Result<u64, String> {
     let plain = value.replace([',', '_'], "");
     plain.parse().ok().filter(|n| *n > 0).ok_or_else(|| format!("{name} wants a number above 0, not {value:?}"))
 }
 
 fn options(mut args: impl Iterator<Item = String>) -> Result<Options, String> {
-    let mut o = Options { rounds: 101, batch: Duration::from_micros(1_000), case: String::new() };
+    let mut o = Options::default();
     while let Some(arg) = args.next() {
-        match arg.as_str() {
-            "--rounds" => o.rounds = number("--rounds", args.next())? as usize,
-            "--batch" => o.batch = Duration::from_micros(number("--batch", args.next())?),
-            "--case" => o.case = args.next().ok_or("--case wants a text")?,
-            other => return Err(format!("{other:?} is no option")),
+        let name = arg.as_str();
+        if !USAGE.contains(&format!("\n  {name} ")) || !name.starts_with("--") {
+            return Err(format!("{name:?} is no option"));
+        }
+        let value = args.next().ok_or_else(|| format!("{name} wants a value"))?;
+        match name {
+            "--rounds" => o.rounds = Some(number(name, value)?),
+            "--batch" => o.batch = Some(number(name, value)?),
+            "--percent" => o.percent = Some(number(name, value)?),
+            "--case" => o.case = Some(value),
+            "--record" => o.record = Some(value),
+            "--read" => o.read = Some(value),
+            "--page" => o.page = Some(value),
+            _ => o.against = Some(value),
         }
     }
-    if !CASES.iter().any(|c| c.name.contains(&o.case)) {
+    let measures = o.rounds.is_some() || o.batch.is_some() || o.case.is_some() || o.record.is_some();
+    if o.read.is_some() && measures {
+        return Err("--read measures nothing: it goes with --page and --against alone".into());
+    }
+    if o.page.is_some() && o.read.is_none() {
+        return Err("--page goes with --read: the page's tables are drawn from a recorded table".into());
+    }
+    if o.percent.is_some() && o.against.is_none() {
+        return Err("--percent goes with --against".into());
+    }
+    if let Some(case) = o.case.as_ref().filter(|text| !CASES.iter().any(|c| c.name.contains(*text))) {
         let names: Vec<&str> = CASES.iter().map(|c| c.name).collect();
-        return Err(format!("no call's name has {:?}; there are: {}", o.case, names.join("; ")));
+        return Err(format!("no call's name has {case:?}; there are: {}", names.join("; ")));
     }
     Ok(o)
 }
 
-struct Figure {
-    library: f64,
-    original: f64,
-    ratio: f64,
+fn read(file: &str) -> Result<Record, String> {
+    let text = std::fs::read_to_string(file).map_err(|e| format!("cannot read {file}: {e}"))?;
+    Record::read(&text).map_err(|e| format!("{file}: {e}"))
 }
 
-fn median(mut list: Vec<f64>) -> f64 {
-    list.sort_by(f64::total_cmp);
-    list[list.len() / 2]
+fn write(file: &str, text: &str) -> Result<(), String> {
+    std::fs::write(file, text).map_err(|e| format!("cannot write {file}: {e}"))
 }
 
-fn timed(case: &Case, pair: &mut Pair, which: Which, times: u32, counters: &mut Counters) -> f64 {
-    let start = Instant::now();
-    (case.run)(pair, which, times, counters);
-    start.elapsed().as_nanos() as f64 / f64::from(times)
-}
-
-/// How many calls make a batch, by the slower of the two.
-fn calls_in_a_batch(case: &Case, pair: &mut Pair, counters: &mut [Counters; 2], batch: Duration) -> u32 {
-    let mut times = 16;
-    loop {
-        let slower = [Which::Library, Which::Original]
-            .into_iter()
-            .zip(counters.iter_mut())
-            .map(|(which, c)| timed(case, pair, which, times, c))
-            .fold(0.0, f64::max);
-        if slower * f64::from(times) * 4.0 > batch.as_nanos() as f64 {
-            return (batch.as_nanos() as f64 / slower).max(1.0) as u32;
-        }
-        times *= 2;
+fn measured(o: &Options) -> Record {
+    if cfg!(debug_assertions) {
+        eprintln!("bench: built without optimisation: the figures say nothing (use --release)");
     }
+    measure::all(&How {
+        rounds: o.rounds.unwrap_or(1_001) as usize,
+        batch: Duration::from_micros(o.batch.unwrap_or(100)),
+        case: o.case.clone().unwrap_or_default(),
+    })
 }
 
-fn figure(case: &Case, connections: usize, size: usize, o: &Options) -> Figure {
-    let mut pair = Pair::new(connections, size);
-    let mut counters = [Counters::default(); 2];
-    let times = calls_in_a_batch(case, &mut pair, &mut counters, o.batch);
-    let (mut library, mut original, mut ratios) = (Vec::new(), Vec::new(), Vec::new());
-    for round in 0..o.rounds {
-        let [first, second] = &mut counters;
-        let (a, b);
-        if round % 2 == 0 {
-            a = timed(case, &mut pair, Which::Library, times, first);
-            b = timed(case, &mut pair, Which::Original, times, second);
-        } else {
-            b = timed(case, &mut pair, Which::Original, times, second);
-            a = timed(case, &mut pair, Which::Library, times, first);
-        }
-        library.push(a);
-        original.push(b);
-        ratios.push(a / b);
+/// How many figures are slower.
+fn run(o: &Options) -> Result<usize, String> {
+    // before anything is measured: a file that is not there is said at once
+    let then = o.against.as_deref().map(read).transpose()?;
+    let now = match &o.read {
+        Some(file) => read(file)?,
+        None => measured(o),
+    };
+    if let Some(file) = &o.record {
+        write(file, &now.to_string())?;
     }
-    pair.agree();
-    Figure { library: median(library), original: median(original), ratio: median(ratios) }
-}
-
-/// On other processors than x86 the name is not in /proc/cpuinfo.
-fn of_lscpu() -> Option<String> {
-    let out = std::process::Command::new("lscpu").output().ok()?;
-    let text = String::from_utf8(out.stdout).ok()?;
-    let line = text.lines().find(|l| l.starts_with("Model name"))?;
-    Some(format!("{} ({})", line.split(':').nth(1)?.trim(), std::env::consts::ARCH))
-}
-
-fn processor() -> String {
-    let text = std::fs::read_to_string("/proc/cpuinfo").unwrap_or_default();
-    let line = text.lines().find(|l| l.starts_with("model name"));
-    let named = line.and_then(|l| l.split(':').nth(1)).map(|s| s.trim().to_string());
-    named.or_else(of_lscpu).unwrap_or_else(|| std::env::consts::ARCH.into())
+    if let Some(file) = &o.page {
+        let page = std::fs::read_to_string(file).map_err(|e| format!("cannot read {file}: {e}"))?;
+        write(file, &tables::into_page(&page, &now).map_err(|e| format!("{file} {e}"))?)?;
+    }
+    let Some(then) = then else {
+        say!("{}", tables::tables(&now).trim_end());
+        return Ok(0);
+    };
+    let found = tables::changes(&now, &then, o.percent.unwrap_or(10) as f64)?;
+    say!("{}", found.text);
+    Ok(found.slower)
 }
 
 fn main() -> ExitCode {
@@ -140,30 +146,54 @@ fn main() -> ExitCode {
             return ExitCode::from(2);
         }
     };
-    if cfg!(debug_assertions) {
-        eprintln!("bench: built without optimisation: the figures say nothing (use --release)");
-    }
-    say!(
-        "Nanoseconds a call, library / ciplink (ratio), at so many connections. Processor: {}. Medians of {} pairs of batches of about {} µs, taken in turn in one process; the ratio is the median of the pairs' ratios.\n",
-        processor(),
-        o.rounds,
-        o.batch.as_micros()
-    );
-    say!("| Call | Bytes | {} |", CONNECTIONS.map(|n| n.to_string()).join(" | "));
-    say!("|---|---|{}", "---|".repeat(CONNECTIONS.len()));
-    for case in CASES.iter().filter(|c| c.name.contains(&o.case)) {
-        for size in SIZES.into_iter().take(if case.sized { 2 } else { 1 }) {
-            let bytes = if case.sized { size.to_string() } else { "-".into() };
-            let cells: Vec<String> = CONNECTIONS
-                .iter()
-                .map(|n| {
-                    eprintln!("bench: {}, {bytes} bytes, {n} connections ..", case.name);
-                    let f = figure(case, *n, size, &o);
-                    format!("{:.0} / {:.0} ({:.2})", f.library, f.original, f.ratio)
-                })
-                .collect();
-            say!("| {} | {bytes} | {} |", case.name, cells.join(" | "));
+    match run(&o) {
+        Ok(0) => ExitCode::SUCCESS,
+        Ok(_) => ExitCode::FAILURE,
+        Err(e) => {
+            eprintln!("bench: {e}");
+            ExitCode::from(2)
         }
     }
-    ExitCode::SUCCESS
+}
+
+#[cfg(test)]
+mod tests {
+    use super::*;
+
+    fn said(words: &str) -> Result<Options, String> {
+        options(words.split_whitespace().map(String::from))
+    }
+
+    #[test]
+    fn options_that_go_together() {
+        for good in ["", "--rounds 3 --batch 1,000 --record a --against b --percent 5", "--read a --page b --against c"]
+        {
+            assert!(said(good).is_ok(), "{good}");
+        }
+    }
+
+    #[test]
+    fn options_that_do_not() {
+        for (bad, why) in [
+            ("--fast", "no option"),
+            ("table.md", "no option"),
+            ("--rounds", "wants a value"),
+            ("--rounds 0", "above 0"),
+            ("--batch few", "above 0"),
+            ("--read a --rounds 3", "measures nothing"),
+            ("--read a --record b", "measures nothing"),
+            ("--page a", "goes with --read"),
+            ("--percent 5", "goes with --against"),
+            ("--case nowhere", "there are: receive, new data; "),
+        ] {
+            let e = said(bad).err().unwrap_or_default();
+            assert!(e.contains(why), "{bad}: {e}");
+        }
+    }
+
+    #[test]
+    fn files_that_cannot_be_read_are_said_before_anything_is_measured() {
+        let o = said("--against /nowhere/speed.txt").expect("options");
+        assert!(run(&o).expect_err("no file").contains("cannot read /nowhere/speed.txt"));
+    }
 }

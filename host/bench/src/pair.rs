@@ -3,6 +3,7 @@
 use crate::ciplink::original::Raw;
 use compare::MAX_PACKETS;
 use compare::bytes::{self, Open, POINT_TO_POINT, Params, Seg, Setup, Shape};
+use compare::places::{MARKS, RECORD, SETUP_SIZE};
 use std::net::{Ipv4Addr, SocketAddrV4};
 use std::time::{Duration, Instant};
 use threshtide::sys;
@@ -16,10 +17,15 @@ const OUTPUT: u32 = 150;
 /// One of the 16 assemblies is the input.
 const MOST_OWNERS: usize = 15;
 
+/// Where the head stands: what an open counts on, the number of connections among it.
+const HEAD: std::ops::Range<usize> = SETUP_SIZE..MARKS;
+
 /// The library's state, with an output buffer.
 pub struct Library {
     state: Vec<u8>,
     out: Vec<u8>,
+    /// The head of the state before an open that is taken back.
+    head: [u8; HEAD.end - HEAD.start],
 }
 
 /// What both get.
@@ -92,7 +98,16 @@ impl Library {
             sys::threshtide_setup(state.as_mut_ptr(), state.len(), block.as_ptr(), block.len(), block.as_ptr(), 0, seed)
         };
         assert_eq!(answer, 0, "the setup is within the sizes");
-        Library { state, out: vec![0; MAX_PACKETS] }
+        Library { state, out: vec![0; MAX_PACKETS], head: [0; HEAD.end - HEAD.start] }
+    }
+
+    fn keep_head(&mut self) {
+        self.head.copy_from_slice(&self.state[HEAD]);
+    }
+
+    /// Takes the last open back, without a close: the row and the event that it wrote are free again.
+    pub fn forget_open(&mut self) {
+        self.state[HEAD].copy_from_slice(&self.head);
     }
 
     pub fn open(&mut self, request: &[u8], time: u64) -> u64 {
@@ -137,6 +152,13 @@ impl Library {
         unsafe { sys::threshtide_output(s, self.state.len(), OUTPUT + place as u32, o, 513) }
     }
 
+    fn connections(&mut self) -> usize {
+        let (s, o) = (self.state.as_ptr(), self.out.as_mut_ptr());
+        let answer = unsafe { sys::threshtide_connections(s, self.state.len(), o, self.out.len()) };
+        assert_eq!(answer as u8, 0);
+        (answer >> 8) as usize / RECORD
+    }
+
     fn produced(&mut self) -> u64 {
         let o = self.out.as_mut_ptr();
         let answer = unsafe { sys::threshtide_stats(self.state.as_ptr(), self.state.len(), o, 24) };
@@ -145,50 +167,81 @@ impl Library {
     }
 }
 
+/// The outputs that the owners among so many connections have, spread evenly along the table.
+fn owned(connections: usize, owners: usize) -> Vec<Option<u32>> {
+    let mut taken = 0;
+    (0..connections)
+        .map(|row| {
+            let owner = taken * connections <= row * owners && taken < owners;
+            owner.then(|| {
+                taken += 1;
+                OUTPUT + taken as u32 - 1
+            })
+        })
+        .collect()
+}
+
 impl Pair {
-    /// Both with so many connections, all of which send; as many of them owners as there are outputs, spread evenly.
+    /// Both with so many connections, all of which send; as many of them owners as there are outputs. The last one can close and open.
     pub fn new(connections: usize, size: usize) -> Pair {
         let owners = connections.min(MOST_OWNERS);
-        let block = setup(owners, size).block();
-        let mut library = Library::new(&block, 1);
-        let mut original = Raw::new(&block, &[], 1).expect("the setup is within the sizes");
-        let (now, then) = (0, original.at(0));
-        let (peer, local) = (Ipv4Addr::from(PEER), Ipv4Addr::from(LOCAL));
-        let mut frames = Vec::new();
-        let mut closing = Vec::new();
-        for row in 0..connections {
-            let output = frames.len() * connections <= row * owners && frames.len() < owners;
-            let owner = output.then_some(OUTPUT + frames.len() as u32);
-            let serial = row as u16 + 1;
-            let bytes = request(serial, owner, size);
-            assert_eq!(library.open(&bytes, now) as u8, 0, "an open that passes");
-            assert!(original.open(&bytes, peer, local, then), "an open that passes");
-            if owner.is_some() {
-                let payload = bytes::payload(0, 1, &vec![0; size]);
-                frames.push(bytes::items(&bytes::frame_items(original.o_t_id(row), 0, payload)));
-            }
-            closing.push((serial, bytes));
+        let mut pair = Pair::set_up(owners, size);
+        for (row, output) in owned(connections, owners).into_iter().enumerate() {
+            pair.add(row, output, size);
         }
-        assert_eq!(frames.len(), owners);
-        let (serial, open) = closing.pop().expect("one connection at least");
+        assert_eq!(pair.inputs.frames.len(), owners);
+        pair
+    }
+
+    /// Both with so many connections, and the open of one more, an owner, which can be taken back.
+    pub fn before_an_open(others: usize, size: usize) -> Pair {
+        let owners = others.min(MOST_OWNERS - 1);
+        let mut pair = Pair::set_up(owners + 1, size);
+        for (row, output) in owned(others, owners).into_iter().enumerate() {
+            pair.add(row, output, size);
+        }
+        let (peer, local) = Pair::peers();
+        pair.inputs.open = request(others as u16 + 1, Some(OUTPUT + owners as u32), size);
+        pair.library.keep_head();
+        assert_eq!(pair.library.open(&pair.inputs.open, pair.now) as u8, 0, "an open that passes");
+        assert!(pair.original.open(&pair.inputs.open, peer, local, pair.then), "an open that passes");
+        pair.library.forget_open();
+        pair.original.forget_open();
+        pair
+    }
+
+    fn set_up(outputs: usize, size: usize) -> Pair {
+        let block = setup(outputs, size).block();
+        let original = Raw::new(&block, &[], 1).expect("the setup is within the sizes");
         let unknown = bytes::items(&bytes::frame_items(0xFFFF_FF00, 1, bytes::payload(1, 1, &vec![0; size])));
+        let then = original.at(0);
         Pair {
-            library,
+            library: Library::new(&block, 1),
             original,
-            inputs: Inputs {
-                frames,
-                unknown,
-                open,
-                close: bytes::close((serial, 1, 7), &[], &[]),
-                data: vec![0; size],
-            },
-            now,
+            inputs: Inputs { frames: Vec::new(), unknown, open: Vec::new(), close: Vec::new(), data: vec![0; size] },
+            now: 0,
             then,
         }
     }
 
-    /// Both did the same: as many packets, the same output data.
+    /// One connection more, at the table's end: an owner of that output, or input-only.
+    fn add(&mut self, row: usize, output: Option<u32>, size: usize) {
+        let serial = row as u16 + 1;
+        let bytes = request(serial, output, size);
+        let (peer, local) = Pair::peers();
+        assert_eq!(self.library.open(&bytes, self.now) as u8, 0, "an open that passes");
+        assert!(self.original.open(&bytes, peer, local, self.then), "an open that passes");
+        if output.is_some() {
+            let payload = bytes::payload(0, 1, &vec![0; size]);
+            self.inputs.frames.push(bytes::items(&bytes::frame_items(self.original.o_t_id(row), 0, payload)));
+        }
+        self.inputs.open = bytes;
+        self.inputs.close = bytes::close((serial, 1, 7), &[], &[]);
+    }
+
+    /// Both did the same: as many connections and packets, the same output data.
     pub fn agree(&mut self) {
+        assert_eq!(self.library.connections(), self.original.connections(), "connections");
         assert_eq!(self.library.produced(), self.original.produced(), "packets produced");
         for place in 0..self.inputs.frames.len() {
             let length = (self.library.output(place) >> 8) as usize;

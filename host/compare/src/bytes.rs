@@ -1,5 +1,8 @@
 //! Bytes of requests and frames, built from their fields: the generator's side of the wire formats.
 
+use crate::block;
+use crate::call::BLOCK;
+
 /// How a direction of a connection is carried.
 pub const NULL: u8 = 0;
 pub const MULTICAST: u8 = 1;
@@ -236,31 +239,31 @@ pub struct Setup {
 
 impl Setup {
     pub fn block(&self) -> Vec<u8> {
-        let mut out = vec![0; 192];
-        out[0] = self.assemblies.len() as u8;
-        out[1] = self.limit;
-        out[2] = self.name.len() as u8;
-        out[3] = self.eds_name.len() as u8;
-        out[4] = u8::from(self.eds);
-        out[8..10].copy_from_slice(&self.vendor.to_le_bytes());
-        out[10..12].copy_from_slice(&self.device.to_le_bytes());
-        out[12..14].copy_from_slice(&self.product.to_le_bytes());
-        out[14] = self.major;
-        out[15] = self.minor;
-        out[16..20].copy_from_slice(&self.serial.to_le_bytes());
-        out[20..24].copy_from_slice(&self.input_only.to_le_bytes());
-        out[24..28].copy_from_slice(&self.listen_only.to_le_bytes());
-        out[28..32].copy_from_slice(&self.rpi_min.to_le_bytes());
-        out[32..36].copy_from_slice(&self.rpi_max.to_le_bytes());
-        out[36..40].copy_from_slice(&self.late.to_le_bytes());
-        out[40..46].copy_from_slice(&self.mac);
-        out[46..46 + self.name.len()].copy_from_slice(&self.name);
-        out[78..78 + self.eds_name.len()].copy_from_slice(&self.eds_name);
+        let mut out = vec![0; BLOCK];
+        out[block::ASSEMBLIES] = self.assemblies.len() as u8;
+        out[block::TRANSFER_LIMIT] = self.limit;
+        out[block::NAME_LENGTH] = self.name.len() as u8;
+        out[block::EDS_NAME_LENGTH] = self.eds_name.len() as u8;
+        out[block::EDS] = u8::from(self.eds);
+        let mut put = |at: usize, bytes: &[u8]| out[at..at + bytes.len()].copy_from_slice(bytes);
+        put(block::VENDOR, &self.vendor.to_le_bytes());
+        put(block::DEVICE_TYPE, &self.device.to_le_bytes());
+        put(block::PRODUCT_CODE, &self.product.to_le_bytes());
+        put(block::MAJOR, &[self.major]);
+        put(block::MINOR, &[self.minor]);
+        put(block::SERIAL, &self.serial.to_le_bytes());
+        put(block::INPUT_ONLY, &self.input_only.to_le_bytes());
+        put(block::LISTEN_ONLY, &self.listen_only.to_le_bytes());
+        put(block::RPI_MIN, &self.rpi_min.to_le_bytes());
+        put(block::RPI_MAX, &self.rpi_max.to_le_bytes());
+        put(block::LATE_LIMIT, &self.late.to_le_bytes());
+        put(block::MAC, &self.mac);
+        put(block::NAME, &self.name);
+        put(block::EDS_NAME, &self.eds_name);
         for (i, a) in self.assemblies.iter().enumerate() {
-            let at = 110 + 5 * i;
-            out[at..at + 2].copy_from_slice(&(a.instance as u16).to_le_bytes());
-            out[at + 2..at + 4].copy_from_slice(&(a.size as u16).to_le_bytes());
-            out[at + 4] = a.kind;
+            put(block::instance(i), &(a.instance as u16).to_le_bytes());
+            put(block::size(i), &(a.size as u16).to_le_bytes());
+            put(block::kind(i), &[a.kind]);
         }
         out
     }

@@ -1,13 +1,15 @@
 //! One call, with everything that is passed in: the C interface's arguments as numbers and bytes.
 
+use crate::places::{RECORD as RECORD_SIZE, SETUP_SIZE, SLOT};
+
 /// The size of a setup block.
-pub const BLOCK: usize = 192;
+pub const BLOCK: usize = SETUP_SIZE;
 /// Frames, messages and service data have at most this many bytes.
 pub const MAX_BYTES: usize = 65_536;
 /// The largest time.
 pub const MAX_TIME: u64 = i64::MAX as u64;
 /// All packets that a produce can give: 32 of 13 bytes, 20 of frame and 512 of data.
-pub const MAX_PACKETS: usize = 32 * (13 + 20 + 512);
+pub const MAX_PACKETS: usize = MAX_CONNECTIONS * (13 + 20 + SLOT);
 /// What a message's reply asks of its buffer.
 pub const MAX_REPLY: usize = 516;
 /// Connections in a full table.
@@ -15,7 +17,7 @@ pub const MAX_CONNECTIONS: usize = 32;
 /// Events kept.
 pub const MAX_EVENTS: usize = 1024;
 /// The bytes of an event or connection record.
-pub const RECORD: usize = 32;
+pub const RECORD: usize = RECORD_SIZE;
 /// A path has at most this many bytes.
 pub const MAX_PATH: usize = 510;
 /// The bytes of what is read of a path, and of a request.

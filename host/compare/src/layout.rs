@@ -1,23 +1,38 @@
 //! The library's state, read by its layout (docs/STATE.md): what no call tells.
 
-use crate::call::{MAX_EVENTS, RECORD};
+use crate::block::{self, MOST_ASSEMBLIES, MOST_NAME};
+use crate::call::{MAX_CONNECTIONS, MAX_EVENTS, RECORD};
+use crate::places::{
+    CONNECTIONS, DATA, EDS, EVENTS, INSTANCES, KINDS, LATE, MARKS, MAX_LATE, NEXT_ID, PRODUCED, RING, RING_BOUND, ROW,
+    SHAPE, SIZES, SLOT, STATE_SIZE, TABLE,
+};
 use crate::seen::{AssemblySeen, ConnSeen, Seen, UploadSeen};
 
-const SHAPES: usize = 110;
-const PRODUCED: usize = 192;
-const LATE: usize = 200;
-const MAX_LATE: usize = 208;
-const NEXT_ID: usize = 216;
-const OLDEST: usize = 220;
-const EVENTS: usize = 222;
-const CONNECTIONS: usize = 224;
-const FAULT: usize = 226;
-const MARKS: usize = 240;
-const TABLE: usize = 256;
-const ROW: usize = 70;
-const RING: usize = 2_560;
-const DATA: usize = 35_328;
-const SLOT: usize = 512;
+// a row's fields, one behind the other
+const DUE: usize = 0;
+const SEQUENCE: usize = DUE + 8;
+const CIP: usize = SEQUENCE + 4;
+const LAST_CIP: usize = CIP + 2;
+const UNTIL: usize = LAST_CIP + 2;
+const LAST_SEQUENCE: usize = UNTIL + 8;
+const FLAGS: usize = LAST_SEQUENCE + 4;
+const ROLE: usize = FLAGS + 1;
+const PORT: usize = ROLE + 1;
+const O_T_ID: usize = PORT + 2;
+const ORIGINATOR: usize = O_T_ID + 4;
+const T_O_ID: usize = ORIGINATOR + 4;
+const O_T_RPI: usize = T_O_ID + 4;
+const T_O_RPI: usize = O_T_RPI + 4;
+const ADDRESS: usize = T_O_RPI + 4;
+const LOCAL: usize = ADDRESS + 4;
+const SERIAL: usize = LOCAL + 4;
+const VENDOR: usize = SERIAL + 2;
+const ORIGINATOR_SERIAL: usize = VENDOR + 2;
+const MULTIPLIER: usize = ORIGINATOR_SERIAL + 4;
+const _: () = assert!(MULTIPLIER + 1 == ROW, "a row is its fields");
+
+/// The EDS's region: its largest length and one.
+const EDS_SIZE: usize = STATE_SIZE - EDS;
 
 fn u16_at(s: &[u8], at: usize) -> u16 {
     u16::from_le_bytes([s[at], s[at + 1]])
@@ -31,12 +46,36 @@ fn u64_at(s: &[u8], at: usize) -> u64 {
     u64::from(u32_at(s, at)) | u64::from(u32_at(s, at + 4)) << 32
 }
 
+fn put(s: &mut [u8], at: usize, bytes: &[u8]) {
+    s[at..at + bytes.len()].copy_from_slice(bytes);
+}
+
+// an assembly's shape, by its place in the setup's list
+fn instance(place: usize) -> usize {
+    INSTANCES + SHAPE * place
+}
+
+fn size(place: usize) -> usize {
+    SIZES + SHAPE * place
+}
+
+fn kind(place: usize) -> usize {
+    KINDS + SHAPE * place
+}
+
+fn assemblies(s: &[u8]) -> usize {
+    usize::from(s[block::ASSEMBLIES]).min(MOST_ASSEMBLIES)
+}
+
 fn assembly(s: &[u8], place: usize) -> AssemblySeen {
-    let at = SHAPES + 5 * place;
+    // a place past the list is the empty assembly
+    if place >= assemblies(s) {
+        return AssemblySeen { instance: 0, kind: 1, size: 0, run: false, notified: false };
+    }
     AssemblySeen {
-        instance: u32::from(u16_at(s, at)),
-        kind: s[at + 4],
-        size: usize::from(u16_at(s, at + 2)),
+        instance: u32::from(u16_at(s, instance(place))),
+        kind: s[kind(place)],
+        size: usize::from(u16_at(s, size(place))),
         run: s[MARKS + place] & 1 == 1,
         notified: s[MARKS + place] & 2 == 2,
     }
@@ -44,41 +83,45 @@ fn assembly(s: &[u8], place: usize) -> AssemblySeen {
 
 fn conn(s: &[u8], row: usize) -> ConnSeen {
     let r = &s[TABLE + ROW * row..TABLE + ROW * (row + 1)];
-    let flags = r[28];
-    let kind = flags / 4 % 3 + 1;
-    let input = assembly(s, usize::from(r[29]));
-    let output = (kind == 1).then(|| assembly(s, usize::from(r[30])));
-    let o_t_rpi = u32_at(r, 45);
+    let (flags, role) = (r[FLAGS], r[ROLE]);
+    let kind = match role {
+        254 => 2,
+        255 => 3,
+        _ => 1,
+    };
+    let input = assembly(s, usize::from(flags / 8));
+    let output = (kind == 1).then(|| assembly(s, usize::from(role)));
+    let o_t_rpi = u32_at(r, O_T_RPI);
     ConnSeen {
         kind,
-        multicast: flags / 12 == 1,
-        triad: (u16_at(r, 61), u16_at(r, 63), u32_at(r, 65)),
-        originator: u32_at(r, 37),
-        o_t_id: u32_at(r, 33),
-        t_o_id: u32_at(r, 41),
+        multicast: flags & 4 == 4,
+        triad: (u16_at(r, SERIAL), u16_at(r, VENDOR), u32_at(r, ORIGINATOR_SERIAL)),
+        originator: u32_at(r, ORIGINATOR),
+        o_t_id: u32_at(r, O_T_ID),
+        t_o_id: u32_at(r, T_O_ID),
         o_t_rpi,
-        t_o_rpi: u32_at(r, 49),
-        timeout: u64::from(o_t_rpi) * (4 << r[69].min(7)),
+        t_o_rpi: u32_at(r, T_O_RPI),
+        timeout: u64::from(o_t_rpi) * (4 << r[MULTIPLIER].min(7)),
         input: input.instance,
         input_size: input.size,
         output: output.map(|a| a.instance),
         output_size: output.map_or(0, |a| a.size),
-        dest: (u32_at(r, 53), u16_at(r, 31)),
-        local: u32_at(r, 57),
-        until: u64_at(r, 16),
-        last_sequence: (flags & 1 == 1).then(|| u32_at(r, 24)),
-        last_cip: (flags & 2 == 2).then(|| u16_at(r, 14)),
-        due: u64_at(r, 0).checked_sub(1),
-        sequence: u32_at(r, 8),
-        cip: u16_at(r, 12),
+        dest: (u32_at(r, ADDRESS), u16_at(r, PORT)),
+        local: u32_at(r, LOCAL),
+        until: u64_at(r, UNTIL),
+        last_sequence: (flags & 1 == 1).then(|| u32_at(r, LAST_SEQUENCE)),
+        last_cip: (flags & 2 == 2).then(|| u16_at(r, LAST_CIP)),
+        due: u64_at(r, DUE).checked_sub(1),
+        sequence: u32_at(r, SEQUENCE),
+        cip: u16_at(r, CIP),
     }
 }
 
 /// Reads what no call tells. The rest of `seen` is the calls'.
 pub fn see(s: &[u8], seen: &mut Seen) {
-    let connections = usize::from(u16_at(s, CONNECTIONS)).min(32);
+    let connections = usize::from(u16_at(s, CONNECTIONS)).min(MAX_CONNECTIONS);
     seen.conns.extend((0..connections).map(|row| conn(s, row)));
-    for place in 0..usize::from(s[0]).min(16) {
+    for place in 0..assemblies(s) {
         let a = assembly(s, place);
         let from = DATA + SLOT * place;
         seen.assemblies.push(a);
@@ -88,15 +131,25 @@ pub fn see(s: &[u8], seen: &mut Seen) {
     seen.late = u64_at(s, LATE);
     seen.max_late = u64_at(s, MAX_LATE);
     seen.next_id = u32_at(s, NEXT_ID);
-    seen.fault = u16_at(s, FAULT) == 1;
-    seen.events = usize::from(u16_at(s, EVENTS));
+    let ring = u32_at(s, RING);
+    seen.fault = ring & 1 == 1;
+    seen.events = waiting(ring);
+}
+
+// the ring's word: 2,048 for each event that waits, 2 for each slot before the oldest one's, 1 for the fault mark
+fn waiting(ring: u32) -> usize {
+    ring as usize / (2 * MAX_EVENTS)
+}
+
+fn oldest(ring: u32) -> usize {
+    ring as usize / 2 % MAX_EVENTS
 }
 
 /// The records of the events waiting, from a place on.
 pub fn events(s: &[u8], from: usize, into: &mut Vec<[u8; RECORD]>) {
-    let (oldest, waiting) = (usize::from(u16_at(s, OLDEST)), usize::from(u16_at(s, EVENTS)));
-    for i in from..waiting {
-        let at = RING + RECORD * ((oldest + i) % MAX_EVENTS);
+    let ring = u32_at(s, RING);
+    for i in from..waiting(ring) {
+        let at = EVENTS + RECORD * ((oldest(ring) + i) % MAX_EVENTS);
         into.push(std::array::from_fn(|k| s[at + k]));
     }
 }
@@ -105,17 +158,32 @@ pub fn events(s: &[u8], from: usize, into: &mut Vec<[u8; RECORD]>) {
 pub fn plant_sent(s: &mut [u8], row: usize, sequence: u32, cip: u16) {
     if row < usize::from(u16_at(s, CONNECTIONS)) {
         let at = TABLE + ROW * row;
-        if u64_at(s, at) != 0 {
-            s[at + 8..at + 12].copy_from_slice(&sequence.to_le_bytes());
-            s[at + 12..at + 14].copy_from_slice(&cip.to_le_bytes());
+        if u64_at(s, at + DUE) != 0 {
+            put(s, at + SEQUENCE, &sequence.to_le_bytes());
+            put(s, at + CIP, &cip.to_le_bytes());
         }
     }
 }
 
 /// Sets the counters: of packets produced, and late.
 pub fn plant_counters(s: &mut [u8], produced: u64, late: u64) {
-    s[PRODUCED..PRODUCED + 8].copy_from_slice(&produced.to_le_bytes());
-    s[LATE..LATE + 8].copy_from_slice(&late.to_le_bytes());
+    put(s, PRODUCED, &produced.to_le_bytes());
+    put(s, LATE, &late.to_le_bytes());
+}
+
+/// Makes any bytes pass the state test: each number that docs/STATE.md says is tested becomes a good one. `below` draws one below a bound.
+pub fn plant_tested(s: &mut [u8], mut below: impl FnMut(usize) -> usize) {
+    s[block::ASSEMBLIES] = below(MOST_ASSEMBLIES + 1) as u8;
+    s[block::TRANSFER_LIMIT] = below(255) as u8 + 1;
+    s[block::NAME_LENGTH] = below(MOST_NAME + 1) as u8;
+    s[block::EDS_NAME_LENGTH] = below(MOST_NAME + 1) as u8;
+    put(s, block::EDS, &(below(EDS_SIZE + 1) as u32).to_le_bytes());
+    for place in 0..MOST_ASSEMBLIES {
+        put(s, size(place), &(below(SLOT + 1) as u16).to_le_bytes());
+    }
+    s[NEXT_ID] |= 1;
+    put(s, RING, &(below(RING_BOUND as usize) as u32).to_le_bytes());
+    put(s, CONNECTIONS, &(below(MAX_CONNECTIONS + 1) as u16).to_le_bytes());
 }
 
 /// An upload position: transfer size (0: none), next number, last number and whether there was one, offset, last offset.

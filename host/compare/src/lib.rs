@@ -18,6 +18,13 @@ mod script;
 mod seen;
 mod show;
 mod shrink;
+
+// the safe crate's own files, for a build without the library
+#[path = "../../threshtide/src/block.rs"]
+pub mod block;
+#[path = "../../threshtide/src/places.rs"]
+#[rustfmt::skip]
+pub mod places;
 #[path = "../../threshtide/src/words.rs"]
 #[allow(dead_code)]
 mod words;
@@ -29,6 +36,8 @@ mod library;
 
 pub use call::*;
 pub use generate::Generator;
+#[cfg(feature = "library")]
+pub use layout::plant_tested;
 #[cfg(feature = "library")]
 pub use library::Library;
 pub use record::record;

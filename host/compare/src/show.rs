@@ -1,6 +1,7 @@
 //! Calls, answers and differences in words that a person can read.
 
-use crate::call::Call;
+use crate::block::{self, MOST_ASSEMBLIES};
+use crate::call::{BLOCK, Call};
 use crate::run::{Difference, Make, answers};
 use crate::seen::ConnSeen;
 use crate::words::Word;
@@ -251,39 +252,38 @@ fn frame(f: &[u8]) -> String {
 }
 
 fn setup(block: &[u8], eds: &[u8], seed: u32) -> String {
-    if block.len() != 192 {
+    if block.len() != BLOCK {
         return format!("a block of {} bytes", block.len());
     }
     let mut list = Vec::new();
-    for i in 0..usize::from(block[0]).min(16) {
-        let at = 110 + 5 * i;
-        let kind = match block[at + 4] {
+    for i in 0..usize::from(block[block::ASSEMBLIES]).min(MOST_ASSEMBLIES) {
+        let kind = match block[block::kind(i)] {
             1 => "input".into(),
             2 => "output".into(),
             3 => "configuration".into(),
             n => format!("kind {n}"),
         };
-        list.push(format!("{kind} {} of {} bytes", le(block, at, 2), le(block, at + 2, 2)));
+        list.push(format!("{kind} {} of {} bytes", le(block, block::instance(i), 2), le(block, block::size(i), 2)));
     }
     format!(
         "{} assemblies ({}), heartbeats {} input-only and {} listen-only, RPI {} to {}, vendor {} device {} product {} revision {}.{}, EDS {}, late limit {}, transfer limit {}, seed {seed:#X}\n      block: {}",
-        block[0],
+        block[block::ASSEMBLIES],
         list.join(", "),
-        le(block, 20, 4),
-        le(block, 24, 4),
-        grouped(le(block, 28, 4)),
-        grouped(le(block, 32, 4)),
-        le(block, 8, 2),
-        le(block, 10, 2),
-        le(block, 12, 2),
-        block[14],
-        block[15],
-        match le(block, 4, 4) {
+        le(block, block::INPUT_ONLY, 4),
+        le(block, block::LISTEN_ONLY, 4),
+        grouped(le(block, block::RPI_MIN, 4)),
+        grouped(le(block, block::RPI_MAX, 4)),
+        le(block, block::VENDOR, 2),
+        le(block, block::DEVICE_TYPE, 2),
+        le(block, block::PRODUCT_CODE, 2),
+        block[block::MAJOR],
+        block[block::MINOR],
+        match le(block, block::EDS, 4) {
             0 if eds.is_empty() => "absent".into(),
             n => format!("flag {n}, {} bytes", eds.len()),
         },
-        le(block, 36, 4),
-        block[1],
+        le(block, block::LATE_LIMIT, 4),
+        block[block::TRANSFER_LIMIT],
         block.iter().map(|b| format!("{b:02X}")).collect::<Vec<_>>().join(" "),
     )
 }

@@ -1,6 +1,7 @@
 //! The shortest run that can be found that still shows a difference.
 
-use crate::call::Call;
+use crate::block::{self, MOST_ASSEMBLIES, MOST_NAME};
+use crate::call::{BLOCK, Call};
 use crate::run::{Difference, Make, replay};
 use std::time::{Duration, Instant};
 
@@ -224,10 +225,16 @@ fn weight(call: &Call) -> usize {
 /// A setup without the assembly in a place.
 fn without_assembly(block: &[u8], place: usize) -> Vec<u8> {
     let mut out = block.to_vec();
-    let last = usize::from(block[0]) - 1;
-    out.copy_within(110 + 5 * (place + 1)..110 + 5 * (last + 1), 110 + 5 * place);
-    out[110 + 5 * last..190].fill(0);
-    out[0] -= 1;
+    let last = usize::from(block[block::ASSEMBLIES]) - 1;
+    for i in place..last {
+        for (from, to) in block::fields(i + 1).into_iter().zip(block::fields(i)) {
+            out.copy_within(from, to.start);
+        }
+    }
+    for i in last..MOST_ASSEMBLIES {
+        block::fields(i).into_iter().for_each(|field| out[field].fill(0));
+    }
+    out[block::ASSEMBLIES] -= 1;
     out
 }
 
@@ -243,38 +250,43 @@ fn with_path(request: &[u8], from: usize, path: &[u8]) -> Vec<u8> {
 fn simpler(call: &Call) -> Vec<Call> {
     let mut all = Vec::new();
     match call {
-        Call::Setup { block, eds, seed } if block.len() == 192 && block[0] <= 16 => {
+        Call::Setup { block, eds, seed }
+            if block.len() == BLOCK && usize::from(block[block::ASSEMBLIES]) <= MOST_ASSEMBLIES =>
+        {
             let mut change = |change: &dyn Fn(&mut Vec<u8>, &mut Vec<u8>)| {
                 let (mut block, mut eds) = (block.clone(), eds.clone());
                 change(&mut block, &mut eds);
                 all.push(Call::Setup { block, eds, seed: *seed });
             };
-            for place in (0..usize::from(block[0])).rev() {
+            for place in (0..usize::from(block[block::ASSEMBLIES])).rev() {
                 change(&|b, _| *b = without_assembly(block, place));
-                change(&|b, _| b[110 + 5 * place + 3] = 0);
+                let size = block::size(place);
+                change(&|b, _| b[size + 1] = 0);
                 change(&|b, _| {
-                    b[110 + 5 * place + 2] = b[110 + 5 * place + 2].min(4);
-                    b[110 + 5 * place + 3] = 0;
+                    b[size] = b[size].min(4);
+                    b[size + 1] = 0;
                 });
             }
             change(&|b, e| {
-                b[4] = 0;
+                b[block::EDS] = 0;
                 e.clear();
             });
             change(&|_, e| e.truncate(e.len() / 2));
             change(&|b, _| {
-                b[2] = 0;
-                b[46..78].fill(0);
+                b[block::NAME_LENGTH] = 0;
+                b[block::NAME..block::NAME + MOST_NAME].fill(0);
             });
             change(&|b, _| {
-                b[3] = 0;
-                b[78..110].fill(0);
+                b[block::EDS_NAME_LENGTH] = 0;
+                b[block::EDS_NAME..block::EDS_NAME + MOST_NAME].fill(0);
             });
-            change(&|b, _| b[40..46].fill(0));
-            change(&|b, _| b[16..20].fill(0));
+            change(&|b, _| b[block::MAC..block::MAC + 6].fill(0));
+            change(&|b, _| b[block::SERIAL..block::SERIAL + 4].fill(0));
             change(&|b, _| {
-                let used = 110 + 5 * usize::from(b[0]);
-                b[used..].fill(0);
+                for i in usize::from(b[block::ASSEMBLIES])..MOST_ASSEMBLIES {
+                    block::fields(i).into_iter().for_each(|field| b[field].fill(0));
+                }
+                b[block::SPARE..].fill(0);
             });
         }
         Call::SetInput { instance, data } => {

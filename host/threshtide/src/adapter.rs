@@ -2,6 +2,7 @@
 
 use crate::answer::{No, OpenError, not_in_the_contract, read, read_open};
 use crate::opening::{Opened, Origin, Service};
+use crate::places::SLOT;
 use crate::records::{Connection, Event, Output, Packets, RECORD, Stats, u64_at};
 use crate::setup::{AssemblyKind, Setup, SetupError};
 use crate::sys;
@@ -9,11 +10,11 @@ use std::fmt;
 use std::net::{Ipv4Addr, SocketAddrV4};
 
 /// The most bytes that a [`produce`](Adapter::produce) can give: 32 packets of 512 bytes of data.
-pub const MAX_PACKETS: usize = 32 * (13 + 20 + 512);
+pub const MAX_PACKETS: usize = 32 * (13 + 20 + SLOT);
 /// The room that a reply to a [`message`](Adapter::message) asks for.
 const MAX_REPLY: usize = 516;
 /// The run byte and the largest output.
-const MAX_OUTPUT: usize = 1 + 512;
+const MAX_OUTPUT: usize = 1 + SLOT;
 /// The records of a full table.
 const MAX_RECORDS: usize = 32 * RECORD;
 

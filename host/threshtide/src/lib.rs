@@ -80,7 +80,13 @@
 
 mod adapter;
 mod answer;
+// the comparison uses more of these two than this crate does
+#[allow(dead_code)]
+mod block;
 mod opening;
+#[allow(dead_code)]
+#[rustfmt::skip]
+mod places;
 mod records;
 mod routing;
 mod setup;

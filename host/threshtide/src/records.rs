@@ -71,7 +71,7 @@ pub enum Event {
 }
 
 /// The size of an event or connection record.
-pub(crate) const RECORD: usize = 32;
+pub(crate) use crate::places::RECORD;
 
 pub(crate) fn u16_at(bytes: &[u8], at: usize) -> u16 {
     u16::from_le_bytes([bytes[at], bytes[at + 1]])

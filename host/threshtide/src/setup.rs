@@ -1,10 +1,12 @@
 //! What an adapter is set up with.
 
+use crate::block;
+use crate::places::SETUP_SIZE;
 use std::error::Error;
 use std::fmt;
 
 /// The bytes of a setup block.
-pub const BLOCK_SIZE: usize = 192;
+pub const BLOCK_SIZE: usize = SETUP_SIZE;
 
 /// What an assembly carries.
 #[derive(Clone, Copy, Debug, PartialEq, Eq, Hash)]
@@ -213,25 +215,29 @@ impl Setup {
         }
         let mut out = [0; BLOCK_SIZE];
         let mut put = |at: usize, bytes: &[u8]| out[at..at + bytes.len()].copy_from_slice(bytes);
-        put(0, &[count as u8, self.transfer_limit, name as u8, eds_name as u8]);
-        put(4, &u32::from(self.eds.is_some()).to_le_bytes());
-        put(8, &self.vendor.to_le_bytes());
-        put(10, &self.device_type.to_le_bytes());
-        put(12, &self.product_code.to_le_bytes());
-        put(14, &[self.revision.0, self.revision.1]);
-        put(16, &self.serial.to_le_bytes());
-        put(20, &self.input_only_heartbeat.to_le_bytes());
-        put(24, &self.listen_only_heartbeat.to_le_bytes());
-        put(28, &self.rpi_min.to_le_bytes());
-        put(32, &self.rpi_max.to_le_bytes());
-        put(36, &self.late_limit.to_le_bytes());
-        put(40, &self.mac);
-        put(46, &self.product_name);
-        put(78, &self.eds_name);
+        put(block::ASSEMBLIES, &[count as u8]);
+        put(block::TRANSFER_LIMIT, &[self.transfer_limit]);
+        put(block::NAME_LENGTH, &[name as u8]);
+        put(block::EDS_NAME_LENGTH, &[eds_name as u8]);
+        put(block::EDS, &u32::from(self.eds.is_some()).to_le_bytes());
+        put(block::VENDOR, &self.vendor.to_le_bytes());
+        put(block::DEVICE_TYPE, &self.device_type.to_le_bytes());
+        put(block::PRODUCT_CODE, &self.product_code.to_le_bytes());
+        put(block::MAJOR, &[self.revision.0]);
+        put(block::MINOR, &[self.revision.1]);
+        put(block::SERIAL, &self.serial.to_le_bytes());
+        put(block::INPUT_ONLY, &self.input_only_heartbeat.to_le_bytes());
+        put(block::LISTEN_ONLY, &self.listen_only_heartbeat.to_le_bytes());
+        put(block::RPI_MIN, &self.rpi_min.to_le_bytes());
+        put(block::RPI_MAX, &self.rpi_max.to_le_bytes());
+        put(block::LATE_LIMIT, &self.late_limit.to_le_bytes());
+        put(block::MAC, &self.mac);
+        put(block::NAME, &self.product_name);
+        put(block::EDS_NAME, &self.eds_name);
         for (i, a) in self.assemblies.iter().enumerate() {
-            put(110 + 5 * i, &a.instance.to_le_bytes());
-            put(112 + 5 * i, &a.size.to_le_bytes());
-            put(114 + 5 * i, &[a.kind.number()]);
+            put(block::instance(i), &a.instance.to_le_bytes());
+            put(block::size(i), &a.size.to_le_bytes());
+            put(block::kind(i), &[a.kind.number()]);
         }
         Ok(out)
     }

@@ -1,6 +1,12 @@
 //! Lent state of any bytes: every call ends with one of its own numbers, and where it refuses, nothing changes.
 
-use threshtide::{Adapter, Assembly, Setup, sys};
+#[path = "../src/places.rs"]
+#[allow(dead_code)]
+#[rustfmt::skip]
+mod places;
+
+use places::{EVENTS, RECORD};
+use threshtide::{Adapter, Assembly, BLOCK_SIZE, Setup, sys};
 
 /// SplitMix64.
 struct Rng(u64);
@@ -112,7 +118,7 @@ fn call(which: usize, state: &mut [u8], upload: &mut [u8], out: &mut [u8], rng: 
                 )
             }
             _ => {
-                let block = rng.bytes(192);
+                let block = rng.bytes(BLOCK_SIZE);
                 sys::threshtide_setup(s, n, block.as_ptr(), block.len(), b, k, 1)
             }
         }
@@ -128,7 +134,7 @@ fn every_call_answers_for_any_state() {
         let mut state = starts[rng.below(3)].clone();
         for _ in 0..rng.below(6) {
             // setup, head, marks, table and the first events
-            let at = rng.below(2_700);
+            let at = rng.below(EVENTS + 4 * RECORD);
             state[at] = if rng.below(2) == 0 { rng.next() as u8 } else { 0xFF };
         }
         // SAFETY: takes nothing.

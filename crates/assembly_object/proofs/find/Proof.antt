@@ -3,11 +3,10 @@ use Prim.Native.Nat.{_≤_, _-_}
 use mathlib.Core.Path.{_≡_, sym, _∙_}
 use lib.ListN.{drop}
 use borrow.Author.Tests.{eq-eqb, ne-eqb}
-use Rattle.cells.specs.Numbers.{le}
-use Rattle.tables.specs.Tables.{rows}
 use Rattle.rules.specs.Lists.{place}
-use Rattle.layout.specs.Setups.{decShape}
-use Rattle.image.specs.Searches.{later, later-zero, search-hit, search-miss, search-ends}
+use Rattle.layout.specs.Setups.{decShape, shapesOf}
+use Rattle.layout.specs.Places.{shapesAt, assembliesOf}
+use Rattle.searches.specs.Searches.{later, later-zero, search-hit, search-miss, search-ends}
 use Rattle.assembly_object.specs.Instances.{hasInstance}
 use borrow.Author.Needs.{needs}
 use native.Mathlib.Omega.{arith}
@@ -15,7 +14,7 @@ use Rattle.assembly_object.proofs.find.Statement.{statement}
 use Rattle.assembly_object.proofs.find.Tie as tie
 
 abbrev Inv-loop : tie.InvT-loop
-Inv-loop r instance n i₀ i = (i ≤ n) × (place (hasInstance instance) (rows 5 decShape (le 1 r 0) (drop 110 r)) ≡ later i (place (hasInstance instance) (drop i (rows 5 decShape (le 1 r 0) (drop 110 r)))))
+Inv-loop r instance n i₀ i = (i ≤ n) × (place (hasInstance instance) (shapesOf r) ≡ later i (place (hasInstance instance) (drop i (shapesOf r))))
 
 abbrev μ-loop : tie.MeasureT-loop
 μ-loop r instance n i₀ i = n - i
@@ -27,7 +26,7 @@ cast-n : tie.Need-cast-n Inv-loop μ-loop
 cast-n c = omega arith
 
 loop-holds : tie.Need-loop-holds Inv-loop μ-loop
-loop-holds c = let a = c .before .before .args in (omega arith, sym (later-zero (place (hasInstance (a .instance)) (rows 5 decShape (le 1 (a .r .now) 0) (drop 110 (a .r .now))))))
+loop-holds c = let a = c .before .before .args in (omega arith, sym (later-zero (place (hasInstance (a .instance)) (shapesOf (a .r .now)))))
 
 instance-at-requires : tie.Need-instance-at-requires Inv-loop μ-loop
 instance-at-requires c κs = let e = c .before .before .u8-at .ensures in let p = c .before .before .before .before .pre in (omega arith, omega arith)
@@ -44,7 +43,7 @@ returns c =
     let a = at-entry .args in
     let w = at-loop .loop in
     let e = at-u8-at .u8-at .ensures in
-    sym (w .inv .1 ∙ search-hit 5 decShape (hasInstance (a .instance)) (le 1 (a .r .now) 0) (drop 110 (a .r .now)) (w .i) (omega arith)
+    sym (w .inv .1 ∙ search-hit 5 decShape (hasInstance (a .instance)) (assembliesOf (a .r .now)) (drop shapesAt (a .r .now)) (w .i) (omega arith)
     (eq-eqb _ _ (sym (at-instance-at .instance-at .ensures) ∙ c .if1 .taken)))
 
 add-i : tie.Need-add-i Inv-loop μ-loop
@@ -63,12 +62,12 @@ loop-again c =
     let w = at-loop .loop in
     let e = at-u8-at .u8-at .ensures in (
       omega arith,
-      w .inv .1 ∙ search-miss 5 decShape (hasInstance (a .instance)) (le 1 (a .r .now) 0) (drop 110 (a .r .now)) (w .i) (omega arith)
+      w .inv .1 ∙ search-miss 5 decShape (hasInstance (a .instance)) (assembliesOf (a .r .now)) (drop shapesAt (a .r .now)) (w .i) (omega arith)
           (ne-eqb _ _ (λ q. c .if1 .left (at-instance-at .instance-at .ensures ∙ q))),
     )
 
 returns-2 : tie.Need-returns-2 Inv-loop μ-loop
-returns-2 c = let a = c .before .before .before .before .args in let w = c .before .loop in let e = c .before .before .u8-at .ensures in sym (w .inv .1 ∙ search-ends 5 decShape (hasInstance (a .instance)) (le 1 (a .r .now) 0) (drop 110 (a .r .now)) (w .i) (omega arith))
+returns-2 c = let a = c .before .before .before .before .args in let w = c .before .loop in let e = c .before .before .u8-at .ensures in sym (w .inv .1 ∙ search-ends 5 decShape (hasInstance (a .instance)) (assembliesOf (a .r .now)) (drop shapesAt (a .r .now)) (w .i) (omega arith))
 
 pub find-spec : {M : Type 1} → statement M
 find-spec =

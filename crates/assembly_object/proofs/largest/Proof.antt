@@ -2,10 +2,9 @@ use Prim.Native.Nat.{_+_, _≤_, _-_, max}
 use mathlib.Core.Path.{_≡_, ap, sym, _∙_}
 use Prim.Native.Nat.{ℕ}
 use lib.ListN.{drop}
-use Rattle.cells.specs.Numbers.{le}
-use Rattle.tables.specs.Tables.{rows}
 use Rattle.rules.specs.Objects.{largestInstance}
-use Rattle.layout.specs.Setups.{decShape}
+use Rattle.layout.specs.Setups.{shapesOf}
+use Rattle.layout.specs.Places.{assembliesOf}
 use Rattle.assembly_object.specs.Instances.{largest-starts, largest-on, largest-ends}
 use borrow.Author.Needs.{needs}
 use native.Mathlib.Omega.{arith}
@@ -13,7 +12,7 @@ use Rattle.assembly_object.proofs.largest.Statement.{statement}
 use Rattle.assembly_object.proofs.largest.Tie as tie
 
 abbrev Inv-loop : tie.InvT-loop
-Inv-loop r n most₀ i₀ most i = (i ≤ n) × (max most (largestInstance (drop i (rows 5 decShape (le 1 r 0) (drop 110 r)))) ≡ largestInstance (rows 5 decShape (le 1 r 0) (drop 110 r)))
+Inv-loop r n most₀ i₀ most i = (i ≤ n) × (max most (largestInstance (drop i (shapesOf r))) ≡ largestInstance (shapesOf r))
 
 abbrev μ-loop : tie.MeasureT-loop
 μ-loop r n most₀ i₀ most i = n - i
@@ -25,7 +24,7 @@ cast-n : tie.Need-cast-n Inv-loop μ-loop
 cast-n c = omega arith
 
 loop-holds : tie.Need-loop-holds Inv-loop μ-loop
-loop-holds c = let a = c .before .before .args in (omega arith, largest-starts (le 1 (a .r .now) 0) (a .r .now))
+loop-holds c = let a = c .before .before .args in (omega arith, largest-starts (assembliesOf (a .r .now)) (a .r .now))
 
 instance-at-requires : tie.Need-instance-at-requires Inv-loop μ-loop
 instance-at-requires c κs = let e = c .before .before .u8-at .ensures in let p = c .before .before .before .before .pre in (omega arith, omega arith)
@@ -43,12 +42,12 @@ loop-again : tie.Need-loop-again Inv-loop μ-loop
 loop-again c =
     let a = c .before .before .before .before .before .before .args in let w = c .before .before .before .loop in let e = c .before .before .before .before .u8-at .ensures in (
       omega arith,
-      ap (λ (m : ℕ). max m (largestInstance (drop (w .i + 1) (rows 5 decShape (le 1 (a .r .now) 0) (drop 110 (a .r .now)))))) (c .greater .ensures)
-          ∙ largest-on (le 1 (a .r .now) 0) (a .r .now) (w .i) (w .most) (omega arith) _ (c .before .instance-at .ensures) ∙ w .inv .1,
+      ap (λ (m : ℕ). max m (largestInstance (drop (w .i + 1) (shapesOf (a .r .now))))) (c .greater .ensures)
+          ∙ largest-on (assembliesOf (a .r .now)) (a .r .now) (w .i) (w .most) (omega arith) _ (c .before .instance-at .ensures) ∙ w .inv .1,
     )
 
 returns : tie.Need-returns Inv-loop μ-loop
-returns c = let a = c .before .before .before .before .args in let w = c .before .loop in let e = c .before .before .u8-at .ensures in largest-ends (le 1 (a .r .now) 0) (a .r .now) (w .i) (w .most) (omega arith) ∙ w .inv .1
+returns c = let a = c .before .before .before .before .args in let w = c .before .loop in let e = c .before .before .u8-at .ensures in largest-ends (assembliesOf (a .r .now)) (a .r .now) (w .i) (w .most) (omega arith) ∙ w .inv .1
 
 pub largest-spec : {M : Type 1} → statement M
 largest-spec =

@@ -6,6 +6,7 @@ use lib.ListN.{take, drop}
 use Rattle.rules.specs.State.{contentAt}
 use Rattle.rules.specs.Attributes.{Gives}
 use Rattle.rules.specs.Objects.{assemblyAttributes}
+use Rattle.layout.specs.Places.{dataFrom}
 use Rattle.image.specs.Image.{view}
 use Rattle.application.specs.Assemblies.{size-is, size-small, data-is}
 use Rattle.attributes.specs.Told.{told}
@@ -48,7 +49,7 @@ same-length c = search needs
 returns : tie.Need-returns
 unfolding assemblyAttributes
 returns c =
-    let k = c .before .before .before .before .before .before .before .before .before in let s : List ℕ = k .args .s .now in let at : ℕ = 35328 + k .args .i * 512 in
+    let k = c .before .before .before .before .before .before .before .before .before in let s : List ℕ = k .args .s .now in let at : ℕ = dataFrom + k .args .i * 512 in
     value-is _ (assemblyAttributes (contentAt (view s) (k .args .i))) _ 3 _ (Gives (contentAt (view s) (k .args .i) .bytes)) (c .before .before .before .before .before .if1 .taken) refl
     (c .before .before .bytes .ensures ∙ ap (λ (z : List ℕ). told (Gives z) (k .args .out .now))
     (ap (λ (m : ℕ). take m (drop at s)) (add-sub-cancel-left at (c .before .before .before .before .before .before .size-at .result) ∙ c .before .before .before .before .before .before .size-at .ensures)

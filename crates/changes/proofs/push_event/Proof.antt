@@ -1,19 +1,18 @@
+-- The record goes into the slot behind the last, or over the oldest; then the ring's word is written.
 use native.Mathlib.Omega.{arith}
 use mathlib.Core.Path.{ap, _∙_}
-use Prim.Native.Nat.{ℕ, _+_, _*_, _%_}
+use Prim.Native.Nat.{ℕ, _+_, _*_, _/_, _%_}
 use mathlib.Core.List.{List}
 use Rattle.cells.specs.Numbers.{put}
-use Rattle.image.specs.Kept.{kept-room, kept-full}
+use Rattle.layout.specs.Places.{eventsAt, ringAt}
+use Rattle.image.specs.Kept.{kept-pushed}
 use Rattle.image.specs.Changes.{push-room, push-full}
 use borrow.Author.Needs.{needs}
 use Rattle.changes.proofs.push_event.Statement.{statement}
 use Rattle.changes.proofs.push_event.Tie as tie
 
-u16-at-requires : tie.Need-u16-at-requires
-u16-at-requires c κs = search needs
-
-u16-at-requires-2 : tie.Need-u16-at-requires-2
-u16-at-requires-2 c κs = search needs
+u32-at-requires : tie.Need-u32-at-requires
+u32-at-requires c κs = search needs
 
 add-slot : tie.Need-add-slot
 add-slot c = search needs
@@ -30,23 +29,28 @@ add-copy-in c = search needs
 copy-in-requires : tie.Need-copy-in-requires
 copy-in-requires c κs = search needs
 
-add-put-u16 : tie.Need-add-put-u16
-add-put-u16 c = search needs
+add-put-u32 : tie.Need-add-put-u32
+add-put-u32 c = search needs
 
-put-u16-requires : tie.Need-put-u16-requires
-put-u16-requires c κs = search needs
+put-u32-requires : tie.Need-put-u32-requires
+put-u32-requires c κs = search needs
 
 same-length : tie.Need-same-length
 same-length c = search needs
 
 returns : tie.Need-returns
 returns c =
-    let s = c .before .before .before .before .before .before .before .before .before .before .before .before .before .before .before .args .s .now in
-    let e = c .before .before .before .before .before .before .before .before .before .before .before .before .before .before .before .args .e .now in
-    let g = c .before .before .before .before .before .before .before .before .before .before .before .u16-at .result in
-    let n = c .before .before .before .before .before .before .before .before .before .u16-at2 .result in
-    rw (c .before .before .put-u16 .ensures ∙ ap (λ (z : List ℕ). put 2 z 222 (n + 1)) (c .before .before .before .before .before .before .copy-in .ensures))
-    (kept-room s (c .before .before .before .before .before .before .before .before .before .before .before .before .before .before .before .pre .0) (2560 + ((g + n) % 1024) * 32) e (n + 1) (omega arith) (omega arith), push-room s e (c .before .before .before .before .before .before .before .before .before .before .before .before .before .before .before .pre .1) g n (c .before .before .before .before .before .before .before .before .before .before .before .u16-at .ensures) (c .before .before .before .before .before .before .before .before .before .u16-at2 .ensures) (omega arith))
+    let at-put = c .before .before in
+    let at-copy = at-put .before .before .before .before in
+    let at-read = at-copy .before .before .before in
+    let at-entry = at-read .before .before .before .before in
+    let s = at-entry .args .s .now in
+    let e = at-entry .args .e .now in
+    let w : ℕ = at-read .u32-at .result in
+    rw (at-put .put-u32 .ensures ∙ ap (λ (z : List ℕ). put 4 z ringAt (w + 2048)) (at-copy .copy-in .ensures)) (
+      kept-pushed s (at-entry .pre .0) (eventsAt + ((w / 2 % 1024 + w / 2048) % 1024) * 32) e (w + 2048) (omega arith) (omega arith),
+      push-room s e (at-entry .pre .1) w (at-read .u32-at .ensures) (omega arith),
+    )
 
 cast-copy-in : tie.Need-cast-copy-in
 cast-copy-in c = search needs
@@ -60,44 +64,67 @@ add-copy-in-2 c = search needs
 copy-in-requires-2 : tie.Need-copy-in-requires-2
 copy-in-requires-2 c κs = search needs
 
-add-put-u16-2 : tie.Need-add-put-u16-2
-add-put-u16-2 c = search needs
+mul-put-u32 : tie.Need-mul-put-u32
+mul-put-u32 c = search needs
 
-put-u16-requires-2 : tie.Need-put-u16-requires-2
-put-u16-requires-2 c κs = search needs
+add-put-u32-2 : tie.Need-add-put-u32-2
+add-put-u32-2 c = search needs
+
+mul-put-u32-2 : tie.Need-mul-put-u32-2
+mul-put-u32-2 c = search needs
+
+add-put-u32-3 : tie.Need-add-put-u32-3
+add-put-u32-3 c = search needs
+
+add-put-u32-4 : tie.Need-add-put-u32-4
+add-put-u32-4 c = search needs
+
+put-u32-requires-2 : tie.Need-put-u32-requires-2
+put-u32-requires-2 c κs = search needs
 
 same-length-2 : tie.Need-same-length-2
 same-length-2 c = search needs
 
 returns-2 : tie.Need-returns-2
 returns-2 c =
-    let s = c .before .before .before .before .before .before .before .before .before .before .before .before .before .before .before .args .s .now in
-    let e = c .before .before .before .before .before .before .before .before .before .before .before .before .before .before .before .args .e .now in
-    let g = c .before .before .before .before .before .before .before .before .before .before .before .u16-at .result in
-    let n = c .before .before .before .before .before .before .before .before .before .u16-at2 .result in
-    rw (c .before .before .put-u162 .ensures ∙ ap (λ (z : List ℕ). put 2 z 220 ((g + 1) % 1024)) (c .before .before .before .before .before .before .copy-in2 .ensures))
-    (kept-full s (c .before .before .before .before .before .before .before .before .before .before .before .before .before .before .before .pre .0) (2560 + g * 32) e ((g + 1) % 1024) (omega arith) (omega arith), push-full s e (c .before .before .before .before .before .before .before .before .before .before .before .before .before .before .before .pre .1) g n (c .before .before .before .before .before .before .before .before .before .before .before .u16-at .ensures) (c .before .before .before .before .before .before .before .before .before .u16-at2 .ensures) (omega arith))
+    let at-put = c .before .before in
+    let at-copy = at-put .before .before .before .before in
+    let at-read = at-copy .before .before .before in
+    let at-entry = at-read .before .before .before .before in
+    let s = at-entry .args .s .now in
+    let e = at-entry .args .e .now in
+    let w : ℕ = at-read .u32-at .result in
+    let v : ℕ = w / 2048 * 2048 + (w / 2 % 1024 + 1) % 1024 * 2 + w % 2 in
+    let few = at-entry .pre .0 .events in
+    let word = at-read .u32-at .ensures in
+    rw (at-put .put-u322 .ensures ∙ ap (λ (z : List ℕ). put 4 z ringAt v) (at-copy .copy-in2 .ensures)) (
+      kept-pushed s (at-entry .pre .0) (eventsAt + (w / 2 % 1024) * 32) e v (omega arith) (omega arith),
+      push-full s e (at-entry .pre .1) w word (omega arith),
+    )
 
 pub push-event-spec : {M : Type 1} → statement M
 push-event-spec =
     tie.close
     (tie.spec
-    u16-at-requires
-    u16-at-requires-2
+    u32-at-requires
     add-slot
     cast-slot
     mul-copy-in
     add-copy-in
     copy-in-requires
-    add-put-u16
-    put-u16-requires
+    add-put-u32
+    put-u32-requires
     same-length
     returns
     cast-copy-in
     mul-copy-in-2
     add-copy-in-2
     copy-in-requires-2
-    add-put-u16-2
-    put-u16-requires-2
+    mul-put-u32
+    add-put-u32-2
+    mul-put-u32-2
+    add-put-u32-3
+    add-put-u32-4
+    put-u32-requires-2
     same-length-2
     returns-2)

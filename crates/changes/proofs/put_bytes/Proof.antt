@@ -5,6 +5,7 @@ use Rattle.image.specs.Changes.{bytes-become}
 use borrow.Author.Needs.{needs}
 use Rattle.changes.proofs.put_bytes.Statement.{statement}
 use Rattle.changes.proofs.put_bytes.Tie as tie
+use Rattle.layout.specs.Places.{dataFrom}
 
 mul-copy-in : tie.Need-mul-copy-in
 mul-copy-in c = search needs
@@ -23,7 +24,7 @@ returns c =
     let s = c .before .before .before .before .before .before .args .s .now in
     let i = c .before .before .before .before .before .before .args .i in
     let d = c .before .before .before .before .before .before .args .d .now in
-    rw (c .before .before .copy-in .ensures) (kept-sets s (c .before .before .before .before .before .before .pre .0) (35328 + i * 512) d (omega arith), bytes-become s i d (c .before .before .before .before .before .before .pre .1))
+    rw (c .before .before .copy-in .ensures) (kept-sets s (c .before .before .before .before .before .before .pre .0) (dataFrom + i * 512) d (omega arith), bytes-become s i d (c .before .before .before .before .before .before .pre .1))
 
 pub put-bytes-spec : {M : Type 1} → statement M
 put-bytes-spec = tie.close (tie.spec mul-copy-in add-copy-in copy-in-requires same-length returns)

@@ -1,13 +1,13 @@
 use native.Mathlib.Omega.{arith}
 use Prim.Native.Nat.{_≤_, _*_, _-_}
 use mathlib.Core.Path.{_≡_, refl}
-use Rattle.cells.specs.Numbers.{le}
+use Rattle.layout.specs.Places.{connectionsOf, maxLateOf}
 use Rattle.counting.specs.CountLaws.{TallySoFar, tally-start, tally-turn, tally-end}
 use Rattle.counting.proofs.count_all.Statement.{statement}
 use Rattle.counting.proofs.count_all.Tie as tie
 
 abbrev Inv-loop : tie.InvT-loop
-Inv-loop s time n limit k₀ i₀ k i = (i ≤ n) × (k .need ≤ i * 545) × (k .count ≤ i) × (k .late ≤ i) × (n ≡ le 2 s 224) × (n ≤ 32) × TallySoFar time limit (le 8 s 208) i s k
+Inv-loop s time n limit k₀ i₀ k i = (i ≤ n) × (k .need ≤ i * 545) × (k .count ≤ i) × (k .late ≤ i) × (n ≡ connectionsOf s) × (n ≤ 32) × TallySoFar time limit (maxLateOf s) i s k
 
 abbrev μ-loop : tie.MeasureT-loop
 μ-loop s time n limit k₀ i₀ k i = n - i
@@ -33,7 +33,7 @@ loop-holds c =
       omega arith,
       c .before .before .u16-at .ensures,
       (let e = c .before .before .before .before .pre .0 .conns in let f = c .before .before .u16-at .ensures in omega arith),
-      tally-start (a .time) (c .before .late-limit .result) (le 8 (a .s .now) 208) (a .s .now) (c .u64-at .result) (c .u64-at .ensures),
+      tally-start (a .time) (c .before .late-limit .result) (maxLateOf (a .s .now)) (a .s .now) (c .u64-at .result) (c .u64-at .ensures),
     )
 
 count-row-requires : tie.Need-count-row-requires Inv-loop μ-loop
@@ -59,16 +59,16 @@ loop-again c =
       (let x = q .2 in let y = w .inv .3 in omega arith),
       w .inv .4,
       w .inv .5,
-      tally-turn (a .time) (c .before .before .before .before .late-limit .result) (le 8 (a .s .now) 208) (a .s .now) (w .i) (w .k) (c .count-row .result) (let e = w .inv .4 in omega arith) (w .inv .6) (q .3),
+      tally-turn (a .time) (c .before .before .before .before .late-limit .result) (maxLateOf (a .s .now)) (a .s .now) (w .i) (w .k) (c .count-row .result) (let e = w .inv .4 in omega arith) (w .inv .6) (q .3),
     )
 
 returns : tie.Need-returns Inv-loop μ-loop
 returns c =
     let w = c .before .loop in
     let a = c .before .before .before .before .before .before .args in
-    let r : le 8 (a .s .now) 208 ≡ le 8 (a .s .now) 208 = refl in (
+    let r : maxLateOf (a .s .now) ≡ maxLateOf (a .s .now) = refl in (
       (let x = w .inv .1 in let y = w .inv .5 in omega arith),
-      tally-end (a .time) (c .before .before .before .late-limit .result) (le 8 (a .s .now) 208) (w .i) (a .s .now) (w .k) (c .before .before .before .late-limit .ensures) r (let e = w .inv .4 in omega arith) (w .inv .6),
+      tally-end (a .time) (c .before .before .before .late-limit .result) (maxLateOf (a .s .now)) (w .i) (a .s .now) (w .k) (c .before .before .before .late-limit .ensures) r (let e = w .inv .4 in omega arith) (w .inv .6),
     )
 
 pub count-all-spec : {M : Type 1} → statement M

@@ -3,16 +3,15 @@ use mathlib.Core.Path.{_≡_, refl, ap, sym, _∙_}
 use mathlib.Core.Option.{some}
 use native.Mathlib.Omega.{arith}
 use lib.ListN.{drop}
-use Rattle.tables.specs.Tables.{rows}
 use Rattle.rules.specs.Removal.{leastOf}
-use Rattle.layout.specs.Rows.{decConn}
+use Rattle.layout.specs.Rows.{connsIn}
 use Rattle.deadlines.specs.Deadlines.{least-turn, least-end, least-whole}
 use borrow.Author.Needs.{needs}
 use Rattle.deadlines.proofs.least.Statement.{statement}
 use Rattle.deadlines.proofs.least.Tie as tie
 
 abbrev Inv-loop : tie.InvT-loop
-Inv-loop r n first m₀ i₀ m i = (1 ≤ i) × (i ≤ n) × (leastOf m (drop i (rows 70 decConn n r)) ≡ leastOf m₀ (drop 1 (rows 70 decConn n r)))
+Inv-loop r n first m₀ i₀ m i = (1 ≤ i) × (i ≤ n) × (leastOf m (drop i (connsIn n r)) ≡ leastOf m₀ (drop 1 (connsIn n r)))
 
 abbrev μ-loop : tie.MeasureT-loop
 μ-loop r n first m₀ i₀ m i = n - i
@@ -36,7 +35,7 @@ loop-less : tie.Need-loop-less Inv-loop μ-loop
 loop-less c = search needs
 
 loop-again : tie.Need-loop-again Inv-loop μ-loop
-loop-again c = let w = c .before .before .before .loop in let a = c .before .before .before .before .before .before .args in (omega arith, omega arith, ap (λ z. leastOf z (drop (w .i + 1) (rows 70 decConn (a .n) (a .r .now)))) (c .lesser .ensures) ∙ sym (least-turn (a .n) (a .r .now) (w .m) (c .before .row-deadline2 .result) (w .i) (c .before .before .loop-test .taken) (c .before .row-deadline2 .ensures)) ∙ w .inv .2)
+loop-again c = let w = c .before .before .before .loop in let a = c .before .before .before .before .before .before .args in (omega arith, omega arith, ap (λ z. leastOf z (drop (w .i + 1) (connsIn (a .n) (a .r .now)))) (c .lesser .ensures) ∙ sym (least-turn (a .n) (a .r .now) (w .m) (c .before .row-deadline2 .result) (w .i) (c .before .before .loop-test .taken) (c .before .row-deadline2 .ensures)) ∙ w .inv .2)
 
 returns : tie.Need-returns Inv-loop μ-loop
 returns c = let w = c .before .loop in let a = c .before .before .before .before .args in least-whole (a .n) (a .r .now) (c .before .before .row-deadline .result) (c .before .before .before .before .pre .0) (c .before .before .row-deadline .ensures) ∙ ap some (sym (w .inv .2) ∙ least-end (a .n) (a .r .now) (w .m) (w .i) (c .loop-test .left))

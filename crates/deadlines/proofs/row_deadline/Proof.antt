@@ -1,6 +1,7 @@
-use Prim.Native.Nat.{_*_}
-use lib.ListN.{take, drop}
-use Rattle.deadlines.specs.Deadlines.{row-never, row-due}
+-- One less than the due number, modulo 2^64, is the due time, or the largest number for never.
+use native.Mathlib.Omega.{arith}
+use Rattle.layout.specs.Rows.{rowAt}
+use Rattle.deadlines.specs.Deadlines.{row-least}
 use borrow.Author.Needs.{needs}
 use Rattle.deadlines.proofs.row_deadline.Statement.{statement}
 use Rattle.deadlines.proofs.row_deadline.Tie as tie
@@ -8,32 +9,23 @@ use Rattle.deadlines.proofs.row_deadline.Tie as tie
 until-at-requires : tie.Need-until-at-requires
 until-at-requires c κs = search needs
 
-due-at-requires : tie.Need-due-at-requires
-due-at-requires c κs = search needs
+due-number-at-requires : tie.Need-due-number-at-requires
+due-number-at-requires c κs = search needs
 
-enum-told : tie.Need-enum-told
-enum-told c = search needs
-
-enum-known-due : tie.Need-enum-known-due
-enum-known-due c = search needs
+wrapping-sub-u64-requires : tie.Need-wrapping-sub-u64-requires
+wrapping-sub-u64-requires c κs = search needs
 
 lesser-requires : tie.Need-lesser-requires
 lesser-requires c κs = search needs
 
 returns : tie.Need-returns
-returns c = row-never (take 70 (drop (c .before .before .before .before .before .args .i * 70) (c .before .before .before .before .before .args .r .now))) (c .before .before .before .until-at .result) (c .before .before .due-at .result) (c .before .before .before .until-at .ensures) (c .before .before .due-at .ensures) (c .enum-told .given .1)
-
-returns-2 : tie.Need-returns-2
-returns-2 c = row-due (take 70 (drop (c .before .before .before .before .before .before .before .args .i * 70) (c .before .before .before .before .before .before .before .args .r .now))) (c .before .before .before .before .before .until-at .result) (c .before .before .before .before .due-at .result) (c .before .before .before .before .before .until-at .ensures) (c .before .before .before .before .due-at .ensures) (c .before .before .due .given .0 .0) (c .before .before .due .given .1) (c .lesser .result) (c .lesser .ensures)
+returns c =
+    let at-less = c .before in
+    let at-due = at-less .before in
+    let at-until = at-due .before in
+    let a = at-until .before .before .args in
+    row-least (rowAt (a .r .now) (a .i)) (at-until .until-at .result) (at-due .due-number-at .result) (at-less .wrapping-sub-u64 .result) (c .lesser .result)
+    (at-until .until-at .ensures) (at-due .due-number-at .ensures) (at-less .wrapping-sub-u64 .ensures) (c .lesser .ensures) (omega arith) (omega arith)
 
 pub row-deadline-spec : {M : Type 1} → statement M
-row-deadline-spec =
-    tie.close
-    (tie.spec
-    until-at-requires
-    due-at-requires
-    enum-told
-    enum-known-due
-    lesser-requires
-    returns
-    returns-2)
+row-deadline-spec = tie.close (tie.spec until-at-requires due-number-at-requires wrapping-sub-u64-requires lesser-requires returns)

@@ -1,9 +1,8 @@
 use mathlib.Core.List.{List, []}
 use mathlib.Core.Path.{ap, sym, _∙_}
-use Rattle.tables.specs.Tables.{rows}
 use Rattle.rules.specs.declared.Fixed.{Fixed}
 use Rattle.rules.specs.State.{Setup}
-use Rattle.layout.specs.Rows.{decFixed}
+use Rattle.layout.specs.Rows.{fixedsIn}
 use Rattle.layout.specs.Setups.{setupFrom}
 use Rattle.checking.specs.Says.{stopIn}
 use Rattle.deciding.specs.DecidedLaws.{verdict-stops, verdict-goes}
@@ -24,11 +23,11 @@ decide-answer-requires : tie.Need-decide-answer-requires
 decide-answer-requires c κs = search needs
 
 returns : tie.Need-returns
-returns c = let a = c .before .before .before .before .before .before .args in let u : Setup = setupFrom (a .r .now) [] in let tab : List Fixed = rows 70 decFixed (a .n) (a .t .now) in
+returns c = let a = c .before .before .before .before .before .before .args in let u : Setup = setupFrom (a .r .now) [] in let tab : List Fixed = fixedsIn (a .n) (a .t .now) in
     verdict-stops u tab (a .o) (a .answer) _ (sym (ap stopIn (c .before .why .given .1)) ∙ c .before .before .before .transport .ensures)
 
 returns-2 : tie.Need-returns-2
-returns-2 c = let a = c .before .before .before .before .before .before .args in let u : Setup = setupFrom (a .r .now) [] in let tab : List Fixed = rows 70 decFixed (a .n) (a .t .now) in
+returns-2 c = let a = c .before .before .before .before .before .before .args in let u : Setup = setupFrom (a .r .now) [] in let tab : List Fixed = fixedsIn (a .n) (a .t .now) in
     verdict-goes u tab (a .o) (a .answer) (sym (ap stopIn (c .before .enum-told .given .1)) ∙ c .before .before .before .transport .ensures) (c .decide-answer .result) (c .decide-answer .ensures)
 
 pub decide-spec : {M : Type 1} → statement M

@@ -1,8 +1,7 @@
 use mathlib.Core.List.{List, []}
-use Rattle.tables.specs.Tables.{rows}
 use Rattle.rules.specs.declared.Fixed.{Fixed}
 use Rattle.rules.specs.State.{Setup}
-use Rattle.layout.specs.Rows.{decFixed}
+use Rattle.layout.specs.Rows.{fixedsIn}
 use Rattle.layout.specs.Setups.{setupFrom}
 use Rattle.deciding.specs.DecidedLaws.{answer-broken, answer-parsed}
 use borrow.Author.Needs.{needs}
@@ -19,11 +18,11 @@ decide-path-requires : tie.Need-decide-path-requires
 decide-path-requires c κs = search needs
 
 returns : tie.Need-returns
-returns c = let a = c .before .before .before .before .before .args in let u : Setup = setupFrom (a .r .now) [] in let tab : List Fixed = rows 70 decFixed (a .n) (a .t .now) in
+returns c = let a = c .before .before .before .before .before .args in let u : Setup = setupFrom (a .r .now) [] in let tab : List Fixed = fixedsIn (a .n) (a .t .now) in
     answer-broken u tab (a .o) (a .answer) (c .before .answer .given .0 .0) (c .before .answer .given .1)
 
 returns-2 : tie.Need-returns-2
-returns-2 c = let a = c .before .before .before .before .before .before .args in let u : Setup = setupFrom (a .r .now) [] in let tab : List Fixed = rows 70 decFixed (a .n) (a .t .now) in
+returns-2 c = let a = c .before .before .before .before .before .before .args in let u : Setup = setupFrom (a .r .now) [] in let tab : List Fixed = fixedsIn (a .n) (a .t .now) in
     answer-parsed u tab (a .o) (a .answer) _ (c .before .before .answer2 .given .1) (c .decide-path .result) (c .decide-path .ensures)
 
 pub decide-answer-spec : {M : Type 1} → statement M

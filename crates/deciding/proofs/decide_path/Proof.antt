@@ -1,9 +1,8 @@
 use mathlib.Core.List.{List, []}
 use mathlib.Core.Path.{ap}
-use Rattle.tables.specs.Tables.{rows}
 use Rattle.rules.specs.declared.Fixed.{Fixed}
 use Rattle.rules.specs.State.{Setup}
-use Rattle.layout.specs.Rows.{decFixed}
+use Rattle.layout.specs.Rows.{fixedsIn}
 use Rattle.layout.specs.Setups.{setupFrom}
 use Rattle.rules.specs.Checks.{planOf}
 use Rattle.checking.specs.Says.{stopIn}
@@ -26,11 +25,11 @@ decide-points-requires : tie.Need-decide-points-requires
 decide-points-requires c κs = search needs
 
 returns : tie.Need-returns
-returns c = let a = c .before .before .before .before .before .before .args in let u : Setup = setupFrom (a .r .now) [] in let tab : List Fixed = rows 70 decFixed (a .n) (a .t .now) in
+returns c = let a = c .before .before .before .before .before .before .args in let u : Setup = setupFrom (a .r .now) [] in let tab : List Fixed = fixedsIn (a .n) (a .t .now) in
     group-stops (planOf u tab (a .o) (a .p)) (pathChecks u (a .p)) (pointChecks u tab (a .o) (a .p)) (stopIn (c .before .before .before .check-path .result)) (c .before .before .before .check-path .ensures) _ (ap stopIn (c .before .why .given .1))
 
 returns-2 : tie.Need-returns-2
-returns-2 c = let a = c .before .before .before .before .before .before .args in let u : Setup = setupFrom (a .r .now) [] in let tab : List Fixed = rows 70 decFixed (a .n) (a .t .now) in
+returns-2 c = let a = c .before .before .before .before .before .before .args in let u : Setup = setupFrom (a .r .now) [] in let tab : List Fixed = fixedsIn (a .n) (a .t .now) in
     group-holds (planOf u tab (a .o) (a .p)) (pathChecks u (a .p)) (pointChecks u tab (a .o) (a .p)) (stopIn (c .before .before .before .check-path .result)) (c .before .before .before .check-path .ensures) (ap stopIn (c .before .enum-told .given .1)) (c .decide-points .result) (c .decide-points .ensures)
 
 pub decide-path-spec : {M : Type 1} → statement M

@@ -1,8 +1,7 @@
 use mathlib.Core.List.{List, []}
-use Rattle.tables.specs.Tables.{rows}
 use Rattle.rules.specs.declared.Fixed.{Fixed}
 use Rattle.rules.specs.State.{Setup}
-use Rattle.layout.specs.Rows.{decFixed}
+use Rattle.layout.specs.Rows.{fixedsIn}
 use Rattle.layout.specs.Setups.{setupFrom}
 use Rattle.deciding.specs.DecidedLaws.{points-stop, points-are}
 use borrow.Author.Needs.{needs}
@@ -22,11 +21,11 @@ decide-roles-requires : tie.Need-decide-roles-requires
 decide-roles-requires c κs = search needs
 
 returns : tie.Need-returns
-returns c = let a = c .before .before .before .before .before .before .args in let u : Setup = setupFrom (a .r .now) [] in let tab : List Fixed = rows 70 decFixed (a .n) (a .t .now) in
+returns c = let a = c .before .before .before .before .before .before .args in let u : Setup = setupFrom (a .r .now) [] in let tab : List Fixed = fixedsIn (a .n) (a .t .now) in
     points-stop u tab (a .o) (a .p) (c .before .before .before .resolve .result) (c .before .before .before .resolve .ensures .0) (c .before .before .before .resolve .ensures .1) _ (c .before .why .given .1)
 
 returns-2 : tie.Need-returns-2
-returns-2 c = let a = c .before .before .before .before .before .before .before .args in let u : Setup = setupFrom (a .r .now) [] in let tab : List Fixed = rows 70 decFixed (a .n) (a .t .now) in
+returns-2 c = let a = c .before .before .before .before .before .before .before .args in let u : Setup = setupFrom (a .r .now) [] in let tab : List Fixed = fixedsIn (a .n) (a .t .now) in
     points-are u tab (a .o) (a .p) (c .before .before .before .before .resolve .result) (c .before .before .before .before .resolve .ensures .0) (c .before .before .before .before .resolve .ensures .1) _ (c .before .before .roles .given .1) (c .decide-roles .result) (c .decide-roles .ensures)
 
 pub decide-points-spec : {M : Type 1} → statement M

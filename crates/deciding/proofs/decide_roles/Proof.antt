@@ -1,9 +1,8 @@
 use mathlib.Core.List.{List, []}
 use mathlib.Core.Path.{ap}
-use Rattle.tables.specs.Tables.{rows}
 use Rattle.rules.specs.declared.Fixed.{Fixed}
 use Rattle.rules.specs.State.{Setup}
-use Rattle.layout.specs.Rows.{decFixed}
+use Rattle.layout.specs.Rows.{fixedsIn}
 use Rattle.layout.specs.Setups.{setupFrom}
 use Rattle.rules.specs.Checks.{Roles, streamOf}
 use Rattle.checking.specs.Says.{stopIn}
@@ -27,11 +26,11 @@ decide-table-requires : tie.Need-decide-table-requires
 decide-table-requires c κs = search needs
 
 returns : tie.Need-returns
-returns c = let a = c .before .before .before .before .before .before .args in let u : Setup = setupFrom (a .r .now) [] in let r : Roles = rolesIn (a .roles) in let tab : List Fixed = rows 70 decFixed (a .n) (a .t .now) in
+returns c = let a = c .before .before .before .before .before .before .args in let u : Setup = setupFrom (a .r .now) [] in let r : Roles = rolesIn (a .roles) in let tab : List Fixed = fixedsIn (a .n) (a .t .now) in
     group-stops (planFor r (a .p .datalen) (streamOf (a .o) r tab)) (sizeChecks u (a .o) (a .p) r) (tableChecks u tab (a .o) r) (stopIn (c .before .before .before .check-sizes .result)) (c .before .before .before .check-sizes .ensures) _ (ap stopIn (c .before .why .given .1))
 
 returns-2 : tie.Need-returns-2
-returns-2 c = let a = c .before .before .before .before .before .before .args in let u : Setup = setupFrom (a .r .now) [] in let r : Roles = rolesIn (a .roles) in let tab : List Fixed = rows 70 decFixed (a .n) (a .t .now) in
+returns-2 c = let a = c .before .before .before .before .before .before .args in let u : Setup = setupFrom (a .r .now) [] in let r : Roles = rolesIn (a .roles) in let tab : List Fixed = fixedsIn (a .n) (a .t .now) in
     group-holds (planFor r (a .p .datalen) (streamOf (a .o) r tab)) (sizeChecks u (a .o) (a .p) r) (tableChecks u tab (a .o) r) (stopIn (c .before .before .before .check-sizes .result)) (c .before .before .before .check-sizes .ensures) (ap stopIn (c .before .enum-told .given .1)) (c .decide-table .result) (c .decide-table .ensures)
 
 pub decide-roles-spec : {M : Type 1} → statement M

@@ -1,9 +1,8 @@
 use mathlib.Core.List.{List, []}
 use mathlib.Core.Path.{ap, _∙_}
-use Rattle.tables.specs.Tables.{rows}
 use Rattle.rules.specs.declared.Fixed.{Fixed}
 use Rattle.rules.specs.State.{Setup}
-use Rattle.layout.specs.Rows.{decFixed}
+use Rattle.layout.specs.Rows.{fixedsIn}
 use Rattle.layout.specs.Setups.{setupFrom}
 use Rattle.rules.specs.Checks.{Roles}
 use Rattle.checking.specs.Says.{stopIn}
@@ -30,11 +29,11 @@ plan-of-requires : tie.Need-plan-of-requires
 plan-of-requires c κs = search needs
 
 returns : tie.Need-returns
-returns c = let a = c .before .before .before .before .before .before .before .args in let u : Setup = setupFrom (a .r .now) [] in let r : Roles = rolesIn (a .roles) in let tab : List Fixed = rows 70 decFixed (a .n) (a .t .now) in
+returns c = let a = c .before .before .before .before .before .before .before .args in let u : Setup = setupFrom (a .r .now) [] in let r : Roles = rolesIn (a .roles) in let tab : List Fixed = fixedsIn (a .n) (a .t .now) in
     table-stops u tab (a .o) r (a .datalen) (c .before .before .before .before .stream-of .result) (c .before .before .before .before .stream-of .ensures ∙ stream-reads (a .o) r tab) (stopIn (c .before .before .before .check-table .result)) (c .before .before .before .check-table .ensures) _ (ap stopIn (c .before .why .given .1))
 
 returns-2 : tie.Need-returns-2
-returns-2 c = let a = c .before .before .before .before .before .before .before .args in let u : Setup = setupFrom (a .r .now) [] in let r : Roles = rolesIn (a .roles) in let tab : List Fixed = rows 70 decFixed (a .n) (a .t .now) in
+returns-2 c = let a = c .before .before .before .before .before .before .before .args in let u : Setup = setupFrom (a .r .now) [] in let r : Roles = rolesIn (a .roles) in let tab : List Fixed = fixedsIn (a .n) (a .t .now) in
     table-holds u tab (a .o) r (a .datalen) (c .before .before .before .before .stream-of .result) (c .before .before .before .before .stream-of .ensures ∙ stream-reads (a .o) r tab) (stopIn (c .before .before .before .check-table .result)) (c .before .before .before .check-table .ensures) (ap stopIn (c .before .enum-told .given .1)) (c .plan-of .result) (c .plan-of .ensures)
 
 pub decide-table-spec : {M : Type 1} → statement M

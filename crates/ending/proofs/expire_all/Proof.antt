@@ -1,103 +1,64 @@
-use native.Mathlib.Omega.{arith}
-use mathlib.Core.Path.{_≡_, sym, _∙_}
-use Prim.Native.Nat.{_≤_, _-_}
-use borrow.Author.Tests.{not-true, not-false}
-use Rattle.cells.specs.Numbers.{le}
-use Rattle.removal.specs.Turns.{Fewer, fewer-none, fewer-both}
-use Rattle.ending.specs.Expiry.{Going, rest-start, rest-turn, rest-end, rest-stop}
+-- None has expired, and nothing goes; or those that have go one after the other.
+use mathlib.Core.Path.{sym, _∙_}
+use borrow.Author.Tests.{not-true}
+use Rattle.removal.specs.Turns.{fewer-none}
+use Rattle.ending.specs.Expiry.{none-expired}
+use borrow.Author.Needs.{needs}
 use Rattle.ending.proofs.expire_all.Statement.{statement}
 use Rattle.ending.proofs.expire_all.Tie as tie
 
-abbrev Inv-loop : tie.InvT-loop
-Inv-loop s₀ time n k₀ s k =
-    (k ≤ n) × Fewer s₀ s × (n ≡ le 2 s₀ 224) × Going time n k s₀ s
+u16-at-requires : tie.Need-u16-at-requires
+u16-at-requires c κs = search needs
 
-abbrev μ-loop : tie.MeasureT-loop
-μ-loop s₀ time n k₀ s k =
-    n - k
+cast-n : tie.Need-cast-n
+cast-n c = search needs
 
-u16-at-requires : tie.Need-u16-at-requires Inv-loop μ-loop
-u16-at-requires c κs =
-    let e = c .before .before .pre .long in omega arith
+sub-any-expired : tie.Need-sub-any-expired
+sub-any-expired c = search needs
 
-loop-holds : tie.Need-loop-holds Inv-loop μ-loop
-loop-holds c =
-    let a = c .before .before .before .args in (omega arith, fewer-none (a .s .now) (c .before .before .before .pre), c .u16-at .ensures, rest-start (a .time) (c .u16-at .result) (a .s .now) (c .u16-at .ensures))
+part-any-expired-start : tie.Need-part-any-expired-start
+part-any-expired-start c = search needs
 
-expire-one-requires : tie.Need-expire-one-requires Inv-loop μ-loop
-expire-one-requires c κs =
-    c .before .before .loop .inv .1 .ready
+part-any-expired-end : tie.Need-part-any-expired-end
+part-any-expired-end c = search needs
 
-u16-at-requires-2 : tie.Need-u16-at-requires-2 Inv-loop μ-loop
-u16-at-requires-2 c κs =
-    let e = c .before .before .before .before .expire-one .ensures .0 .ready .long in omega arith
+any-expired-requires : tie.Need-any-expired-requires
+any-expired-requires c κs = search needs
 
-sub-result : tie.Need-sub-result Inv-loop μ-loop
-sub-result c =
-    let e = c .before .before .before .before .before .expire-one .ensures .0 .fewer in let f = c .before .before .before .before .before .before .before .before .loop .inv .1 .fewer in let g = c .before .before .before .before .before .before .before .before .loop .inv .2 in let h = c .u16-at2 .ensures in omega arith
+same-length : tie.Need-same-length
+same-length c = search needs
 
-same-length : tie.Need-same-length Inv-loop μ-loop
-same-length c =
-    c .before .before .before .before .before .expire-one .ensures .0 .ready .long ∙ sym (c .before .before .before .before .before .before .before .before .before .before .before .before .pre .long)
-
-returns : tie.Need-returns Inv-loop μ-loop
+returns : tie.Need-returns
 returns c =
-    let a = c .before .before .before .before .before .before .before .before .before .before .before .before .args in
-    let w = c .before .before .before .before .before .before .before .before .loop in
-    let s′ = c .before .before .before .before .before .expire-one .last .0 in
-    let r = c .before .before .before .before .before .expire-one .result in
-    (fewer-both (a .s .now) (w .s) s′ (w .inv .1) (c .before .before .before .before .before .expire-one .ensures .0), rest-stop (a .time) (c .before .before .before .before .before .before .before .before .before .u16-at .result) (c .u16-at2 .result) (w .k) r (a .s .now) (w .s) s′ (w .inv .2) (c .u16-at2 .ensures) (w .inv .3) (c .before .before .before .before .before .expire-one .ensures .1) (not-true r (c .before .before .if1 .taken)))
+    let at-look = c .before in
+    let at-count = at-look .before .before .before in
+    let start = at-count .before .before .before in
+    let a = start .args in (
+      fewer-none (a .s .now) (start .pre),
+      none-expired (a .time) (at-count .u16-at .result) (a .s .now) (at-count .u16-at .ensures) (sym (at-look .any-expired .ensures) ∙ not-true (at-look .any-expired .result) (c .if1 .taken)),
+    )
 
-add-k : tie.Need-add-k Inv-loop μ-loop
-add-k c =
-    omega arith
+expire-some-requires : tie.Need-expire-some-requires
+expire-some-requires c κs = search needs
 
-loop-less : tie.Need-loop-less Inv-loop μ-loop
-loop-less c =
-    omega arith
+same-length-2 : tie.Need-same-length-2
+same-length-2 c = search needs
 
-loop-again : tie.Need-loop-again Inv-loop μ-loop
-loop-again c =
-    let a = c .before .before .before .before .before .before .before .before .before .before .args in
-    let w = c .before .before .before .before .before .before .loop in
-    let s′ = c .before .before .before .expire-one .last .0 in
-    (omega arith, fewer-both (a .s .now) (w .s) s′ (w .inv .1) (c .before .before .before .expire-one .ensures .0), w .inv .2, rest-turn (a .time) (c .before .before .before .before .before .before .before .u16-at .result) (w .k) (c .before .before .before .expire-one .result) (a .s .now) (w .s) s′ (c .before .before .before .before .before .loop-test .taken) (w .inv .3) (c .before .before .before .expire-one .ensures .1))
-
-u16-at-requires-3 : tie.Need-u16-at-requires-3 Inv-loop μ-loop
-u16-at-requires-3 c κs =
-    let e = c .before .before .loop .inv .1 .ready .long in omega arith
-
-sub-result-2 : tie.Need-sub-result-2 Inv-loop μ-loop
-sub-result-2 c =
-    let f = c .before .before .before .loop .inv .1 .fewer in let g = c .before .before .before .loop .inv .2 in let h = c .u16-at3 .ensures in omega arith
-
-same-length-2 : tie.Need-same-length-2 Inv-loop μ-loop
-same-length-2 c =
-    c .before .before .before .loop .inv .1 .ready .long ∙ sym (c .before .before .before .before .before .before .before .pre .long)
-
-returns-2 : tie.Need-returns-2 Inv-loop μ-loop
-returns-2 c =
-    let a = c .before .before .before .before .before .before .before .args in
-    let w = c .before .before .before .loop in
-    (w .inv .1, rest-end (a .time) (c .before .before .before .before .u16-at .result) (c .u16-at3 .result) (a .s .now) (w .s) (w .inv .2) (c .u16-at3 .ensures) (w .k) (c .before .before .loop-test .left) (w .inv .3))
+returns-2 : tie.Need-returns-2
+returns-2 c = c .before .before .expire-some .ensures
 
 pub expire-all-spec : {M : Type 1} → statement M
 expire-all-spec =
     tie.close
     (tie.spec
-    Inv-loop
-    μ-loop
     u16-at-requires
-    loop-holds
-    expire-one-requires
-    u16-at-requires-2
-    sub-result
+    cast-n
+    sub-any-expired
+    part-any-expired-start
+    part-any-expired-end
+    any-expired-requires
     same-length
     returns
-    add-k
-    loop-less
-    loop-again
-    u16-at-requires-3
-    sub-result-2
+    expire-some-requires
     same-length-2
     returns-2)

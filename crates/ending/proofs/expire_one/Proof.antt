@@ -1,7 +1,7 @@
 use native.Mathlib.Omega.{arith}
 use mathlib.Core.Bool.{true}
-use Rattle.cells.specs.Numbers.{le}
 use Rattle.rules.specs.Removal.{expired}
+use Rattle.layout.specs.Places.{connectionsOf}
 use Rattle.removal.specs.Turns.{found-in, fewer-none, fewer-both, fewer-kept}
 use Rattle.removal.specs.Removals.{ends-none, ends-one}
 use Rattle.ending.specs.Expiry.{turn-fault}
@@ -55,7 +55,7 @@ returns-2 c =
     let a = c .before .before .before .before .before .before .before .before .before .before .before .before .before .before .before .before .before .args in
     let s₁ = c .before .before .before .before .before .before .remove-conn .last .0 in
     let s₂ = c .before .before .set-fault .last .0 in (
-      fewer-both (a .s .now) s₁ s₂ (c .before .before .before .before .before .before .remove-conn .ensures .0) (fewer-kept (le 2 s₁ 224) s₁ s₂ (c .before .before .set-fault .ensures .0) (omega arith)),
+      fewer-both (a .s .now) s₁ s₂ (c .before .before .before .before .before .before .remove-conn .ensures .0) (fewer-kept (connectionsOf s₁) s₁ s₂ (c .before .before .set-fault .ensures .0) (omega arith)),
       ends-one (a .time) (a .s .now) (c .before .before .before .before .before .before .before .before .before .before .before .before .before .before .u16-at .result) (c .before .before .before .before .before .before .before .before .before .before .before .find-expired .result) (c .before .before .before .before .before .before .before .before .before .before .before .before .before .before .u16-at .ensures) (c .before .before .before .before .before .before .before .before .before .before .before .find-expired .ensures) (c .before .before .before .before .before .before .before .before .before .i .given .0 .0) (c .before .before .before .before .before .before .before .before .before .i .given .1) s₁ s₂ (c .before .before .before .before .before .before .remove-conn .ensures .1) (turn-fault s₁ s₂ true (c .before .before .set-fault .ensures .1)),
     )
 

@@ -1,5 +1,5 @@
-use native.Mathlib.Omega.{arith}
-use Rattle.image.specs.TestLaws.{head-fails0, head-fails1, head-fails2, head-fails3, head-fails4, head-passes}
+-- The head's three numbers, read first and then compared.
+use Rattle.image.specs.TestLaws.{head-is}
 use borrow.Author.Needs.{needs}
 use Rattle.image.proofs.head_good.Statement.{statement}
 use Rattle.image.proofs.head_good.Tie as tie
@@ -7,48 +7,33 @@ use Rattle.image.proofs.head_good.Tie as tie
 u32-at-requires : tie.Need-u32-at-requires
 u32-at-requires c κs = search needs
 
-returns : tie.Need-returns
-returns c = head-fails0 _ (omega arith)
+u32-at-requires-2 : tie.Need-u32-at-requires-2
+u32-at-requires-2 c κs = search needs
 
 u16-at-requires : tie.Need-u16-at-requires
 u16-at-requires c κs = search needs
 
-returns-2 : tie.Need-returns-2
-returns-2 c = head-fails1 _ (omega arith)
+both-requires : tie.Need-both-requires
+both-requires c κs = search needs
 
-u16-at-requires-2 : tie.Need-u16-at-requires-2
-u16-at-requires-2 c κs = search needs
+both-requires-2 : tie.Need-both-requires-2
+both-requires-2 c κs = search needs
 
-returns-3 : tie.Need-returns-3
-returns-3 c = head-fails2 _ (omega arith)
-
-u16-at-requires-3 : tie.Need-u16-at-requires-3
-u16-at-requires-3 c κs = search needs
-
-returns-4 : tie.Need-returns-4
-returns-4 c = head-fails3 _ (omega arith)
-
-u16-at-requires-4 : tie.Need-u16-at-requires-4
-u16-at-requires-4 c κs = search needs
-
-returns-5 : tie.Need-returns-5
-returns-5 c = head-fails4 _ (omega arith)
-
-returns-6 : tie.Need-returns-6
-returns-6 c = head-passes _ (omega arith) (omega arith) (omega arith) (omega arith) (omega arith)
+returns : tie.Need-returns
+returns c =
+    let at-both = c .before in
+    let at-conns = at-both .before in
+    let at-ring = at-conns .before in
+    let at-id = at-ring .before in
+    head-is _ _ _ _ _ _ (at-id .u32-at .ensures) (at-ring .u32-at2 .ensures) (at-conns .u16-at .ensures) (at-both .both .ensures) (c .both2 .ensures)
 
 pub head-good-spec : {M : Type 1} → statement M
 head-good-spec =
     tie.close
     (tie.spec
     u32-at-requires
-    returns
+    u32-at-requires-2
     u16-at-requires
-    returns-2
-    u16-at-requires-2
-    returns-3
-    u16-at-requires-3
-    returns-4
-    u16-at-requires-4
-    returns-5
-    returns-6)
+    both-requires
+    both-requires-2
+    returns)

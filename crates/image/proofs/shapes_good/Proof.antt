@@ -5,12 +5,13 @@ use lib.ListN.{drop}
 use Rattle.cells.specs.Back.{all}
 use Rattle.tables.specs.Tables.{rows}
 use Rattle.layout.specs.Setups.{goodShape}
+use Rattle.layout.specs.Places.{shapesAt, shapeSize}
 use Rattle.image.specs.TestLaws.{walk-stops, walk-on, walk-ends, shape-bad, shape-good}
 use Rattle.image.proofs.shapes_good.Statement.{statement}
 use Rattle.image.proofs.shapes_good.Tie as tie
 
 abbrev Inv-loop : tie.InvT-loop
-Inv-loop r n i₀ i = (i ≤ n) × (all (rows 5 goodShape n (drop 110 r)) ≡ all (drop i (rows 5 goodShape n (drop 110 r))))
+Inv-loop r n i₀ i = (i ≤ n) × (all (rows shapeSize goodShape n (drop shapesAt r)) ≡ all (drop i (rows shapeSize goodShape n (drop shapesAt r))))
 
 abbrev μ-loop : tie.MeasureT-loop
 μ-loop r n i₀ i = n - i
@@ -32,7 +33,7 @@ returns c =
     let w = c .before .before .before .loop in
     let a = c .before .before .before .before .before .args in
     let e = c .before .u16-at .ensures in
-    sym (w .inv .1 ∙ walk-stops 5 goodShape (a .n) (drop 110 (a .r .now)) (w .i) (omega arith) (shape-bad (a .r .now) (w .i) (omega arith)))
+    sym (w .inv .1 ∙ walk-stops 5 goodShape (a .n) (drop shapesAt (a .r .now)) (w .i) (omega arith) (shape-bad (a .r .now) (w .i) (omega arith)))
 
 add-i : tie.Need-add-i Inv-loop μ-loop
 add-i c = omega arith
@@ -45,13 +46,13 @@ loop-again c =
     let w = c .before .before .before .loop in
     let a = c .before .before .before .before .before .args in
     let e = c .before .u16-at .ensures in
-    (omega arith, w .inv .1 ∙ walk-on 5 goodShape (a .n) (drop 110 (a .r .now)) (w .i) (omega arith) (shape-good (a .r .now) (w .i) (omega arith)))
+    (omega arith, w .inv .1 ∙ walk-on 5 goodShape (a .n) (drop shapesAt (a .r .now)) (w .i) (omega arith) (shape-good (a .r .now) (w .i) (omega arith)))
 
 returns-2 : tie.Need-returns-2 Inv-loop μ-loop
 returns-2 c =
     let w = c .before .loop in
     let a = c .before .before .before .args in
-    sym (w .inv .1 ∙ walk-ends 5 goodShape (a .n) (drop 110 (a .r .now)) (w .i) (omega arith))
+    sym (w .inv .1 ∙ walk-ends 5 goodShape (a .n) (drop shapesAt (a .r .now)) (w .i) (omega arith))
 
 pub shapes-good-spec : {M : Type 1} → statement M
 shapes-good-spec =

@@ -5,6 +5,7 @@ use Prim.Native.Nat.{ℕ, _+_, _*_, _-_}
 use mathlib.Core.Path.{ap, _∙_}
 use Rattle.layout.specs.Rows.{encConn}
 use Rattle.layout.specs.RowLaws.{length-encConn}
+use Rattle.layout.specs.Places.{rowSize}
 use borrow.Author.Needs.{needs}
 use Rattle.inplace.proofs.put_conn_at.Statement.{statement}
 use Rattle.inplace.proofs.put_conn_at.Tie as tie
@@ -32,8 +33,8 @@ same-length c = search needs
 
 returns : tie.Need-returns
 returns c = let a = c .before .before .before .before .before .args in
-    let at : ℕ = a .i * 70 in
-    let k : ℕ = at + 70 - at in
+    let at : ℕ = a .i * rowSize in
+    let k : ℕ = at + rowSize - at in
     ap (putMid at k (a .r .now)) (c .before .before .put-conn-in .ensures)
     ∙ lent-at (a .r .now) at k 0 (encConn (a .c)) (omega (arith, length-encConn (a .c))) (omega arith)
 

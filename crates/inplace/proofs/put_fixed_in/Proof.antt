@@ -1,6 +1,10 @@
+-- The role's number, then the two halves.
 use borrow.Author.Needs.{needs}
 use Rattle.inplace.proofs.put_fixed_in.Statement.{statement}
 use Rattle.inplace.proofs.put_fixed_in.Tie as tie
+
+role-number-requires : tie.Need-role-number-requires
+role-number-requires c κs = search needs
 
 put-fixed-low-requires : tie.Need-put-fixed-low-requires
 put-fixed-low-requires c κs = search needs
@@ -16,4 +20,4 @@ returns c = cc
 
 pub put-fixed-in-spec : {M : Type 1} → statement M
 put-fixed-in-spec =
-    tie.close (tie.spec put-fixed-low-requires put-fixed-high-requires same-length returns)
+    tie.close (tie.spec role-number-requires put-fixed-low-requires put-fixed-high-requires same-length returns)

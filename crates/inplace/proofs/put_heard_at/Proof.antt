@@ -7,6 +7,7 @@ use Prim.Native.Nat.{ℕ, _+_, _*_, _-_, _/_}
 use mathlib.Core.Path.{ap, _∙_}
 use Rattle.layout.specs.Rows.{wHeard, listHeard, encHeard}
 use Rattle.layout.specs.RowLaws.{length-encHeard}
+use Rattle.layout.specs.Places.{rowSize}
 use lib.Seq.{sets}
 use borrow.Author.Needs.{needs}
 use Rattle.inplace.proofs.put_heard_at.Statement.{statement}
@@ -42,11 +43,11 @@ same-length c = search needs
 returns : tie.Need-returns
 unfolding encHeard
 returns c = let a = c .before .before .before .before .before .before .before .args in
-    let at : ℕ = a .i * 70 in
-    let k : ℕ = at + 70 - at in
-    let role : ℕ = c .before .before .before .before .u8-at .result / 4 in
-    ap (putMid at k (a .r .now)) (c .before .before .put-heard-in .ensures ∙ putFields-eq wHeard (take k (drop at (a .r .now))) 14 (listHeard role (a .h)))
-    ∙ lent-at (a .r .now) at k 14 (encHeard role (a .h)) (omega (arith, length-encHeard role (a .h))) (omega arith)
+    let at : ℕ = a .i * rowSize in
+    let k : ℕ = at + rowSize - at in
+    let carried : ℕ = c .before .before .before .before .u8-at .result / 4 in
+    ap (putMid at k (a .r .now)) (c .before .before .put-heard-in .ensures ∙ putFields-eq wHeard (take k (drop at (a .r .now))) 14 (listHeard carried (a .h)))
+    ∙ lent-at (a .r .now) at k 14 (encHeard carried (a .h)) (omega (arith, length-encHeard carried (a .h))) (omega arith)
     ∙ ap (λ (n : ℕ). sets (a .r .now) (at + 14) (encHeard (n / 4) (a .h))) (c .before .before .before .before .u8-at .ensures)
 
 pub put-heard-at-spec : {M : Type 1} → statement M

@@ -7,6 +7,7 @@ use Prim.Native.Nat.{ℕ, _+_, _*_, _-_}
 use mathlib.Core.Path.{ap, _∙_}
 use Rattle.layout.specs.Rows.{wSent, listSent, encSent}
 use Rattle.layout.specs.RowLaws.{length-encSent}
+use Rattle.layout.specs.Places.{rowSize}
 use borrow.Author.Needs.{needs}
 use Rattle.inplace.proofs.put_sent_at.Statement.{statement}
 use Rattle.inplace.proofs.put_sent_at.Tie as tie
@@ -35,8 +36,8 @@ same-length c = search needs
 returns : tie.Need-returns
 unfolding encSent
 returns c = let a = c .before .before .before .before .before .args in
-    let at : ℕ = a .i * 70 in
-    let k : ℕ = at + 70 - at in
+    let at : ℕ = a .i * rowSize in
+    let k : ℕ = at + rowSize - at in
     ap (putMid at k (a .r .now)) (c .before .before .put-sent-in .ensures ∙ putFields-eq wSent (take k (drop at (a .r .now))) 0 (listSent (a .s)))
     ∙ lent-at (a .r .now) at k 0 (encSent (a .s)) (omega (arith, length-encSent (a .s))) (omega arith)
 

@@ -4,6 +4,7 @@ use mathlib.Core.Path.{_≡_, ap, sym, _∙_}
 use Rattle.layout.specs.RowLaws.{in-row}
 use Rattle.layout.specs.Rows.{decSent, toDue}
 use Rattle.cells.specs.Numbers.{le}
+use Rattle.layout.specs.Places.{rowSize}
 use borrow.Author.Needs.{needs}
 use Rattle.layout.proofs.due_at.Statement.{statement}
 use Rattle.layout.proofs.due_at.Tie as tie
@@ -20,7 +21,7 @@ due-of-requires c κs = search needs
 returns : tie.Need-returns
 unfolding decSent
 returns c = let a = c .before .before .before .args in
-    c .due-of .ensures ∙ ap toDue (c .before .u64-at .ensures ∙ ap (le 8 (a .r .now)) (let q : a .i * 70 ≡ a .i * 70 + 0 = omega arith in q) ∙ sym (in-row 8 70 0 (a .r .now) (a .i * 70) (omega arith)))
+    c .due-of .ensures ∙ ap toDue (c .before .u64-at .ensures ∙ ap (le 8 (a .r .now)) (let q : a .i * rowSize ≡ a .i * rowSize + 0 = omega arith in q) ∙ sym (in-row 8 rowSize 0 (a .r .now) (a .i * rowSize) (omega arith)))
 
 pub due-at-spec : {M : Type 1} → statement M
 due-at-spec = tie.close (tie.spec mul-u64-at u64-at-requires due-of-requires returns)

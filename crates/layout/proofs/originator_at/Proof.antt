@@ -1,8 +1,10 @@
+-- The number at its place of the row.
 use native.Mathlib.Omega.{arith}
 use Prim.Native.Nat.{_*_}
 use mathlib.Core.Path.{sym, _∙_}
 use Rattle.layout.specs.RowLaws.{in-row}
 use Rattle.layout.specs.Rows.{decFixed}
+use Rattle.layout.specs.Places.{rowSize}
 use borrow.Author.Needs.{needs}
 use Rattle.layout.proofs.originator_at.Statement.{statement}
 use Rattle.layout.proofs.originator_at.Tie as tie
@@ -18,7 +20,7 @@ u32-at-requires c κs = search needs
 
 returns : tie.Need-returns
 unfolding decFixed
-returns c = let a = c .before .before .args in c .u32-at .ensures ∙ sym (in-row 4 70 37 (a .r .now) (a .i * 70) (omega arith))
+returns c = let a = c .before .before .args in c .u32-at .ensures ∙ sym (in-row 4 rowSize 36 (a .r .now) (a .i * rowSize) (omega arith))
 
 pub originator-at-spec : {M : Type 1} → statement M
 originator-at-spec = tie.close (tie.spec mul-u32-at add-u32-at u32-at-requires returns)

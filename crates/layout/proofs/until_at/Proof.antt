@@ -6,6 +6,7 @@ use Rattle.layout.specs.Rows.{decHeard}
 use borrow.Author.Needs.{needs}
 use Rattle.layout.proofs.until_at.Statement.{statement}
 use Rattle.layout.proofs.until_at.Tie as tie
+use Rattle.layout.specs.Places.{rowSize}
 
 mul-u64-at : tie.Need-mul-u64-at
 mul-u64-at c = search needs
@@ -18,7 +19,7 @@ u64-at-requires c κs = search needs
 
 returns : tie.Need-returns
 unfolding decHeard
-returns c = let a = c .before .before .args in c .u64-at .ensures ∙ sym (in-row 8 70 16 (a .r .now) (a .i * 70) (omega arith))
+returns c = let a = c .before .before .args in c .u64-at .ensures ∙ sym (in-row 8 rowSize 16 (a .r .now) (a .i * rowSize) (omega arith))
 
 pub until-at-spec : {M : Type 1} → statement M
 until-at-spec = tie.close (tie.spec mul-u64-at add-u64-at u64-at-requires returns)

@@ -3,18 +3,16 @@ use mathlib.Core.Path.{_≡_, refl, ap, _∙_}
 use native.Mathlib.Omega.{arith}
 use lib.ListN.{length}
 use lib.Seq.{sets, length-sets}
-use Rattle.cells.specs.Numbers.{le}
-use Rattle.tables.specs.Tables.{rows}
-use Rattle.layout.specs.Places.{tableIn}
+use Rattle.layout.specs.Places.{tableIn, connectionsOf}
 use Rattle.layout.specs.Setups.{setupOf}
-use Rattle.layout.specs.Rows.{decConn}
+use Rattle.layout.specs.Rows.{connsIn}
 use Rattle.listing.specs.Listing.{recordAt, tellings, tell-more, table-short, table-told}
 use borrow.Author.Needs.{needs}
 use Rattle.listing.proofs.connections.Statement.{statement}
 use Rattle.listing.proofs.connections.Tie as tie
 
 abbrev Inv-loop : tie.InvT-loop
-Inv-loop s out₀ n i₀ out i = (i ≤ n) × (out ≡ sets out₀ 0 (tellings (setupOf s) i (rows 70 decConn (le 2 s 224) (tableIn s)))) × (length out ≡ length out₀)
+Inv-loop s out₀ n i₀ out i = (i ≤ n) × (out ≡ sets out₀ 0 (tellings (setupOf s) i (connsIn (connectionsOf s) (tableIn s)))) × (length out ≡ length out₀)
 
 abbrev μ-loop : tie.MeasureT-loop
 μ-loop s out₀ n i₀ out i = n - i

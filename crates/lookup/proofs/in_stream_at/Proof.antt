@@ -1,45 +1,35 @@
+-- One law for each way out.
+use borrow.Author.Tests.{not-true, not-false}
+use Rattle.layout.specs.Rows.{connAt}
 use Rattle.lookup.specs.RowTests.{stream-single, stream-many}
 use borrow.Author.Needs.{needs}
 use Rattle.lookup.proofs.in_stream_at.Statement.{statement}
 use Rattle.lookup.proofs.in_stream_at.Tie as tie
 
-mul-u8-at : tie.Need-mul-u8-at
-mul-u8-at c = search needs
+toid-at-requires : tie.Need-toid-at-requires
+toid-at-requires c κs = search needs
 
-add-u8-at : tie.Need-add-u8-at
-add-u8-at c = search needs
-
-u8-at-requires : tie.Need-u8-at-requires
-u8-at-requires c κs = search needs
-
-mul-u32-at : tie.Need-mul-u32-at
-mul-u32-at c = search needs
-
-add-u32-at : tie.Need-add-u32-at
-add-u32-at c = search needs
-
-u32-at-requires : tie.Need-u32-at-requires
-u32-at-requires c κs = search needs
+multicast-at-requires : tie.Need-multicast-at-requires
+multicast-at-requires c κs = search needs
 
 returns : tie.Need-returns
 returns c =
-    let a = c .before .before .before .before .args in
-    stream-single (a .r .now) (a .i) (a .id) (c .before .before .u8-at .result) (c .before .u32-at .result) (c .before .before .u8-at .ensures) (c .before .u32-at .ensures) (c .if1 .taken)
+    let at-many = c .before in
+    let at-toid = at-many .before in
+    let a = at-toid .before .before .args in
+    let many = at-many .multicast-at in
+    let toid = at-toid .toid-at in
+    stream-single (a .id) (connAt (a .r .now) (a .i)) (many .result) (toid .result) (many .ensures) (toid .ensures) (not-true (many .result) (c .if1 .taken))
 
 returns-2 : tie.Need-returns-2
 returns-2 c =
-    let a = c .before .before .before .before .before .args in
-    stream-many (a .r .now) (a .i) (a .id) (c .before .before .before .u8-at .result) (c .before .before .u32-at .result) (c .before .before .before .u8-at .ensures) (c .before .before .u32-at .ensures) (c .before .if1 .left)
+    let at-if1 = c .before .before in
+    let at-many = at-if1 .before in
+    let at-toid = at-many .before in
+    let a = at-toid .before .before .args in
+    let many = at-many .multicast-at in
+    let toid = at-toid .toid-at in
+    stream-many (a .id) (connAt (a .r .now) (a .i)) (many .result) (toid .result) (many .ensures) (toid .ensures) (not-false (many .result) (at-if1 .if1 .left))
 
 pub in-stream-at-spec : {M : Type 1} → statement M
-in-stream-at-spec =
-    tie.close
-    (tie.spec
-    mul-u8-at
-    add-u8-at
-    u8-at-requires
-    mul-u32-at
-    add-u32-at
-    u32-at-requires
-    returns
-    returns-2)
+in-stream-at-spec = tie.close (tie.spec toid-at-requires multicast-at-requires returns returns-2)

@@ -13,6 +13,7 @@ use native.Mathlib.Omega.{arith}
 use borrow.Author.Needs.{needs}
 use Rattle.messages.proofs.file_in.Statement.{statement}
 use Rattle.messages.proofs.file_in.Tie as tie
+use Rattle.layout.specs.Places.{edsAt}
 
 sub-u32-at : tie.Need-sub-u32-at
 sub-u32-at c = search needs
@@ -69,7 +70,7 @@ file-requires : tie.Need-file-requires
 file-requires c κs =
     let s = c .before .before .before .before .before .before .before .before .before .before .before .args .s .now in let t = c .before .before .before .before .before .before .before .before .before .before .before .pre .0 .test in
     let e = c .before .before .before .before .before .u32-at .ensures in let h = mark-small s t in
-    let z = length-take (43520 + (c .before .before .before .before .before .u32-at .result - 1) - 43520) (drop 43520 s) in
+    let z = length-take (edsAt + (c .before .before .before .before .before .u32-at .result - 1) - edsAt) (drop edsAt s) in
     (setup-ready s (c .before .before .before .before .before .before .before .before .before .before .before .pre .0 .ready) .0, names-short s t, omega arith, c .before .before .before .before .before .before .before .before .before .before .before .pre .1, omega arith)
 
 same-length : tie.Need-same-length
@@ -87,7 +88,7 @@ returns-2 c =
     let a = at-entry .args in
     the-file (a .s .now) (a .service) (a .instance) (a .a) (a .given .now) (decUpload (a .position .now)) (a .out .now) _ (at-entry .pre .0 .test)
     (λ q. at-if1 .if1 .left (at-u32-at .u32-at .ensures ∙ q)) _
-    (ap (λ (k : ℕ). take k (drop 43520 (a .s .now))) (add-sub-cancel-left 43520 (at-u32-at .u32-at .result - 1) ∙ ap (λ (n : ℕ). n - 1) (at-u32-at .u32-at .ensures))) (at-file .file .ensures)
+    (ap (λ (k : ℕ). take k (drop edsAt (a .s .now))) (add-sub-cancel-left edsAt (at-u32-at .u32-at .result - 1) ∙ ap (λ (n : ℕ). n - 1) (at-u32-at .u32-at .ensures))) (at-file .file .ensures)
 
 pub file-in-spec : {M : Type 1} → statement M
 file-in-spec =

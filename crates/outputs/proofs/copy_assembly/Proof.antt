@@ -7,6 +7,7 @@ use Rattle.outputs.specs.Outputs.{assembly-short, assembly-wrote}
 use borrow.Author.Needs.{needs}
 use Rattle.outputs.proofs.copy_assembly.Statement.{statement}
 use Rattle.outputs.proofs.copy_assembly.Tie as tie
+use Rattle.layout.specs.Places.{dataFrom}
 
 size-at-requires : tie.Need-size-at-requires
 size-at-requires c κs = search needs
@@ -50,7 +51,7 @@ returns-2 : tie.Need-returns-2
 returns-2 c =
     let a = c .before .before .before .before .before .before .before .before .before .args in let n : ℕ = c .before .before .before .before .before .before .size-at .result in
     assembly-wrote (a .s .now) (c .before .before .before .before .before .before .before .before .before .pre .0 .test) (λ j. omega (arith, c .before .before .before .before .before .before .before .before .shared-slice-known .given j)) (a .i) (c .before .before .before .before .before .before .before .before .before .pre .1) (a .out .now) n (c .before .before .before .before .before .before .size-at .ensures) (c .before .before .before .before .before .if1 .left) _ _
-    (ap (λ (m : ℕ). take m (drop (35328 + a .i * 512) (a .s .now))) (add-sub-cancel-left (35328 + a .i * 512) n)) (c .before .before .copy-in .ensures)
+    (ap (λ (m : ℕ). take m (drop (dataFrom + a .i * 512) (a .s .now))) (add-sub-cancel-left (dataFrom + a .i * 512) n)) (c .before .before .copy-in .ensures)
 
 pub copy-assembly-spec : {M : Type 1} → statement M
 copy-assembly-spec =

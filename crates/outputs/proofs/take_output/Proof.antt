@@ -1,8 +1,10 @@
-use Prim.Native.Nat.{ℕ, _+_, _*_, _%_}
+-- Too little room, or the run byte and the data copied out and the mark written.
+use Prim.Native.Nat.{ℕ, _+_, _*_}
 use mathlib.Core.Path.{ap}
 use native.Mathlib.Omega.{arith}
 use native.Mathlib.Nat.{add-sub-cancel-left}
 use lib.ListN.{take, drop}
+use Rattle.layout.specs.Places.{dataFrom}
 use Rattle.outputs.specs.Outputs.{output-short, output-wrote}
 use borrow.Author.Needs.{needs}
 use Rattle.outputs.proofs.take_output.Statement.{statement}
@@ -19,14 +21,14 @@ same-length c = search needs
 
 returns : tie.Need-returns
 returns c =
-    let a = c .before .before .before .before .before .args in
-    output-short (a .s .now) (c .before .before .before .before .before .pre .0 .test) (λ j. omega (arith, c .before .before .before .before .slice-known .given j)) (a .i) (c .before .before .before .before .before .pre .1) (a .out .now) _ (c .before .size-at .ensures) (c .if1 .taken)
+    let at-size = c .before in
+    let at-known = at-size .before .before .before in
+    let at-entry = at-known .before in
+    let a = at-entry .args in
+    output-short (a .s .now) (at-entry .pre .0 .test) (λ j. omega (arith, at-known .slice-known .given j)) (a .i) (at-entry .pre .1) (a .out .now) _ (at-size .size-at .ensures) (c .if1 .taken)
 
-add-u8-at : tie.Need-add-u8-at
-add-u8-at c = search needs
-
-u8-at-requires : tie.Need-u8-at-requires
-u8-at-requires c κs = search needs
+runs-requires : tie.Need-runs-requires
+runs-requires c κs = search needs
 
 mul-a : tie.Need-mul-a
 mul-a c = search needs
@@ -36,6 +38,9 @@ add-a c = search needs
 
 add-e : tie.Need-add-e
 add-e c = search needs
+
+cast-put-u8 : tie.Need-cast-put-u8
+cast-put-u8 c = search needs
 
 put-u8-requires : tie.Need-put-u8-requires
 put-u8-requires c κs = search needs
@@ -52,17 +57,19 @@ part-copy-in-end c = search needs
 copy-in-requires : tie.Need-copy-in-requires
 copy-in-requires c κs = search needs
 
-add-put-u8 : tie.Need-add-put-u8
-add-put-u8 c = search needs
-
-put-u8-requires-2 : tie.Need-put-u8-requires-2
-put-u8-requires-2 c κs = search needs
+put-mark-requires : tie.Need-put-mark-requires
+put-mark-requires c κs = search needs
 
 add-t11 : tie.Need-add-t11
 add-t11 c = search needs
 
 cast-t8 : tie.Need-cast-t8
-cast-t8 c = let h = c .before .before .before .before .before .before .before .before .before .before .before .before .before .before .before .before .before .before .before .before .before .pre .0 .slotted (c .before .before .before .before .before .before .before .before .before .before .before .before .before .before .before .before .before .before .before .before .before .args .i) (c .before .before .before .before .before .before .before .before .before .before .before .before .before .before .before .before .before .before .before .before .before .pre .1) in let e = c .before .before .before .before .before .before .before .before .before .before .before .before .before .before .before .before .before .size-at .ensures in omega arith
+cast-t8 c =
+    let at-runs = c .before .before .before .before .before .before .before .before .before .before .before .before .before .before in
+    let at-size = at-runs .before .before .before in
+    let at-entry = at-size .before .before .before .before in
+    let h = at-entry .pre .0 .slotted (at-entry .args .i) (at-entry .pre .1) in
+    let e = at-size .size-at .ensures in omega arith
 
 same-length-2 : tie.Need-same-length-2
 same-length-2 c = search needs
@@ -72,10 +79,21 @@ same-length-3 c = search needs
 
 returns-2 : tie.Need-returns-2
 returns-2 c =
-    let a = c .before .before .before .before .before .before .before .before .before .before .before .before .before .before .before .before .before .before .before .before .before .args in let n : ℕ = c .before .before .before .before .before .before .before .before .before .before .before .before .before .before .before .before .before .size-at .result in
-    output-wrote (a .s .now) (c .before .before .before .before .before .before .before .before .before .before .before .before .before .before .before .before .before .before .before .before .before .pre .0 .test) (λ j. omega (arith, c .before .before .before .before .before .before .before .before .before .before .before .before .before .before .before .before .before .before .before .before .slice-known .given j)) (a .i) (c .before .before .before .before .before .before .before .before .before .before .before .before .before .before .before .before .before .before .before .before .before .pre .1) (a .out .now) n (c .before .before .before .before .before .before .before .before .before .before .before .before .before .before .before .before .before .size-at .ensures) (c .before .before .before .before .before .before .before .before .before .before .before .before .before .before .before .before .if1 .left)
-    (c .before .before .before .before .before .before .before .before .before .before .before .before .before .before .u8-at .result % 2) _ _ _ _ (ap (λ (m : ℕ). m % 2) (c .before .before .before .before .before .before .before .before .before .before .before .before .before .before .u8-at .ensures))
-    (ap (λ (m : ℕ). take m (drop (35328 + a .i * 512) (a .s .now))) (add-sub-cancel-left (35328 + a .i * 512) n)) (c .before .before .before .before .before .before .before .before .before .before .before .before .put-u8 .ensures) (c .before .before .before .before .before .before .copy-in .ensures) (c .before .before .put-u82 .ensures)
+    let at-mark = c .before .before in
+    let at-copy-in = at-mark .before .before .before .before in
+    let at-put-u8 = at-copy-in .before .before .before .before .before .before in
+    let at-runs = at-put-u8 .before .before in
+    let at-if1 = at-runs .before .before in
+    let at-size = at-if1 .before in
+    let at-known = at-size .before .before .before in
+    let at-entry = at-known .before in
+    let a = at-entry .args in
+    let s = a .s .now in
+    let n : ℕ = at-size .size-at .result in
+    output-wrote s (at-entry .pre .0 .test) (λ j. omega (arith, at-known .slice-known .given j)) (a .i) (at-entry .pre .1) (a .out .now) n (at-size .size-at .ensures) (at-if1 .if1 .left)
+    (at-runs .runs .result) _ _ _ _ (at-runs .runs .ensures)
+    (ap (λ (m : ℕ). take m (drop (dataFrom + a .i * 512) s)) (add-sub-cancel-left (dataFrom + a .i * 512) n)) (at-put-u8 .put-u8 .ensures) (at-copy-in .copy-in .ensures)
+    (at-mark .put-mark .ensures .1)
 
 pub take-output-spec : {M : Type 1} → statement M
 take-output-spec =
@@ -85,18 +103,17 @@ take-output-spec =
     cast-n
     same-length
     returns
-    add-u8-at
-    u8-at-requires
+    runs-requires
     mul-a
     add-a
     add-e
+    cast-put-u8
     put-u8-requires
     sub-copy-in
     part-copy-in-start
     part-copy-in-end
     copy-in-requires
-    add-put-u8
-    put-u8-requires-2
+    put-mark-requires
     add-t11
     cast-t8
     same-length-2

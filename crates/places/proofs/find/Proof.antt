@@ -3,18 +3,17 @@ use Prim.Native.Nat.{_≤_, _-_}
 use mathlib.Core.Path.{_≡_, sym, _∙_}
 use native.Mathlib.Omega.{arith}
 use lib.ListN.{drop}
-use Rattle.cells.specs.Numbers.{le}
-use Rattle.tables.specs.Tables.{rows}
 use Rattle.rules.specs.Lists.{place}
 use Rattle.rules.specs.Checks.{isAt}
 use Rattle.rules.specs.Host.{kindTest}
-use Rattle.layout.specs.Setups.{decShape}
-use Rattle.image.specs.Searches.{later, later-zero, search-hit, search-miss, search-ends}
+use Rattle.layout.specs.Setups.{decShape, shapesOf}
+use Rattle.layout.specs.Places.{shapesAt, assembliesOf}
+use Rattle.searches.specs.Searches.{later, later-zero, search-hit, search-miss, search-ends}
 use Rattle.places.proofs.find.Statement.{statement}
 use Rattle.places.proofs.find.Tie as tie
 
 abbrev Inv-loop : tie.InvT-loop
-Inv-loop r kind instance n i₀ i = (i ≤ n) × (place (isAt (kindTest kind) instance) (rows 5 decShape (le 1 r 0) (drop 110 r)) ≡ later i (place (isAt (kindTest kind) instance) (drop i (rows 5 decShape (le 1 r 0) (drop 110 r)))))
+Inv-loop r kind instance n i₀ i = (i ≤ n) × (place (isAt (kindTest kind) instance) (shapesOf r) ≡ later i (place (isAt (kindTest kind) instance) (drop i (shapesOf r))))
 
 abbrev μ-loop : tie.MeasureT-loop
 μ-loop r kind instance n i₀ i = n - i
@@ -26,7 +25,7 @@ cast-n : tie.Need-cast-n Inv-loop μ-loop
 cast-n c = omega arith
 
 loop-holds : tie.Need-loop-holds Inv-loop μ-loop
-loop-holds c = let a = c .before .before .args in (omega arith, sym (later-zero (place (isAt (kindTest (a .kind)) (a .instance)) (rows 5 decShape (le 1 (a .r .now) 0) (drop 110 (a .r .now))))))
+loop-holds c = let a = c .before .before .args in (omega arith, sym (later-zero (place (isAt (kindTest (a .kind)) (a .instance)) (shapesOf (a .r .now)))))
 
 is-at-requires : tie.Need-is-at-requires Inv-loop μ-loop
 is-at-requires c κs = let e = c .before .before .u8-at .ensures in let p = c .before .before .before .before .pre in (omega arith, omega arith)
@@ -34,7 +33,7 @@ is-at-requires c κs = let e = c .before .before .u8-at .ensures in let p = c .b
 returns : tie.Need-returns Inv-loop μ-loop
 returns c =
     let a = c .before .before .before .before .before .before .args in let w = c .before .before .before .loop in let e = c .before .before .before .before .u8-at .ensures in
-    sym (w .inv .1 ∙ search-hit 5 decShape (isAt (kindTest (a .kind)) (a .instance)) (le 1 (a .r .now) 0) (drop 110 (a .r .now)) (w .i) (omega arith) (sym (c .before .is-at .ensures) ∙ c .if1 .taken))
+    sym (w .inv .1 ∙ search-hit 5 decShape (isAt (kindTest (a .kind)) (a .instance)) (assembliesOf (a .r .now)) (drop shapesAt (a .r .now)) (w .i) (omega arith) (sym (c .before .is-at .ensures) ∙ c .if1 .taken))
 
 add-i : tie.Need-add-i Inv-loop μ-loop
 add-i c = omega arith
@@ -45,12 +44,12 @@ loop-less c = omega arith
 loop-again : tie.Need-loop-again Inv-loop μ-loop
 loop-again c =
     let a = c .before .before .before .before .before .before .args in let w = c .before .before .before .loop in let e = c .before .before .before .before .u8-at .ensures in
-    (omega arith, w .inv .1 ∙ search-miss 5 decShape (isAt (kindTest (a .kind)) (a .instance)) (le 1 (a .r .now) 0) (drop 110 (a .r .now)) (w .i) (omega arith) (sym (c .before .is-at .ensures) ∙ c .if1 .left))
+    (omega arith, w .inv .1 ∙ search-miss 5 decShape (isAt (kindTest (a .kind)) (a .instance)) (assembliesOf (a .r .now)) (drop shapesAt (a .r .now)) (w .i) (omega arith) (sym (c .before .is-at .ensures) ∙ c .if1 .left))
 
 returns-2 : tie.Need-returns-2 Inv-loop μ-loop
 returns-2 c =
     let a = c .before .before .before .before .args in let w = c .before .loop in let e = c .before .before .u8-at .ensures in
-    sym (w .inv .1 ∙ search-ends 5 decShape (isAt (kindTest (a .kind)) (a .instance)) (le 1 (a .r .now) 0) (drop 110 (a .r .now)) (w .i) (omega arith))
+    sym (w .inv .1 ∙ search-ends 5 decShape (isAt (kindTest (a .kind)) (a .instance)) (assembliesOf (a .r .now)) (drop shapesAt (a .r .now)) (w .i) (omega arith))
 
 pub find-spec : {M : Type 1} → statement M
 find-spec =

@@ -1,65 +1,67 @@
+-- Nothing is due, and nothing changes; or what is due goes out.
 use native.Mathlib.Omega.{arith}
-use Rattle.producing.specs.CallLaws.{nothing-due, no-room, all-out}
+use mathlib.Core.Path.{sym, _∙_}
+use borrow.Author.Tests.{not-true}
+use Rattle.producing.specs.CallLaws.{nothing-due}
 use borrow.Author.Needs.{needs}
 use Rattle.producing.proofs.produce.Statement.{statement}
 use Rattle.producing.proofs.produce.Tie as tie
 
-count-all-requires : tie.Need-count-all-requires
-count-all-requires c κs = search needs
+u16-at-requires : tie.Need-u16-at-requires
+u16-at-requires c κs = search needs
+
+cast-n : tie.Need-cast-n
+cast-n c = search needs
+
+sub-any-due : tie.Need-sub-any-due
+sub-any-due c = search needs
+
+part-any-due-start : tie.Need-part-any-due-start
+part-any-due-start c = search needs
+
+part-any-due-end : tie.Need-part-any-due-end
+part-any-due-end c = search needs
+
+any-due-requires : tie.Need-any-due-requires
+any-due-requires c κs = search needs
 
 same-length : tie.Need-same-length
 same-length c = search needs
 
 returns : tie.Need-returns
 returns c =
-    let a = c .before .before .before .before .before .before .args in
-    let k = c .before .before .count-all in
-    nothing-due (a .time) (a .s .now) (a .out .now) (k .result) (k .ensures .1) (c .before .before .before .before .before .before .pre .2) (λ i. omega (arith, c .before .before .before .before .before .slice-known .given i)) (c .if1 .taken)
+    let at-look = c .before in
+    let at-count = at-look .before .before .before in
+    let start = at-count .before .before .before .before in
+    let a = start .args in
+    nothing-due (a .time) (a .s .now) (a .out .now) (at-count .u16-at .result) (at-count .u16-at .ensures) (start .pre .2) (λ i. omega (arith, at-count .before .before .before .slice-known .given i))
+    (sym (at-look .any-due .ensures) ∙ not-true (at-look .any-due .result) (c .if1 .taken))
+
+produce-due-requires : tie.Need-produce-due-requires
+produce-due-requires c κs = search needs
 
 same-length-2 : tie.Need-same-length-2
 same-length-2 c = search needs
 
-returns-2 : tie.Need-returns-2
-returns-2 c =
-    let a = c .before .before .before .before .before .before .before .before .args in
-    let k = c .before .before .before .before .count-all in
-    no-room (a .time) (a .s .now) (a .out .now) (k .result) (k .ensures .1) (c .before .before .before .before .before .before .before .before .pre .2) (c .if2 .taken)
-
-send-all-requires : tie.Need-send-all-requires
-send-all-requires c κs = search needs
-
-keep-tally-requires : tie.Need-keep-tally-requires
-keep-tally-requires c κs = search needs
-
-mul-result : tie.Need-mul-result
-mul-result c = search needs
-
 same-length-3 : tie.Need-same-length-3
 same-length-3 c = search needs
 
-same-length-4 : tie.Need-same-length-4
-same-length-4 c = search needs
-
-returns-3 : tie.Need-returns-3
-returns-3 c =
-    let a = c .before .before .before .before .before .before .before .before .before .before .before .before .before .before .before .before .before .before .before .args in
-    let k = c .before .before .before .before .before .before .before .before .before .before .before .before .before .before .before .count-all in
-    let d = c .before .before .before .before .before .before .before .before .send-all in
-    let b = c .before .before .keep-tally in
-    all-out (a .time) (a .s .now) (a .out .now) (k .result) (k .ensures .1) (c .before .before .before .before .before .before .before .before .before .before .before .before .before .before .before .before .before .before .before .pre .2) (c .before .before .before .before .before .before .before .before .before .before .before .if2 .left) (d .last .0) (b .last .0) (d .last .1 .0) (d .ensures .1) (b .ensures)
+returns-2 : tie.Need-returns-2
+returns-2 c = c .before .before .before .before .produce-due .ensures
 
 pub produce-spec : {M : Type 1} → statement M
 produce-spec =
     tie.close
     (tie.spec
-    count-all-requires
+    u16-at-requires
+    cast-n
+    sub-any-due
+    part-any-due-start
+    part-any-due-end
+    any-due-requires
     same-length
     returns
+    produce-due-requires
     same-length-2
-    returns-2
-    send-all-requires
-    keep-tally-requires
-    mul-result
     same-length-3
-    same-length-4
-    returns-3)
+    returns-2)

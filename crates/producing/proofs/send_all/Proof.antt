@@ -2,14 +2,14 @@ use native.Mathlib.Omega.{arith}
 use Prim.Native.Nat.{_≤_, _-_}
 use mathlib.Core.Path.{_≡_, refl, sym, _∙_}
 use lib.ListN.{length}
-use Rattle.cells.specs.Numbers.{le}
+use Rattle.layout.specs.Places.{connectionsOf}
 use Rattle.image.specs.Kept.{Kept, kept-slotted}
 use Rattle.producing.specs.SendLaws.{SendSoFar, send-start, send-turn, send-end}
 use Rattle.producing.proofs.send_all.Statement.{statement}
 use Rattle.producing.proofs.send_all.Tie as tie
 
 abbrev Inv-loop : tie.InvT-loop
-Inv-loop s₀ out₀ time n i₀ at₀ s out i at = (i ≤ n) × (at ≤ length out) × (length out ≡ length out₀) × Kept n s₀ s × (n ≡ le 2 s₀ 224) × SendSoFar time i s₀ s out₀ out at
+Inv-loop s₀ out₀ time n i₀ at₀ s out i at = (i ≤ n) × (at ≤ length out) × (length out ≡ length out₀) × Kept n s₀ s × (n ≡ connectionsOf s₀) × SendSoFar time i s₀ s out₀ out at
 
 abbrev μ-loop : tie.MeasureT-loop
 μ-loop s₀ out₀ time n i₀ at₀ s out i at = n - i

@@ -1,7 +1,7 @@
 use native.Mathlib.Omega.{arith}
 use mathlib.Core.Path.{_≡_, sym, _∙_}
 use borrow.Author.Tests.{not-true, not-false}
-use Rattle.cells.specs.Numbers.{le}
+use Rattle.layout.specs.Places.{connectionsOf}
 use Rattle.image.specs.Kept.{kept-slotted}
 use Rattle.receiving.specs.DecisionLaws.{cip-inside}
 use Rattle.receiving.specs.HearLaws.{hear-old, hear-plain, hear-again, hear-offered}
@@ -73,7 +73,7 @@ returns-3 : tie.Need-returns-3
 returns-3 c = let a = c .before .before .before .before .before .before .before .before .before .before .before .before .before .before .before .before .before .before .before .before .args in λ f eq ed st l h. hear-again (a .s .now) st l h (a .i) (c .before .before .before .before .before .before .before .before .before .before .before .before .before .before .before .before .before .before .before .before .pre .2) (a .time) (a .q) (a .d .now) f eq ed (c .before .before .before .before .before .before .before .before .before .before .before .before .before .before .before .heard-at .result) (c .before .before .before .before .before .before .before .before .before .before .before .before .before .before .before .heard-at .ensures) (sym (c .before .before .before .before .before .before .before .before .before .before .before .before .before .before .is-newer .ensures) ∙ not-false (c .before .before .before .before .before .before .before .before .before .before .before .before .before .before .is-newer .result) (c .before .before .before .before .before .before .before .before .before .before .before .before .before .if1 .left)) (c .before .before .before .before .before .before .before .before .before .before .fixed-at .result) (c .before .before .before .before .before .before .before .before .before .before .fixed-at .ensures) (c .before .before .before .before .before .before .before .before .before .lives-until .result) (c .before .before .before .before .before .before .before .before .before .lives-until .ensures) (c .before .before .before .before .before .before .before .before .has-cip .result) (c .before .before .before .before .before .before .before .before .has-cip .ensures) (not-false (c .before .before .before .before .before .before .before .before .has-cip .result) (c .before .before .before .before .before .before .before .if2 .left)) (c .before .before .before .before .before .before .u16-at .result) (c .before .before .before .before .before .before .u16-at .ensures) (c .before .before .before .before .put-heard2 .last .0) (c .before .before .before .before .put-heard2 .ensures .1) (c .before .repeats .result) (c .before .repeats .ensures) (c .if3 .taken)
 
 offer-requires : tie.Need-offer-requires
-offer-requires c κs = let p = c .before .before .before .before .before .before .before .before .before .before .before .before .before .before .before .before .before .before .before .before .before .pre in let k = c .before .before .before .before .before .put-heard2 .ensures .0 in let s = c .before .before .before .before .before .before .before .before .before .before .before .before .before .before .before .before .before .before .before .before .before .args .s .now in (k .ready, kept-slotted (le 2 s 224) s (c .before .before .before .before .before .put-heard2 .last .0) (p .0) k (p .1))
+offer-requires c κs = let p = c .before .before .before .before .before .before .before .before .before .before .before .before .before .before .before .before .before .before .before .before .before .pre in let k = c .before .before .before .before .before .put-heard2 .ensures .0 in let s = c .before .before .before .before .before .before .before .before .before .before .before .before .before .before .before .before .before .before .before .before .before .args .s .now in (k .ready, kept-slotted (connectionsOf s) s (c .before .before .before .before .before .put-heard2 .last .0) (p .0) k (p .1))
 
 same-length-4 : tie.Need-same-length-4
 same-length-4 c = search needs

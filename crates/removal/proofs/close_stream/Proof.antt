@@ -1,7 +1,7 @@
 use mathlib.Core.Path.{sym, _∙_}
 use Prim.Native.Nat.{_+_}
-use Rattle.cells.specs.Numbers.{le}
 use Rattle.cells.specs.Records.{ofBool}
+use Rattle.layout.specs.Places.{connectionsOf}
 use Rattle.removal.specs.Turns.{Fewer, fewer-none}
 use Rattle.removal.specs.Listeners.{Closing, closing-start, closing-turn, closing-end, closing-less, fewer-dropped}
 use Rattle.removal.proofs.close_stream.Statement.{statement}
@@ -13,7 +13,7 @@ Inv-loop s₀ id more₀ s more =
 
 abbrev μ-loop : tie.MeasureT-loop
 μ-loop s₀ id more₀ s more =
-    le 2 s 224 + ofBool more
+    connectionsOf s + ofBool more
 
 loop-holds : tie.Need-loop-holds Inv-loop μ-loop
 loop-holds c =

@@ -1,9 +1,8 @@
 use native.Mathlib.Omega.{arith}
 use Prim.Native.Nat.{_-_}
 use lib.ListN.{drop}
-use Rattle.cells.specs.Numbers.{le}
 use Rattle.cells.specs.Back.{bytes-take, bytes-drop}
-use Rattle.layout.specs.Places.{tableIn}
+use Rattle.layout.specs.Places.{tableIn, tableSize, connectionsOf}
 use Rattle.removal.specs.Turns.{fewer-both, fewer-kept, turn-gone}
 use Rattle.removal.specs.Hands.{sent-small}
 use Rattle.removal.specs.Removals.{goes}
@@ -43,7 +42,7 @@ finish-requires c κs =
     let a = c .before .before .before .before .before .before .before .before .before .before .before .before .args in
     let s = a .s .now in (
       c .before .before .before .remove-row .ensures .0 .ready,
-      sent-small (tableIn s) (a .i) (c .before .before .before .before .before .sent-at .result) (bytes-take 2304 (drop 256 s) (bytes-drop 256 s (λ k. omega (arith, c .before .before .before .before .before .before .before .before .before .before .before .slice-known .given k)))) (c .before .before .before .before .before .sent-at .ensures),
+      sent-small (tableIn s) (a .i) (c .before .before .before .before .before .sent-at .result) (bytes-take tableSize (drop 256 s) (bytes-drop 256 s (λ k. omega (arith, c .before .before .before .before .before .before .before .before .before .before .before .slice-known .given k)))) (c .before .before .before .before .before .sent-at .ensures),
     )
 
 same-length : tie.Need-same-length
@@ -55,7 +54,7 @@ returns c =
     let s = a .s .now in
     let s₁ = c .before .before .before .before .before .before .remove-row .last .0 in
     let s₂ = c .before .before .finish .last .0 in (
-      fewer-both s s₁ s₂ (fewer-kept (le 2 s 224 - 1) s s₁ (c .before .before .before .before .before .before .remove-row .ensures .0) (omega arith)) (c .before .before .finish .ensures .0),
+      fewer-both s s₁ s₂ (fewer-kept (connectionsOf s - 1) s s₁ (c .before .before .before .before .before .before .remove-row .ensures .0) (omega arith)) (c .before .before .finish .ensures .0),
       goes s s₁ s₂ (a .what) (a .i) (c .before .before .before .before .before .before .before .before .before .before .before .fixed-at .result) (c .before .before .before .before .before .before .before .before .sent-at .result) (c .before .before .before .before .before .before .before .before .before .before .before .before .before .before .before .pre .1) (c .before .before .before .before .before .before .before .before .before .before .before .fixed-at .ensures) (c .before .before .before .before .before .before .before .before .sent-at .ensures) (turn-gone s s₁ (a .i) (c .before .before .before .before .before .before .remove-row .ensures .1)) (c .before .before .finish .ensures .1),
     )
 

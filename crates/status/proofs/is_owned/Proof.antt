@@ -3,7 +3,7 @@ use Prim.Native.Nat.{ℕ}
 use Rattle.tables.specs.Tables.{rows}
 use Rattle.rules.specs.Lists.{any}
 use Rattle.layout.specs.Places.{tableIn}
-use Rattle.layout.specs.Rows.{decConn}
+use Rattle.layout.specs.Rows.{connsIn}
 use Rattle.status.specs.Status.{ownerIn, owned-rows}
 use borrow.Author.Needs.{needs}
 use Rattle.status.proofs.is_owned.Statement.{statement}
@@ -28,7 +28,7 @@ any-owner-requires : tie.Need-any-owner-requires
 any-owner-requires c κs = search needs
 
 returns : tie.Need-returns
-returns c = c .any-owner .ensures ∙ ap (λ (n : ℕ). any ownerIn (rows 70 decConn n (tableIn (c .before .before .before .before .args .s .now)))) (c .before .before .u16-at .ensures) ∙ sym (owned-rows (c .before .before .before .before .args .s .now))
+returns c = c .any-owner .ensures ∙ ap (λ (n : ℕ). any ownerIn (connsIn n (tableIn (c .before .before .before .before .args .s .now)))) (c .before .before .u16-at .ensures) ∙ sym (owned-rows (c .before .before .before .before .args .s .now))
 
 pub is-owned-spec : {M : Type 1} → statement M
 is-owned-spec =

@@ -1,14 +1,13 @@
 use mathlib.Core.Path.{_≡_, refl, sym, _∙_}
 use Prim.Native.Nat.{_≤_, _-_}
 use lib.ListN.{drop}
-use Rattle.cells.specs.Numbers.{le}
 use Rattle.tables.specs.Tables.{rows}
 use Rattle.rules.specs.Lists.{any}
 use Rattle.rules.specs.Objects.{running}
-use Rattle.layout.specs.Places.{tableIn}
-use Rattle.layout.specs.Rows.{decConn}
+use Rattle.layout.specs.Places.{tableIn, rowSize, connectionsOf}
+use Rattle.layout.specs.Rows.{decConn, connsIn}
 use Rattle.image.specs.Image.{view}
-use Rattle.streams.specs.TableLaws.{any-hit, any-miss, any-ends}
+use Rattle.searches.specs.Searches.{any-hit, any-miss, any-ends}
 use Rattle.status.specs.Status.{runsIn, running-rows}
 use borrow.Author.Needs.{needs}
 use native.Mathlib.Omega.{arith}
@@ -16,7 +15,7 @@ use Rattle.status.proofs.is_running.Statement.{statement}
 use Rattle.status.proofs.is_running.Tie as tie
 
 abbrev Inv-loop : tie.InvT-loop
-Inv-loop s n i₀ i = (i ≤ n) × (running (view s) ≡ any (runsIn (view s)) (drop i (rows 70 decConn (le 2 s 224) (tableIn s))))
+Inv-loop s n i₀ i = (i ≤ n) × (running (view s) ≡ any (runsIn (view s)) (drop i (connsIn (connectionsOf s) (tableIn s))))
 
 abbrev μ-loop : tie.MeasureT-loop
 μ-loop s n i₀ i = n - i
@@ -34,7 +33,7 @@ running-at-requires : tie.Need-running-at-requires Inv-loop μ-loop
 running-at-requires c κs = let e = c .before .before .u16-at .ensures in (c .before .before .before .before .pre, omega arith)
 
 returns : tie.Need-returns Inv-loop μ-loop
-returns c = let s = c .before .before .before .before .before .before .args .s .now in let w = c .before .before .before .loop in let e = c .before .before .before .before .u16-at .ensures in sym (w .inv .1 ∙ any-hit 70 decConn (runsIn (view s)) (le 2 s 224) (tableIn s) (w .i) (omega arith) (sym (c .before .running-at .ensures) ∙ c .if1 .taken))
+returns c = let s = c .before .before .before .before .before .before .args .s .now in let w = c .before .before .before .loop in let e = c .before .before .before .before .u16-at .ensures in sym (w .inv .1 ∙ any-hit rowSize decConn (runsIn (view s)) (connectionsOf s) (tableIn s) (w .i) (omega arith) (sym (c .before .running-at .ensures) ∙ c .if1 .taken))
 
 add-i : tie.Need-add-i Inv-loop μ-loop
 add-i c = omega arith
@@ -43,10 +42,10 @@ loop-less : tie.Need-loop-less Inv-loop μ-loop
 loop-less c = omega arith
 
 loop-again : tie.Need-loop-again Inv-loop μ-loop
-loop-again c = let s = c .before .before .before .before .before .before .args .s .now in let w = c .before .before .before .loop in let e = c .before .before .before .before .u16-at .ensures in (omega arith, w .inv .1 ∙ any-miss 70 decConn (runsIn (view s)) (le 2 s 224) (tableIn s) (w .i) (omega arith) (sym (c .before .running-at .ensures) ∙ c .if1 .left))
+loop-again c = let s = c .before .before .before .before .before .before .args .s .now in let w = c .before .before .before .loop in let e = c .before .before .before .before .u16-at .ensures in (omega arith, w .inv .1 ∙ any-miss rowSize decConn (runsIn (view s)) (connectionsOf s) (tableIn s) (w .i) (omega arith) (sym (c .before .running-at .ensures) ∙ c .if1 .left))
 
 returns-2 : tie.Need-returns-2 Inv-loop μ-loop
-returns-2 c = let s = c .before .before .before .before .args .s .now in let w = c .before .loop in let e = c .before .before .u16-at .ensures in sym (w .inv .1 ∙ any-ends 70 decConn (runsIn (view s)) (le 2 s 224) (tableIn s) (w .i) (omega arith))
+returns-2 c = let s = c .before .before .before .before .args .s .now in let w = c .before .loop in let e = c .before .before .u16-at .ensures in sym (w .inv .1 ∙ any-ends rowSize decConn (runsIn (view s)) (connectionsOf s) (tableIn s) (w .i) (omega arith))
 
 pub is-running-spec : {M : Type 1} → statement M
 is-running-spec =

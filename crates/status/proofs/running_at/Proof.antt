@@ -1,7 +1,7 @@
 -- A row of another kind does not run; an owner's row runs where its output does.
 use borrow.Author.Tests.{not-true, not-false}
 use Rattle.layout.specs.Places.{tableIn}
-use Rattle.layout.specs.Rows.{rowAt, decConn}
+use Rattle.layout.specs.Rows.{connAt}
 use Rattle.image.specs.Image.{view}
 use Rattle.status.specs.Status.{row-other, row-owner}
 use borrow.Author.Needs.{needs}
@@ -28,7 +28,7 @@ returns c =
     let at-is-owner = c .before in
     let at-fixed-at = at-is-owner .before in
     let at-entry = at-fixed-at .before .before .before in
-    row-other (view (at-entry .args .s .now)) (decConn (rowAt (tableIn (at-entry .args .s .now)) (at-entry .args .i))) _ (at-fixed-at .fixed-at .ensures) _ (at-is-owner .is-owner .ensures)
+    row-other (view (at-entry .args .s .now)) (connAt (tableIn (at-entry .args .s .now)) (at-entry .args .i)) _ (at-fixed-at .fixed-at .ensures) _ (at-is-owner .is-owner .ensures)
     (not-true _ (c .if1 .taken))
 
 cast-runs : tie.Need-cast-runs
@@ -43,7 +43,7 @@ returns-2 c =
     let at-is-owner = at-if1 .before in
     let at-fixed-at = at-is-owner .before in
     let at-entry = at-fixed-at .before .before .before in
-    row-owner (view (at-entry .args .s .now)) (decConn (rowAt (tableIn (at-entry .args .s .now)) (at-entry .args .i))) _ (at-fixed-at .fixed-at .ensures) _ (at-is-owner .is-owner .ensures)
+    row-owner (view (at-entry .args .s .now)) (connAt (tableIn (at-entry .args .s .now)) (at-entry .args .i)) _ (at-fixed-at .fixed-at .ensures) _ (at-is-owner .is-owner .ensures)
     (not-false _ (at-if1 .if1 .left)) _ (c .runs .ensures)
 
 pub running-at-spec : {M : Type 1} → statement M

@@ -1,8 +1,7 @@
-use mathlib.Core.Path.{ap, _∙_}
-use Prim.Native.Nat.{ℕ, _%_}
-use Rattle.cells.specs.Records.{toBool}
-use Rattle.status.specs.Status.{run-past, run-at}
+-- A place past the list is not in run; else the mark says it.
+use mathlib.Core.Path.{_∙_}
 use native.Mathlib.Omega.{arith}
+use Rattle.status.specs.Status.{run-past, run-at}
 use borrow.Author.Needs.{needs}
 use Rattle.status.proofs.runs.Statement.{statement}
 use Rattle.status.proofs.runs.Tie as tie
@@ -14,16 +13,19 @@ cast-n : tie.Need-cast-n
 cast-n c = search needs
 
 returns : tie.Need-returns
-returns c = run-past (c .before .before .before .args .s .now) (c .before .before .before .pre .test) (λ j. omega (arith, c .before .before .shared-slice-known .given j)) (c .before .before .before .args .i) (omega arith)
+returns c =
+    let at-known = c .before .before in
+    let at-entry = at-known .before in
+    run-past (at-entry .args .s .now) (at-entry .pre .test) (λ j. omega (arith, at-known .shared-slice-known .given j)) (at-entry .args .i) (omega arith)
 
-add-u8-at : tie.Need-add-u8-at
-add-u8-at c = search needs
-
-u8-at-requires-2 : tie.Need-u8-at-requires-2
-u8-at-requires-2 c κs = search needs
+runs-requires : tie.Need-runs-requires
+runs-requires c κs = search needs
 
 returns-2 : tie.Need-returns-2
-returns-2 c = ap (λ (m : ℕ). toBool (m % 2)) (c .u8-at2 .ensures) ∙ run-at (c .before .before .before .before .args .s .now) (c .before .before .before .before .pre .test) (λ j. omega (arith, c .before .before .before .shared-slice-known .given j)) (c .before .before .before .before .args .i) (omega arith)
+returns-2 c =
+    let at-known = c .before .before .before in
+    let at-entry = at-known .before in
+    c .runs .ensures ∙ run-at (at-entry .args .s .now) (at-entry .pre .test) (λ j. omega (arith, at-known .shared-slice-known .given j)) (at-entry .args .i) (omega arith)
 
 pub runs-spec : {M : Type 1} → statement M
-runs-spec = tie.close (tie.spec u8-at-requires cast-n returns add-u8-at u8-at-requires-2 returns-2)
+runs-spec = tie.close (tie.spec u8-at-requires cast-n returns runs-requires returns-2)

@@ -1,6 +1,6 @@
 use native.Mathlib.Omega.{arith}
 use borrow.Author.Tests.{ne-eqb}
-use Rattle.wire_paths.proofs.AddingLaws.{count-stops}
+use Rattle.wire_paths.proofs.MoreLaws.{count-stops}
 use Rattle.wire_paths.proofs.add_number.Statement.{statement}
 use Rattle.wire_paths.proofs.add_number.Tie as tie
 

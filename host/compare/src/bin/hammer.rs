@@ -1,7 +1,8 @@
 //! The command `hammer`: random calls on random states, for valgrind to watch. Every lent buffer is an allocation of its own, so that a
 //! byte read or written past its end is seen.
 
-use compare::{Call, Generator, Library, Seen, Side, grouped, say};
+use compare::places::EVENTS;
+use compare::{Call, Generator, Library, RECORD, Seen, Side, grouped, plant_tested, say};
 use std::collections::BTreeMap;
 use std::process::ExitCode;
 
@@ -50,29 +51,6 @@ fn random_state(n: &mut Numbers, size: usize) -> Vec<u8> {
     state
 }
 
-/// Makes the fields that docs/STATE.md names as tested good.
-fn pass(n: &mut Numbers, s: &mut [u8]) {
-    s[0] = n.below(17) as u8;
-    s[1] = 1 + n.below(255) as u8;
-    s[2] = n.below(33) as u8;
-    s[3] = n.below(33) as u8;
-    s[4..8].copy_from_slice(&(n.below(65_537) as u32).to_le_bytes());
-    for shape in 0..16 {
-        s[112 + 5 * shape..114 + 5 * shape].copy_from_slice(&(n.below(513) as u16).to_le_bytes());
-    }
-    s[216] |= 1;
-    s[220..222].copy_from_slice(&(n.below(1024) as u16).to_le_bytes());
-    s[222..224].copy_from_slice(&(n.below(1025) as u16).to_le_bytes());
-    s[224..226].copy_from_slice(&(n.below(33) as u16).to_le_bytes());
-    s[226..228].copy_from_slice(&(n.below(2) as u16).to_le_bytes());
-    for place in 0..16 {
-        s[240 + place] = n.below(4) as u8;
-    }
-    for row in 0..32 {
-        s[256 + 70 * row + 28] = n.below(24) as u8;
-    }
-}
-
 fn passes(library: &mut Library) -> bool {
     let mut out = vec![0; 24];
     library.call(&Call::Stats { room: 24 }, &mut out) as u8 != 1
@@ -95,7 +73,7 @@ fn run(n: &mut Numbers, number: u64, calls: u64, tally: &mut Tally) -> Result<u6
         }
         Made::Passing => {
             let mut state = random_state(n, size);
-            pass(n, &mut state);
+            plant_tested(&mut state, |bound| n.below(bound as u64) as usize);
             library.set_state(state);
         }
         Made::Damaged => {
@@ -108,7 +86,8 @@ fn run(n: &mut Numbers, number: u64, calls: u64, tally: &mut Tally) -> Result<u6
         let call = generator.next(&seen);
         if made == Made::Damaged && n.below(8) == 0 {
             let mut state = library.state().to_vec();
-            let at = n.below(3_000) as usize;
+            // what is tested stands before the events; some of those are changed as well
+            let at = n.below((EVENTS + 14 * RECORD) as u64) as usize;
             state[at] ^= 1 << n.below(8);
             library.set_state(state);
         }

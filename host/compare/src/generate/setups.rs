@@ -1,8 +1,10 @@
 //! Setups within the sizes (docs/RULES.md, chapter 1), and some beyond.
 
 use super::Generator;
+use crate::block::{self, MOST_ASSEMBLIES, MOST_NAME};
 use crate::bytes::{Setup, Shape};
-use crate::call::{Call, SESSIONS};
+use crate::call::{BLOCK, Call, SESSIONS};
+use crate::places::SLOT;
 
 const SIZES: [usize; 14] = [0, 1, 2, 3, 4, 8, 32, 100, 500, 506, 509, 510, 511, 512];
 const EDS_SIZES: [usize; 14] = [0, 1, 2, 100, 239, 240, 241, 300, 479, 480, 481, 719, 720, 1000];
@@ -111,11 +113,9 @@ impl Generator {
         let mut block = setup.block();
         if self.rng.chance(20) {
             // what lies past the lengths and the number of assemblies is not read
-            for byte in &mut block[46 + name..78] {
-                *byte = self.rng.byte();
-            }
-            for byte in &mut block[110 + 5 * setup.assemblies.len()..] {
-                *byte = self.rng.byte();
+            let unused = (setup.assemblies.len()..MOST_ASSEMBLIES).flat_map(block::fields).flatten();
+            for at in (block::NAME + name..block::NAME + MOST_NAME).chain(unused).chain(block::SPARE..BLOCK) {
+                block[at] = self.rng.byte();
             }
         }
         self.setup = setup;
@@ -136,31 +136,32 @@ impl Generator {
             return call;
         };
         match self.rng.below(12) {
-            0 => block[0] = 17 + self.rng.below(239) as u8,
-            1 => block[1] = 0,
-            2 => block[2] = 33,
-            3 => block[3] = 33 + self.rng.below(222) as u8,
-            4 => block[4 + self.rng.index(4)] = 2,
-            5 => block.truncate(self.rng.index(192)),
+            0 => block[block::ASSEMBLIES] = 17 + self.rng.below(239) as u8,
+            1 => block[block::TRANSFER_LIMIT] = 0,
+            2 => block[block::NAME_LENGTH] = 33,
+            3 => block[block::EDS_NAME_LENGTH] = 33 + self.rng.below(222) as u8,
+            4 => block[block::EDS + self.rng.index(4)] = 2,
+            5 => block.truncate(self.rng.index(BLOCK)),
             6 => block.push(0),
             7 => {
-                block[4..8].fill(0);
+                block[block::EDS..block::EDS + 4].fill(0);
                 eds = vec![7];
             }
             8 => {
-                block[4] = 1;
+                block[block::EDS] = 1;
                 eds = vec![0; 65_536];
             }
             n if bad_assemblies > 0 => {
-                let at = 110 + 5 * self.rng.index(bad_assemblies);
+                let place = self.rng.index(bad_assemblies);
+                let [instance, size, _] = block::fields(place);
                 match n {
-                    9 => block[at + 2..at + 4].copy_from_slice(&513u16.to_le_bytes()),
-                    10 => block[at + 4] = self.rng.pick(&[0, 4, 255]),
-                    _ if bad_assemblies > 1 && at > 110 => block.copy_within(110..112, at),
-                    _ => block[at..at + 2].fill(0),
+                    9 => block[size].copy_from_slice(&(SLOT as u16 + 1).to_le_bytes()),
+                    10 => block[block::kind(place)] = self.rng.pick(&[0, 4, 255]),
+                    _ if place > 0 => block.copy_within(block::fields(0)[0].clone(), instance.start),
+                    _ => block[instance].fill(0),
                 }
             }
-            _ => block[1] = 0,
+            _ => block[block::TRANSFER_LIMIT] = 0,
         }
         Call::Setup { block, eds, seed }
     }

@@ -1,3 +1,4 @@
+-- Each turn brings one size's high byte below 2; the bytes stay as many.
 use Prim.Native.Nat.{_+_, _-_, _≤_}
 use mathlib.Core.Path.{_≡_}
 use lib.ListN.{length}
@@ -22,12 +23,6 @@ add-below c = search needs
 
 below-requires : tie.Need-below-requires Inv-loop μ-loop
 below-requires c κs = search needs
-
-add-below-2 : tie.Need-add-below-2 Inv-loop μ-loop
-add-below-2 c = search needs
-
-below-requires-2 : tie.Need-below-requires-2 Inv-loop μ-loop
-below-requires-2 c κs = search needs
 
 add-i : tie.Need-add-i Inv-loop μ-loop
 add-i c = search needs
@@ -54,8 +49,6 @@ mend-shapes-spec =
     mul-below
     add-below
     below-requires
-    add-below-2
-    below-requires-2
     add-i
     loop-less
     loop-again

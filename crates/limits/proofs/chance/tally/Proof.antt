@@ -4,9 +4,10 @@ use lib.ListN.{length}
 use borrow.Author.Needs.{needs}
 use Rattle.limits.proofs.chance.tally.Statement.{statement}
 use Rattle.limits.proofs.chance.tally.Tie as tie
+use Rattle.layout.specs.Places.{stateSize}
 
 abbrev Inv-loop : tie.InvT-loop
-Inv-loop seed mend state₀ t₀ x₀ i₀ state t x i = (length state ≡ 109056) × (i ≤ 50)
+Inv-loop seed mend state₀ t₀ x₀ i₀ state t x i = (length state ≡ stateSize) × (i ≤ 50)
 
 abbrev μ-loop : tie.MeasureT-loop
 μ-loop seed mend state₀ t₀ x₀ i₀ state t x i = 50 - i

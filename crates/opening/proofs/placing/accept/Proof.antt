@@ -1,6 +1,7 @@
+-- An accepted open: what each step needs, and the steps together.
 use native.Mathlib.Omega.{arith}
 use Rattle.image.specs.Holds.{ready-tested}
-use Rattle.opening.specs.Sides.{conn-due}
+use Rattle.opening.specs.Sides.{conn-due, conn-input, conn-fits}
 use Rattle.opening.specs.AcceptLaws.{accept-short, side-here, next-some, accept-done}
 use borrow.Author.Needs.{needs}
 use Rattle.opening.proofs.placing.accept.Statement.{statement}
@@ -19,17 +20,37 @@ side-of-requires : tie.Need-side-of-requires
 side-of-requires c κs = search needs
 
 new-conn-requires : tie.Need-new-conn-requires
-new-conn-requires c κs = let a = c .before .before .before .before .before .before .before .before .args in
-    (c .before .before .before .before .before .before .before .before .pre .1, side-here (a .time) (a .o) (a .g) (a .config .now) (a .p) (a .s .now) (a .out .now) (c .before .before .before .before .before .before .before .before .pre .0) (λ i. omega (arith, c .before .before .before .before .before .before .before .slice-known .given i)) (c .before .before .u32-at .result) (c .before .after-id .result) (c .before .before .u32-at .ensures) (c .before .after-id .ensures) (c .side-of .result) (c .side-of .ensures))
+new-conn-requires c κs =
+    let at-after = c .before in
+    let at-id = at-after .before in
+    let known = at-id .before .before .before .before .before in
+    let start = known .before in
+    let a = start .args in (
+      start .pre .1,
+      side-here (a .time) (a .o) (a .g) (a .config .now) (a .p) (a .s .now) (a .out .now) (start .pre .0) (λ i. omega (arith, known .slice-known .given i)) (at-id .u32-at .result) (at-after .after-id .result) (at-id .u32-at .ensures)
+          (at-after .after-id .ensures) (c .side-of .result) (c .side-of .ensures),
+    )
 
 effect-requires : tie.Need-effect-requires
-effect-requires c κs = let a = c .before .before .before .before .before .before .before .before .before .before .args in (
-  ready-tested (a .s .now) (c .before .before .before .before .before .before .before .before .before .before .pre .0),
-  c .before .before .before .before .before .before .before .before .before .before .pre .2 .conns,
-  conn-due (a .time) (a .o) (a .g) (a .p) (c .before .before .before .before .u32-at .result) (c .before .new-conn .result) (c .before .new-conn .ensures) (c .before .before .before .before .before .before .before .before .before .before .pre .1),
-  next-some (a .time) (a .o) (a .g) (a .config .now) (a .p) (a .s .now) (a .out .now) (c .before .before .before .before .before .before .before .before .before .before .pre .0) (λ i. omega (arith, c .before .before .before .before .before .before .before .before .before .slice-known .given i)) (c .before .before .before .before .u32-at .result) (c .before .before .before .after-id .result) (c .before .before .before .before .u32-at .ensures) (c .before .before .before .after-id .ensures) (c .before .before .side-of .result) (c .before .before .side-of .ensures),
-  c .before .before .before .before .before .before .before .before .before .before .pre .2 .room,
-)
+effect-requires c κs =
+    let at-conn = c .before in
+    let at-side = at-conn .before in
+    let at-after = at-side .before in
+    let at-id = at-after .before in
+    let start = c .before .before .before .before .before .before .before .before .before .before in
+    let known = c .before .before .before .before .before .before .before .before .before in
+    let a = start .args in
+    let n = at-id .u32-at .result in
+    let x = at-conn .new-conn in (
+      ready-tested (a .s .now) (start .pre .0),
+      start .pre .2 .conns,
+      conn-due (a .time) (a .o) (a .g) (a .p) n (x .result) (x .ensures) (start .pre .1),
+      next-some (a .time) (a .o) (a .g) (a .config .now) (a .p) (a .s .now) (a .out .now) (start .pre .0) (λ i. omega (arith, known .slice-known .given i)) n (at-after .after-id .result) (at-id .u32-at .ensures)
+          (at-after .after-id .ensures) (at-side .side-of .result) (at-side .side-of .ensures),
+      start .pre .2 .room,
+      conn-input (a .time) (a .o) (a .g) (a .p) n (x .result) (x .ensures) (start .pre .2 .input),
+      conn-fits (a .time) (a .o) (a .g) (a .p) n (x .result) (x .ensures) (start .pre .2 .role),
+    )
 
 reply-requires : tie.Need-reply-requires
 reply-requires c κs = search needs
@@ -47,8 +68,22 @@ same-length-2 : tie.Need-same-length-2
 same-length-2 c = search needs
 
 returns-2 : tie.Need-returns-2
-returns-2 c = let a = c .before .before .before .before .before .before .before .before .before .before .before .before .before .before .before .before .before .before .before .before .args in
-    accept-done (a .time) (a .o) (a .g) (a .config .now) (a .p) (a .s .now) (a .out .now) (c .before .before .before .before .before .before .before .before .before .before .before .before .before .before .before .before .before .before .before .before .pre .0) (λ i. omega (arith, c .before .before .before .before .before .before .before .before .before .before .before .before .before .before .before .before .before .before .before .slice-known .given i)) (c .before .before .before .before .before .before .before .before .before .before .before .before .before .before .u32-at .result) (c .before .before .before .before .before .before .before .before .before .before .before .before .before .after-id .result) (c .before .before .before .before .before .before .before .before .before .before .before .before .before .before .u32-at .ensures) (c .before .before .before .before .before .before .before .before .before .before .before .before .before .after-id .ensures) (c .before .before .before .before .before .before .before .before .before .before .before .before .side-of .result) (c .before .before .before .before .before .before .before .before .before .before .before .before .side-of .ensures) (c .before .before .before .before .before .before .before .before .before .before .before .before .before .before .before .before .if1 .left) (c .before .before .before .before .before .before .before .before .before .before .before .new-conn .result) (c .before .before .before .before .before .before .before .before .before .before .before .new-conn .ensures) (c .before .before .before .before .before .before .before .before .before .effect .last .0) (c .before .before .before .before .before .reply .last .0) (c .before .before .before .before .before .before .before .before .before .effect .ensures .1) (c .before .before .before .before .before .before .before .before .before .before .before .before .before .before .before .before .before .before .before .before .pre .2 .fits) (c .before .before .before .before .before .reply .ensures) (c .before .asks-multicast .result) (c .before .asks-multicast .ensures) (c .accepted-number .result) (c .accepted-number .ensures)
+returns-2 c =
+    let at-asks = c .before in
+    let at-reply = at-asks .before .before .before .before in
+    let at-effect = at-reply .before .before .before .before in
+    let at-conn = at-effect .before .before in
+    let at-side = at-conn .before in
+    let at-after = at-side .before in
+    let at-id = at-after .before in
+    let at-if1 = at-id .before .before in
+    let known = at-if1 .before .before .before in
+    let start = known .before in
+    let a = start .args in
+    accept-done (a .time) (a .o) (a .g) (a .config .now) (a .p) (a .s .now) (a .out .now) (start .pre .0) (λ i. omega (arith, known .slice-known .given i)) (at-id .u32-at .result) (at-after .after-id .result) (at-id .u32-at .ensures)
+    (at-after .after-id .ensures) (at-side .side-of .result) (at-side .side-of .ensures) (at-if1 .if1 .left) (at-conn .new-conn .result) (at-conn .new-conn .ensures)
+    (at-effect .effect .last .0) (at-reply .reply .last .0) (at-effect .effect .ensures .1) (start .pre .2 .fits) (at-reply .reply .ensures)
+    (at-asks .asks-multicast .result) (at-asks .asks-multicast .ensures) (c .accepted-number .result) (c .accepted-number .ensures)
 
 pub accept-spec : {M : Type 1} → statement M
 accept-spec =

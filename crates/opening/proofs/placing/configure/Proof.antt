@@ -2,8 +2,8 @@
 use native.Mathlib.Omega.{arith}
 use mathlib.Core.Path.{refl}
 use lib.ListN.{length}
-use Rattle.cells.specs.Numbers.{le}
 use Rattle.rules.specs.declared.Event.the-variants.{Configured}
+use Rattle.layout.specs.Places.{connectionsOf}
 use Rattle.image.specs.Kept.{kept-few}
 use Rattle.events.specs.Records.{configured-is}
 use Rattle.events.specs.Pushes.{told-as}
@@ -41,7 +41,7 @@ returns c =
     let m = length (a .config .now) in
     let k = at-put-bytes .put-bytes .ensures .0 in (
       config-kept (a .i) (a .config .now) s s₁ s₂ k (at-tell-assembly .tell-assembly .ensures .0),
-      config-done (a .i) (a .config .now) s s₁ s₂ (let e = kept-few (le 2 s 224) s s₁ k in let p = at-entry .pre .1 in omega (arith, e, p)) v m (at-instance-at .instance-at .ensures) refl
+      config-done (a .i) (a .config .now) s s₁ s₂ (let e = kept-few (connectionsOf s) s s₁ k in let p = at-entry .pre .1 in omega (arith, e, p)) v m (at-instance-at .instance-at .ensures) refl
           (at-put-bytes .put-bytes .ensures .1) (told-as s₁ s₂ 4 v m (Configured v m) (configured-is v m) (at-tell-assembly .tell-assembly .ensures .1)),
     )
 

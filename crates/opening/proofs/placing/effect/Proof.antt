@@ -1,4 +1,5 @@
-use Rattle.cells.specs.Numbers.{le}
+-- The connection, its data and the fault mark, one after the other.
+use Rattle.layout.specs.Places.{connectionsOf}
 use Prim.Native.Nat.{_+_}
 use Rattle.opening.specs.StepLaws.{room-kept, open-kept, open-done}
 use borrow.Author.Needs.{needs}
@@ -6,10 +7,10 @@ use Rattle.opening.proofs.placing.effect.Statement.{statement}
 use Rattle.opening.proofs.placing.effect.Tie as tie
 
 place-requires : tie.Need-place-requires
-place-requires c κs = search needs
+place-requires c κs = let q = c .before .before .before .pre in (q .0, q .1, q .2, q .3, q .5, q .6)
 
 store-requires : tie.Need-store-requires
-store-requires c κs = let a = c .before .before .before .before .before .before .before .args in let k = c .before .before .before .place .ensures .0 in (k .ready, room-kept (a .stores) (a .config .now) (a .s .now) (le 2 (a .s .now) 224 + 1) (c .before .before .before .place .last .0) k (c .before .before .before .before .before .before .before .pre .4))
+store-requires c κs = let a = c .before .before .before .before .before .before .before .args in let k = c .before .before .before .place .ensures .0 in (k .ready, room-kept (a .stores) (a .config .now) (a .s .now) (connectionsOf (a .s .now) + 1) (c .before .before .before .place .last .0) k (c .before .before .before .before .before .before .before .pre .4))
 
 set-fault-requires : tie.Need-set-fault-requires
 set-fault-requires c κs = search needs

@@ -28,7 +28,7 @@ returns c =
     let s₂ = at-add-row .add-row .last .0 in
     let s₃ = at-tell .tell .last .0 in (
       place-kept (a .c) (a .next) s s₁ s₂ s₃ (at-set-next-id .set-next-id .ensures .0) (at-add-row .add-row .ensures .0) (at-tell .tell .ensures .0),
-      place-done (a .c) (a .next) s s₁ s₂ s₃ (at-entry .pre .1) (at-entry .pre .3) (at-set-next-id .set-next-id .ensures .1) (at-add-row .add-row .ensures .1) (at-tell .tell .ensures .1),
+      place-done (a .c) (a .next) s s₁ s₂ s₃ (at-entry .pre .1) (at-entry .pre .3) (at-entry .pre .5) (at-set-next-id .set-next-id .ensures .1) (at-add-row .add-row .ensures .1) (at-tell .tell .ensures .1),
     )
 
 pub place-spec : {M : Type 1} → statement M

@@ -5,13 +5,14 @@ use lib.ListN.{drop}
 use borrow.Author.Tests.{not-true, not-false}
 use Rattle.cells.specs.Back.{all}
 use Rattle.tables.specs.Tables.{rows}
+use Rattle.layout.specs.Places.{shapesAt}
 use Rattle.image.specs.TestLaws.{walk-stops, walk-on, walk-ends}
 use Rattle.starting.specs.Shapes.{shapeGiven}
 use Rattle.starting.proofs.shapes.shapes_given.Statement.{statement}
 use Rattle.starting.proofs.shapes.shapes_given.Tie as tie
 
 abbrev Inv-loop : tie.InvT-loop
-Inv-loop r n i₀ i = (i ≤ n) × (all (rows 5 shapeGiven n (drop 110 r)) ≡ all (drop i (rows 5 shapeGiven n (drop 110 r))))
+Inv-loop r n i₀ i = (i ≤ n) × (all (rows 5 shapeGiven n (drop shapesAt r)) ≡ all (drop i (rows 5 shapeGiven n (drop shapesAt r))))
 
 abbrev μ-loop : tie.MeasureT-loop
 μ-loop r n i₀ i = n - i
@@ -25,7 +26,7 @@ shape-given-requires c κs = let p = c .before .before .before .pre in (omega ar
 returns : tie.Need-returns Inv-loop μ-loop
 returns c =
     let a = c .before .before .before .before .before .args in let w = c .before .before .before .loop in
-    sym (w .inv .1 ∙ walk-stops 5 shapeGiven (a .n) (drop 110 (a .r .now)) (w .i) (c .before .before .loop-test .taken) (sym (c .before .shape-given .ensures) ∙ not-true (c .before .shape-given .result) (c .if1 .taken)))
+    sym (w .inv .1 ∙ walk-stops 5 shapeGiven (a .n) (drop shapesAt (a .r .now)) (w .i) (c .before .before .loop-test .taken) (sym (c .before .shape-given .ensures) ∙ not-true (c .before .shape-given .result) (c .if1 .taken)))
 
 add-i : tie.Need-add-i Inv-loop μ-loop
 add-i c = omega arith
@@ -36,10 +37,10 @@ loop-less c = omega arith
 loop-again : tie.Need-loop-again Inv-loop μ-loop
 loop-again c =
     let a = c .before .before .before .before .before .args in let w = c .before .before .before .loop in
-    (omega arith, w .inv .1 ∙ walk-on 5 shapeGiven (a .n) (drop 110 (a .r .now)) (w .i) (c .before .before .loop-test .taken) (sym (c .before .shape-given .ensures) ∙ not-false (c .before .shape-given .result) (c .if1 .left)))
+    (omega arith, w .inv .1 ∙ walk-on 5 shapeGiven (a .n) (drop shapesAt (a .r .now)) (w .i) (c .before .before .loop-test .taken) (sym (c .before .shape-given .ensures) ∙ not-false (c .before .shape-given .result) (c .if1 .left)))
 
 returns-2 : tie.Need-returns-2 Inv-loop μ-loop
-returns-2 c = let a = c .before .before .before .args in let w = c .before .loop in sym (w .inv .1 ∙ walk-ends 5 shapeGiven (a .n) (drop 110 (a .r .now)) (w .i) (c .loop-test .left))
+returns-2 c = let a = c .before .before .before .args in let w = c .before .loop in sym (w .inv .1 ∙ walk-ends 5 shapeGiven (a .n) (drop shapesAt (a .r .now)) (w .i) (c .loop-test .left))
 
 pub shapes-given-spec : {M : Type 1} → statement M
 shapes-given-spec =

@@ -1,69 +1,105 @@
+-- One law for each way out.
+use mathlib.Core.Path.{sym, _∙_}
+use borrow.Author.Tests.{not-true, not-false}
+use Rattle.layout.specs.Rows.{rowAt, decFixed}
 use Rattle.streams.specs.Joining.{carries-single, carries-listener, carries-other, carries-any, carries-equal}
 use borrow.Author.Needs.{needs}
 use Rattle.streams.proofs.joining.carries_at.Statement.{statement}
 use Rattle.streams.proofs.joining.carries_at.Tie as tie
 
-mul-u8-at : tie.Need-mul-u8-at
-mul-u8-at c = search needs
+input-at-requires : tie.Need-input-at-requires
+input-at-requires c κs = search needs
 
-add-u8-at : tie.Need-add-u8-at
-add-u8-at c = search needs
+torpi-at-requires : tie.Need-torpi-at-requires
+torpi-at-requires c κs = search needs
 
-u8-at-requires : tie.Need-u8-at-requires
-u8-at-requires c κs = search needs
-
-mul-u8-at-2 : tie.Need-mul-u8-at-2
-mul-u8-at-2 c = search needs
-
-add-u8-at-2 : tie.Need-add-u8-at-2
-add-u8-at-2 c = search needs
-
-u8-at-requires-2 : tie.Need-u8-at-requires-2
-u8-at-requires-2 c κs = search needs
-
-mul-u32-at : tie.Need-mul-u32-at
-mul-u32-at c = search needs
-
-add-u32-at : tie.Need-add-u32-at
-add-u32-at c = search needs
-
-u32-at-requires : tie.Need-u32-at-requires
-u32-at-requires c κs = search needs
+multicast-at-requires : tie.Need-multicast-at-requires
+multicast-at-requires c κs = search needs
 
 returns : tie.Need-returns
-returns c = let a = c .before .before .before .before .before .args in
-    carries-single (a .t .now) (a .i) (a .listens) (a .input) (a .rpi) (c .before .before .before .u8-at .result) (c .before .before .u8-at2 .result) (c .before .u32-at .result) (c .before .before .before .u8-at .ensures) (c .before .before .u8-at2 .ensures) (c .before .u32-at .ensures) (c .if1 .taken)
+returns c =
+    let at-many = c .before in
+    let a = at-many .before .before .before .before .args in
+    let many = at-many .multicast-at in
+    carries-single (decFixed (rowAt (a .t .now) (a .i))) (a .listens) (a .input) (a .rpi) (sym (many .ensures) ∙ not-true (many .result) (c .if1 .taken))
+
+listens-at-requires : tie.Need-listens-at-requires
+listens-at-requires c κs = search needs
 
 returns-2 : tie.Need-returns-2
-returns-2 c = let a = c .before .before .before .before .before .before .args in
-    carries-listener (a .t .now) (a .i) (a .listens) (a .input) (a .rpi) (c .before .before .before .before .u8-at .result) (c .before .before .before .u8-at2 .result) (c .before .before .u32-at .result) (c .before .before .before .before .u8-at .ensures) (c .before .before .before .u8-at2 .ensures) (c .before .before .u32-at .ensures) (c .before .if1 .left) (c .if2 .taken)
+returns-2 c =
+    let at-listener = c .before in
+    let at-if1 = at-listener .before in
+    let at-many = at-if1 .before in
+    let at-torpi = at-many .before in
+    let at-input = at-torpi .before in
+    let a = at-input .before .before .args in
+    let many = at-many .multicast-at in
+    let listener = at-listener .listens-at in
+    let found = at-input .input-at in
+    let torpi = at-torpi .torpi-at in
+    carries-listener (decFixed (rowAt (a .t .now) (a .i))) (a .listens) (a .input) (a .rpi) (found .result) (torpi .result) (many .result) (listener .result)
+    (many .ensures) (listener .ensures) (found .ensures) (torpi .ensures) (not-false (many .result) (at-if1 .if1 .left)) (c .if2 .taken)
 
 returns-3 : tie.Need-returns-3
-returns-3 c = let a = c .before .before .before .before .before .before .before .args in
-    carries-other (a .t .now) (a .i) (a .listens) (a .input) (a .rpi) (c .before .before .before .before .before .u8-at .result) (c .before .before .before .before .u8-at2 .result) (c .before .before .before .u32-at .result) (c .before .before .before .before .before .u8-at .ensures) (c .before .before .before .before .u8-at2 .ensures) (c .before .before .before .u32-at .ensures) (c .before .before .if1 .left) (c .before .if2 .left) (c .if3 .taken)
+returns-3 c =
+    let at-if2 = c .before in
+    let at-listener = at-if2 .before in
+    let at-if1 = at-listener .before in
+    let at-many = at-if1 .before in
+    let at-torpi = at-many .before in
+    let at-input = at-torpi .before in
+    let a = at-input .before .before .args in
+    let many = at-many .multicast-at in
+    let listener = at-listener .listens-at in
+    let found = at-input .input-at in
+    let torpi = at-torpi .torpi-at in
+    carries-other (decFixed (rowAt (a .t .now) (a .i))) (a .listens) (a .input) (a .rpi) (found .result) (torpi .result) (many .result) (listener .result)
+    (many .ensures) (listener .ensures) (found .ensures) (torpi .ensures) (not-false (many .result) (at-if1 .if1 .left)) (at-if2 .if2 .left) (c .if3 .taken)
 
 returns-4 : tie.Need-returns-4
-returns-4 c = let a = c .before .before .before .before .before .before .before .before .args in
-    carries-any (a .t .now) (a .i) (a .listens) (a .input) (a .rpi) (c .before .before .before .before .before .before .u8-at .result) (c .before .before .before .before .before .u8-at2 .result) (c .before .before .before .before .u32-at .result) (c .before .before .before .before .before .before .u8-at .ensures) (c .before .before .before .before .before .u8-at2 .ensures) (c .before .before .before .before .u32-at .ensures) (c .before .before .before .if1 .left) (c .before .before .if2 .left) (c .before .if3 .left) (c .if4 .taken)
+returns-4 c =
+    let at-if3 = c .before in
+    let at-if2 = at-if3 .before in
+    let at-listener = at-if2 .before in
+    let at-if1 = at-listener .before in
+    let at-many = at-if1 .before in
+    let at-torpi = at-many .before in
+    let at-input = at-torpi .before in
+    let a = at-input .before .before .args in
+    let many = at-many .multicast-at in
+    let listener = at-listener .listens-at in
+    let found = at-input .input-at in
+    let torpi = at-torpi .torpi-at in
+    carries-any (decFixed (rowAt (a .t .now) (a .i))) (a .listens) (a .input) (a .rpi) (found .result) (torpi .result) (many .result) (listener .result)
+    (many .ensures) (listener .ensures) (found .ensures) (torpi .ensures) (not-false (many .result) (at-if1 .if1 .left)) (at-if2 .if2 .left) (at-if3 .if3 .left) (c .if4 .taken)
 
 returns-5 : tie.Need-returns-5
-returns-5 c = let a = c .before .before .before .before .before .before .before .before .args in
-    carries-equal (a .t .now) (a .i) (a .listens) (a .input) (a .rpi) (c .before .before .before .before .before .before .u8-at .result) (c .before .before .before .before .before .u8-at2 .result) (c .before .before .before .before .u32-at .result) (c .before .before .before .before .before .before .u8-at .ensures) (c .before .before .before .before .before .u8-at2 .ensures) (c .before .before .before .before .u32-at .ensures) (c .before .before .before .if1 .left) (c .before .before .if2 .left) (c .before .if3 .left) (c .if4 .left)
+returns-5 c =
+    let at-if3 = c .before in
+    let at-if2 = at-if3 .before in
+    let at-listener = at-if2 .before in
+    let at-if1 = at-listener .before in
+    let at-many = at-if1 .before in
+    let at-torpi = at-many .before in
+    let at-input = at-torpi .before in
+    let a = at-input .before .before .args in
+    let many = at-many .multicast-at in
+    let listener = at-listener .listens-at in
+    let found = at-input .input-at in
+    let torpi = at-torpi .torpi-at in
+    carries-equal (decFixed (rowAt (a .t .now) (a .i))) (a .listens) (a .input) (a .rpi) (found .result) (torpi .result) (many .result) (listener .result)
+    (many .ensures) (listener .ensures) (found .ensures) (torpi .ensures) (not-false (many .result) (at-if1 .if1 .left)) (at-if2 .if2 .left) (at-if3 .if3 .left) (c .if4 .left)
 
 pub carries-at-spec : {M : Type 1} → statement M
 carries-at-spec =
     tie.close
     (tie.spec
-    mul-u8-at
-    add-u8-at
-    u8-at-requires
-    mul-u8-at-2
-    add-u8-at-2
-    u8-at-requires-2
-    mul-u32-at
-    add-u32-at
-    u32-at-requires
+    input-at-requires
+    torpi-at-requires
+    multicast-at-requires
     returns
+    listens-at-requires
     returns-2
     returns-3
     returns-4

@@ -2,11 +2,11 @@ use mathlib.Core.Path.{_≡_, refl, ap, sym, _∙_}
 use Prim.Native.Nat.{_≤_, _-_}
 use native.Mathlib.Omega.{arith}
 use lib.ListN.{drop}
-use Rattle.tables.specs.Tables.{rows}
 use Rattle.rules.specs.Lists.{find}
 use Rattle.rules.specs.Checks.{streamFound}
-use Rattle.layout.specs.Rows.{decFixed}
-use Rattle.streams.specs.TableLaws.{find-hit, find-miss, find-ends}
+use Rattle.layout.specs.Rows.{decFixed, fixedsIn}
+use Rattle.layout.specs.Places.{rowSize}
+use Rattle.searches.specs.Searches.{find-hit, find-miss, find-ends}
 use Rattle.streams.specs.Joining.{carriesFor}
 use borrow.Author.Needs.{needs}
 use Rattle.streams.proofs.joining.first_stream.Statement.{statement}
@@ -14,7 +14,7 @@ use Rattle.streams.proofs.joining.first_stream.Tie as tie
 
 abbrev Inv-loop : tie.InvT-loop
 Inv-loop t n listens input rpi i₀ i =
-    (i ≤ n) × (find (carriesFor listens input rpi) (rows 70 decFixed n t) ≡ find (carriesFor listens input rpi) (drop i (rows 70 decFixed n t)))
+    (i ≤ n) × (find (carriesFor listens input rpi) (fixedsIn n t) ≡ find (carriesFor listens input rpi) (drop i (fixedsIn n t)))
 
 abbrev μ-loop : tie.MeasureT-loop
 μ-loop t n listens input rpi i₀ i =
@@ -34,7 +34,7 @@ returns : tie.Need-returns Inv-loop μ-loop
 returns c =
     let a = c .before .before .before .before .before .before .args in
     let w = c .before .before .before .before .loop in
-    c .stream-at .ensures ∙ ap streamFound (sym (w .inv .1 ∙ find-hit 70 decFixed (carriesFor (a .listens) (a .input) (a .rpi)) (a .n) (a .t .now) (w .i) (omega arith) (sym (c .before .before .carries-at .ensures) ∙ c .before .if1 .taken)))
+    c .stream-at .ensures ∙ ap streamFound (sym (w .inv .1 ∙ find-hit rowSize decFixed (carriesFor (a .listens) (a .input) (a .rpi)) (a .n) (a .t .now) (w .i) (omega arith) (sym (c .before .before .carries-at .ensures) ∙ c .before .if1 .taken)))
 
 add-i : tie.Need-add-i Inv-loop μ-loop
 add-i c =
@@ -48,13 +48,13 @@ loop-again : tie.Need-loop-again Inv-loop μ-loop
 loop-again c =
     let a = c .before .before .before .before .before .args in
     let w = c .before .before .before .loop in
-    (omega arith, w .inv .1 ∙ find-miss 70 decFixed (carriesFor (a .listens) (a .input) (a .rpi)) (a .n) (a .t .now) (w .i) (omega arith) (sym (c .before .carries-at .ensures) ∙ c .if1 .left))
+    (omega arith, w .inv .1 ∙ find-miss rowSize decFixed (carriesFor (a .listens) (a .input) (a .rpi)) (a .n) (a .t .now) (w .i) (omega arith) (sym (c .before .carries-at .ensures) ∙ c .if1 .left))
 
 returns-2 : tie.Need-returns-2 Inv-loop μ-loop
 returns-2 c =
     let a = c .before .before .before .args in
     let w = c .before .loop in
-    ap streamFound (sym (w .inv .1 ∙ find-ends 70 decFixed (carriesFor (a .listens) (a .input) (a .rpi)) (a .n) (a .t .now) (w .i) (omega arith)))
+    ap streamFound (sym (w .inv .1 ∙ find-ends rowSize decFixed (carriesFor (a .listens) (a .input) (a .rpi)) (a .n) (a .t .now) (w .i) (omega arith)))
 
 pub first-stream-spec : {M : Type 1} → statement M
 first-stream-spec =

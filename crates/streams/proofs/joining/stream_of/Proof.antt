@@ -1,6 +1,5 @@
 use borrow.Author.Tests.{not-true, not-false}
-use Rattle.tables.specs.Tables.{rows}
-use Rattle.layout.specs.Rows.{decFixed}
+use Rattle.layout.specs.Rows.{fixedsIn}
 use Rattle.streams.specs.Joining.{stream-own, stream-first}
 use borrow.Author.Needs.{needs}
 use Rattle.streams.proofs.joining.stream_of.Statement.{statement}
@@ -11,7 +10,7 @@ is-multicast-requires c κs = search needs
 
 returns : tie.Need-returns
 returns c = let a = c .before .before .before .before .before .args in
-    stream-own (a .o) (a .kind) (a .input) (rows 70 decFixed (a .n) (a .t .now)) (c .before .is-multicast .result) (c .before .is-multicast .ensures) (not-true (c .before .is-multicast .result) (c .if1 .taken))
+    stream-own (a .o) (a .kind) (a .input) (fixedsIn (a .n) (a .t .now)) (c .before .is-multicast .result) (c .before .is-multicast .ensures) (not-true (c .before .is-multicast .result) (c .if1 .taken))
 
 is-listener-requires : tie.Need-is-listener-requires
 is-listener-requires c κs = search needs
@@ -21,7 +20,7 @@ first-stream-requires c κs = search needs
 
 returns-2 : tie.Need-returns-2
 returns-2 c = let a = c .before .before .before .before .before .before .before .args in
-    stream-first (a .o) (a .kind) (a .input) (rows 70 decFixed (a .n) (a .t .now)) (c .before .before .before .is-multicast .result) (c .before .before .before .is-multicast .ensures) (not-false (c .before .before .before .is-multicast .result) (c .before .before .if1 .left)) (c .before .is-listener .result) (c .before .is-listener .ensures) (c .first-stream .result) (c .first-stream .ensures)
+    stream-first (a .o) (a .kind) (a .input) (fixedsIn (a .n) (a .t .now)) (c .before .before .before .is-multicast .result) (c .before .before .before .is-multicast .ensures) (not-false (c .before .before .before .is-multicast .result) (c .before .before .if1 .left)) (c .before .is-listener .result) (c .before .is-listener .ensures) (c .first-stream .result) (c .first-stream .ensures)
 
 pub stream-of-spec : {M : Type 1} → statement M
 stream-of-spec =

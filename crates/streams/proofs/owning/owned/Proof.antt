@@ -2,18 +2,18 @@ use mathlib.Core.Path.{_≡_, refl, sym, _∙_}
 use Prim.Native.Nat.{_≤_, _-_}
 use native.Mathlib.Omega.{arith}
 use lib.ListN.{drop}
-use Rattle.tables.specs.Tables.{rows}
 use Rattle.rules.specs.Lists.{any}
 use Rattle.rules.specs.Checks.{owns}
-use Rattle.layout.specs.Rows.{decFixed}
-use Rattle.streams.specs.TableLaws.{any-hit, any-miss, any-ends}
+use Rattle.layout.specs.Rows.{decFixed, fixedsIn}
+use Rattle.layout.specs.Places.{rowSize}
+use Rattle.searches.specs.Searches.{any-hit, any-miss, any-ends}
 use borrow.Author.Needs.{needs}
 use Rattle.streams.proofs.owning.owned.Statement.{statement}
 use Rattle.streams.proofs.owning.owned.Tie as tie
 
 abbrev Inv-loop : tie.InvT-loop
 Inv-loop t n output i₀ i =
-    (i ≤ n) × (any (owns output) (rows 70 decFixed n t) ≡ any (owns output) (drop i (rows 70 decFixed n t)))
+    (i ≤ n) × (any (owns output) (fixedsIn n t) ≡ any (owns output) (drop i (fixedsIn n t)))
 
 abbrev μ-loop : tie.MeasureT-loop
 μ-loop t n output i₀ i =
@@ -30,7 +30,7 @@ returns : tie.Need-returns Inv-loop μ-loop
 returns c =
     let a = c .before .before .before .before .before .args in
     let w = c .before .before .before .loop in
-    sym (w .inv .1 ∙ any-hit 70 decFixed (owns (a .output)) (a .n) (a .t .now) (w .i) (omega arith) (sym (c .before .owns-at .ensures) ∙ c .if1 .taken))
+    sym (w .inv .1 ∙ any-hit rowSize decFixed (owns (a .output)) (a .n) (a .t .now) (w .i) (omega arith) (sym (c .before .owns-at .ensures) ∙ c .if1 .taken))
 
 add-i : tie.Need-add-i Inv-loop μ-loop
 add-i c =
@@ -44,13 +44,13 @@ loop-again : tie.Need-loop-again Inv-loop μ-loop
 loop-again c =
     let a = c .before .before .before .before .before .args in
     let w = c .before .before .before .loop in
-    (omega arith, w .inv .1 ∙ any-miss 70 decFixed (owns (a .output)) (a .n) (a .t .now) (w .i) (omega arith) (sym (c .before .owns-at .ensures) ∙ c .if1 .left))
+    (omega arith, w .inv .1 ∙ any-miss rowSize decFixed (owns (a .output)) (a .n) (a .t .now) (w .i) (omega arith) (sym (c .before .owns-at .ensures) ∙ c .if1 .left))
 
 returns-2 : tie.Need-returns-2 Inv-loop μ-loop
 returns-2 c =
     let a = c .before .before .before .args in
     let w = c .before .loop in
-    sym (w .inv .1 ∙ any-ends 70 decFixed (owns (a .output)) (a .n) (a .t .now) (w .i) (omega arith))
+    sym (w .inv .1 ∙ any-ends rowSize decFixed (owns (a .output)) (a .n) (a .t .now) (w .i) (omega arith))
 
 pub owned-spec : {M : Type 1} → statement M
 owned-spec =

@@ -1,8 +1,7 @@
 -- A reader owns nothing; a free output stops nothing; an owned one stops the open with its instance.
 use borrow.Author.Tests.{not-true, not-false}
 use mathlib.Core.List.{[]}
-use Rattle.tables.specs.Tables.{rows}
-use Rattle.layout.specs.Rows.{decFixed}
+use Rattle.layout.specs.Rows.{fixedsIn}
 use Rattle.layout.specs.Setups.{setupFrom}
 use Rattle.records.specs.Shapes.{shapeOf}
 use Rattle.streams.specs.Owning.{owner-other, owner-free, owner-taken}
@@ -15,7 +14,7 @@ is-owner-requires c κs = search needs
 
 returns : tie.Need-returns
 returns c = let a = c .before .before .before .before .args in
-    owner-other (setupFrom (a .r .now) []) (a .kind) (a .output) (rows 70 decFixed (a .n) (a .t .now)) (c .before .is-owner .result) (c .before .is-owner .ensures) (not-true (c .before .is-owner .result) (c .if1 .taken))
+    owner-other (setupFrom (a .r .now) []) (a .kind) (a .output) (fixedsIn (a .n) (a .t .now)) (c .before .is-owner .result) (c .before .is-owner .ensures) (not-true (c .before .is-owner .result) (c .if1 .taken))
 
 owned-requires : tie.Need-owned-requires
 owned-requires c κs = search needs
@@ -27,7 +26,7 @@ returns-2 c =
     let at-is-owner = at-if1 .before in
     let at-entry = at-is-owner .before .before .before in
     let a = at-entry .args in
-    owner-free (setupFrom (a .r .now) []) (a .kind) (a .output) (rows 70 decFixed (a .n) (a .t .now)) (at-is-owner .is-owner .result) (at-is-owner .is-owner .ensures)
+    owner-free (setupFrom (a .r .now) []) (a .kind) (a .output) (fixedsIn (a .n) (a .t .now)) (at-is-owner .is-owner .result) (at-is-owner .is-owner .ensures)
     (not-false (at-is-owner .is-owner .result) (at-if1 .if1 .left)) (at-owned .owned .result) (at-owned .owned .ensures) (not-true (at-owned .owned .result) (c .if2 .taken))
 
 instance-of-requires : tie.Need-instance-of-requires
@@ -42,7 +41,7 @@ returns-3 c =
     let at-is-owner = at-if1 .before in
     let at-entry = at-is-owner .before .before .before in
     let a = at-entry .args in
-    owner-taken (setupFrom (a .r .now) []) (a .kind) (a .output) (rows 70 decFixed (a .n) (a .t .now)) (at-is-owner .is-owner .result) (at-is-owner .is-owner .ensures)
+    owner-taken (setupFrom (a .r .now) []) (a .kind) (a .output) (fixedsIn (a .n) (a .t .now)) (at-is-owner .is-owner .result) (at-is-owner .is-owner .ensures)
     (not-false (at-is-owner .is-owner .result) (at-if1 .if1 .left)) (at-owned .owned .result) (at-owned .owned .ensures) (not-false (at-owned .owned .result) (at-if2 .if2 .left))
     (c .instance-of .result) (c .instance-of .ensures)
 

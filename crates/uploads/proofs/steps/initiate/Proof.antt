@@ -1,5 +1,6 @@
+-- The initiate over the lent bytes: the position is read, the step made by value, and both are written.
 use mathlib.Core.Path.{ap, _∙_}
-use Rattle.rules.specs.declared.objects.Upload.{Upload}
+use Rattle.rules.specs.declared.objects.Position.{Position}
 use Rattle.uploads.specs.Positions.{decUpload}
 use Rattle.uploads.specs.Sending.{done, initiateStep, initiate-done}
 use Rattle.uploads.specs.Lent.{put-whole, step-done}
@@ -7,14 +8,14 @@ use borrow.Author.Needs.{needs}
 use Rattle.uploads.proofs.steps.initiate.Statement.{statement}
 use Rattle.uploads.proofs.steps.initiate.Tie as tie
 
-upload-of-requires : tie.Need-upload-of-requires
-upload-of-requires c κs = search needs
+position-in-requires : tie.Need-position-in-requires
+position-in-requires c κs = search needs
 
 initiate-step-requires : tie.Need-initiate-step-requires
 initiate-step-requires c κs = search needs
 
-put-upload-requires : tie.Need-put-upload-requires
-put-upload-requires c κs = search needs
+put-position-requires : tie.Need-put-position-requires
+put-position-requires c κs = search needs
 
 send-requires : tie.Need-send-requires
 send-requires c κs = search needs
@@ -27,21 +28,25 @@ same-length-2 c = search needs
 
 returns : tie.Need-returns
 returns c =
-    let a = c .before .before .before .before .before .before .before .before .before .before .before .before .before .before .before .args in
-    let u = c .before .before .before .before .before .before .before .before .before .upload-of in
-    let s = c .before .before .before .before .before .before .before .before .initiate-step in
+    let at-send = c .before .before in
+    let at-put = at-send .before .before .before .before in
+    let at-step = at-put .before .before .before in
+    let at-read = at-step .before in
+    let at-entry = at-read .before .before .before .before .before .before in
+    let a = at-entry .args in
+    let s = at-step .initiate-step in
     step-done _ (a .out .now) _ (s .result .after)
-    (ap (done (a .eds .now)) (s .ensures ∙ ap (λ (x : Upload). initiateStep (a .limit) x (a .given .now)) (u .ensures))
+    (ap (done (a .eds .now)) (s .ensures ∙ ap (λ (x : Position). initiateStep (a .limit) x (a .given .now)) (at-read .position-in .ensures))
     ∙ initiate-done (a .limit) (a .eds .now) (decUpload (a .position .now)) (a .given .now))
-    _ _ _ (c .before .before .before .before .before .before .put-upload .ensures ∙ put-whole (a .position .now) (s .result .after) (c .before .before .before .before .before .before .before .before .before .before .before .before .before .before .before .pre .0)) (c .before .before .send .ensures)
+    _ _ _ (at-put .put-position .ensures ∙ put-whole (a .position .now) (s .result .after) (at-entry .pre .0)) (at-send .send .ensures)
 
 pub initiate-spec : {M : Type 1} → statement M
 initiate-spec =
     tie.close
     (tie.spec
-    upload-of-requires
+    position-in-requires
     initiate-step-requires
-    put-upload-requires
+    put-position-requires
     send-requires
     same-length
     same-length-2

@@ -1,24 +1,20 @@
+-- The transfer over the lent bytes: the position is moved in its bytes, and the reply written.
 use lib.ListN.{length}
 use mathlib.Core.Path.{ap, _∙_}
-use Rattle.rules.specs.declared.objects.Upload.{Upload}
-use Rattle.uploads.specs.Positions.{decUpload}
-use Rattle.uploads.specs.Sending.{done, transferStep, transfer-done}
+use Rattle.attributes.specs.Told.{told}
+use Rattle.uploads.specs.Positions.{decUpload, heldIn}
+use Rattle.uploads.specs.Sending.{outcomeOf, transferStep, transfer-done}
 use Rattle.uploads.specs.Lent.{put-whole, step-done}
+use Rattle.uploads.specs.declared.steps.Sends.{Sends}
 use borrow.Author.Needs.{needs}
 use Rattle.uploads.proofs.steps.transfer.Statement.{statement}
 use Rattle.uploads.proofs.steps.transfer.Tie as tie
 
-upload-of-requires : tie.Need-upload-of-requires
-upload-of-requires c κs = search needs
+cast-transfer-bytes : tie.Need-cast-transfer-bytes
+cast-transfer-bytes c = search needs
 
-cast-transfer-step : tie.Need-cast-transfer-step
-cast-transfer-step c = search needs
-
-transfer-step-requires : tie.Need-transfer-step-requires
-transfer-step-requires c κs = search needs
-
-put-upload-requires : tie.Need-put-upload-requires
-put-upload-requires c κs = search needs
+transfer-bytes-requires : tie.Need-transfer-bytes-requires
+transfer-bytes-requires c κs = search needs
 
 send-requires : tie.Need-send-requires
 send-requires c κs = search needs
@@ -31,22 +27,23 @@ same-length-2 c = search needs
 
 returns : tie.Need-returns
 returns c =
-    let a = c .before .before .before .before .before .before .before .before .before .before .before .before .before .before .before .args in
-    let u = c .before .before .before .before .before .before .before .before .before .upload-of in
-    let s = c .before .before .before .before .before .before .before .before .transfer-step in
-    step-done _ (a .out .now) _ (s .result .after)
-    (ap (done (a .eds .now)) (s .ensures ∙ ap (λ (x : Upload). transferStep (length (a .eds .now)) x (a .given .now)) (u .ensures))
-    ∙ transfer-done (a .eds .now) (decUpload (a .position .now)) (a .given .now))
-    _ _ _ (c .before .before .before .before .before .before .put-upload .ensures ∙ put-whole (a .position .now) (s .result .after) (c .before .before .before .before .before .before .before .before .before .before .before .before .before .before .before .pre .0)) (c .before .before .send .ensures)
+    let at-send = c .before .before in
+    let at-bytes = at-send .before .before .before .before in
+    let at-entry = at-bytes .before .before .before .before .before .before in
+    let a = at-entry .args in
+    let b = at-bytes .transfer-bytes in
+    let step = transferStep (length (a .eds .now)) (heldIn (decUpload (a .position .now))) (a .given .now) in
+    step-done _ (a .out .now) (outcomeOf (a .eds .now) (step .sends)) (step .after)
+    (transfer-done (a .eds .now) (a .position .now) (a .given .now))
+    _ _ _ (b .ensures .1 ∙ put-whole (a .position .now) (step .after) (at-entry .pre .0))
+    (at-send .send .ensures ∙ ap (λ (x : Sends). told (outcomeOf (a .eds .now) x) (a .out .now)) (b .ensures .0))
 
 pub transfer-spec : {M : Type 1} → statement M
 transfer-spec =
     tie.close
     (tie.spec
-    upload-of-requires
-    cast-transfer-step
-    transfer-step-requires
-    put-upload-requires
+    cast-transfer-bytes
+    transfer-bytes-requires
     send-requires
     same-length
     same-length-2

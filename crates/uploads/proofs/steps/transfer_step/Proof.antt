@@ -1,19 +1,20 @@
+-- The step of a transfer by value: no number, no upload, or what the number asks for.
 use Rattle.uploads.proofs.TurnLaws.{transfer-none, transfer-idle, transfer-under}
 use borrow.Author.Needs.{needs}
 use Rattle.uploads.proofs.steps.transfer_step.Statement.{statement}
 use Rattle.uploads.proofs.steps.transfer_step.Tie as tie
 
 returns : tie.Need-returns
-returns c = let a = c .before .before .args in transfer-none (a .len) (a .up) (a .given .now) (c .if1 .taken)
+returns c = let a = c .before .before .args in transfer-none (a .len) (a .p) (a .given .now) (c .if1 .taken)
+
+returns-2 : tie.Need-returns-2
+returns-2 c =
+    let at-if1 = c .before .before in
+    let a = at-if1 .before .before .args in
+    transfer-idle (a .len) (a .p) (a .given .now) (at-if1 .if1 .left) (c .if2 .taken)
 
 shared-slice-read-number : tie.Need-shared-slice-read-number
 shared-slice-read-number c = search needs
-
-enum-told : tie.Need-enum-told
-enum-told c = search needs
-
-enum-known-up : tie.Need-enum-known-up
-enum-known-up c = search needs
 
 turn-of-requires : tie.Need-turn-of-requires
 turn-of-requires c κs = search needs
@@ -21,21 +22,21 @@ turn-of-requires c κs = search needs
 in-turn-requires : tie.Need-in-turn-requires
 in-turn-requires c κs = search needs
 
-returns-2 : tie.Need-returns-2
-returns-2 c = let a = c .before .before .before .before .before .args in transfer-idle (a .len) (a .up) (a .given .now) (c .before .before .before .if1 .left) (c .enum-told .given .1)
-
 returns-3 : tie.Need-returns-3
-returns-3 c = let a = c .before .before .before .before .before .before .before .before .args in transfer-under (a .len) (a .up) (a .given .now) (c .before .before .before .before .before .before .if1 .left) _ (c .before .before .before .up .given .1) _ (c .before .turn-of .ensures) _ (c .in-turn .ensures)
+returns-3 c =
+    let at-turn = c .before in
+    let at-if2 = at-turn .before .before in
+    let at-if1 = at-if2 .before .before in
+    let a = at-if1 .before .before .args in
+    transfer-under (a .len) (a .p) (a .given .now) (at-if1 .if1 .left) (at-if2 .if2 .left) _ (at-turn .turn-of .ensures) _ (c .in-turn .ensures)
 
 pub transfer-step-spec : {M : Type 1} → statement M
 transfer-step-spec =
     tie.close
     (tie.spec
     returns
+    returns-2
     shared-slice-read-number
-    enum-told
-    enum-known-up
     turn-of-requires
     in-turn-requires
-    returns-2
     returns-3)
