@@ -3,6 +3,7 @@ mod cuts;
 mod frames;
 mod opens;
 mod text;
+mod timeouts;
 
 fn main() {
     opens::say_opens();
@@ -13,4 +14,5 @@ fn main() {
     cuts::say_ports();
     cuts::say_values();
     cuts::say_others();
+    timeouts::say_timeouts();
 }

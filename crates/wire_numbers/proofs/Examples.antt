@@ -2,9 +2,13 @@
 use mathlib.Core.Path.{_≡_, refl}
 use mathlib.Core.Bool.{true, false}
 use mathlib.Core.List.{[], _∷_, map}
-use Rattle.wire_numbers.specs.Timeout.{timeoutOf}
+use Rattle.wire_numbers.specs.Timeout.{factors, factorOf, timeoutOf}
 use Rattle.wire_numbers.specs.Group.{hostOf, groupOfHost, groupOf}
 use Rattle.wire_numbers.specs.Transport.{transportClass, directionBit, transportOk, compatibleBit, majorOf}
+
+-- the table is the factors of the multipliers 0 to 7, and no more
+pub eight-factors : map factorOf (0 ∷ 1 ∷ 2 ∷ 3 ∷ 4 ∷ 5 ∷ 6 ∷ 7 ∷ []) ≡ factors
+eight-factors = refl
 
 -- RPI 10,000 at the multipliers 0, 1, 6, 7, 8 and 200
 pub timeouts : map (timeoutOf 10000) (0 ∷ 1 ∷ 6 ∷ 7 ∷ 8 ∷ 200 ∷ []) ≡ 40000 ∷ 80000 ∷ 2560000 ∷ 5120000 ∷ 5120000 ∷ 5120000 ∷ []

@@ -40,23 +40,26 @@ pub fn major_of(major: u8) -> u8
     major & 0x7F
 }
 
+// Rule 5.17: the factors of the multipliers 0 to 7, as the standard's table lists them; in 16 bits, since each call writes the list out anew.
+const FACTORS: [u16; 8] = [4, 8, 16, 32, 64, 128, 256, 512];
+
 fn capped(multiplier: u8) -> u8
     ensures { λ r. ⌜ (r ≡ min multiplier 7) × (r ≤ 7) ⌝ }
 {
     if multiplier < 7 { multiplier } else { 7 }
 }
 
-fn factor(multiplier: u8) -> u64
+fn factor(multiplier: u8) -> u16
     ensures { λ r. ⌜ (r ≡ factorOf multiplier) × (r ≤ 512) ⌝ }
 {
-    4u64 << capped(multiplier)
+    FACTORS[capped(multiplier) as usize]
 }
 
-fn times(a: u32, b: u64) -> u64
+fn times(a: u32, b: u16) -> u64
     requires { ⌜ b ≤ 512 ⌝ }
     ensures { λ r. ⌜ r ≡ a * b ⌝ }
 {
-    (a as u64) * b
+    (a as u64) * (b as u64)
 }
 
 // The timeout of a connection in microseconds, by its O→T RPI.

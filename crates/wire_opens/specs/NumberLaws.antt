@@ -1,2 +1,2 @@
--- Bounds of the timeout and the host part, from `wire_numbers`.
-pub use Rattle.wire_numbers.specs.NumberLaws.{factor-most, timeout-most, host-low}
+-- The factors as powers of 2, bounds of the timeout, and the host part, from `wire_numbers`.
+pub use Rattle.wire_numbers.specs.NumberLaws.{factor-shift, factor-most, timeout-most, host-low}
