@@ -1,5 +1,5 @@
 // Connections end: a close that was asked for, and expiry.
-use wire_opens::CloseAnswer;
+use wire_rules::CloseAnswer;
 ghost use mathlib.Core.Path.{_≡_};
 ghost use Rattle.rules.specs.Removal.{closeCall, expireCall};
 ghost use Rattle.image.specs.Lift.{lifted, liftedOut};

@@ -2,7 +2,7 @@
 use opening::asking;
 use rules::Origin;
 use rules::Socket;
-use wire_opens::OpenAnswer;
+use wire_rules::OpenAnswer;
 ghost use mathlib.Core.Path.{_≡_};
 ghost use Rattle.rules.specs.Opening.{openCall, refusalAnswer};
 ghost use Rattle.image.specs.Lift.{liftedOut};

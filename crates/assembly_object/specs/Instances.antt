@@ -11,7 +11,7 @@ use borrow.Author.Tests.{eq-eqb, ne-eqb}
 use Rattle.tables.specs.Tables.{rows, rows-rest, rows-end}
 use Rattle.rules.specs.Lists.{place}
 use Rattle.rules.specs.State.{Shape}
-use Rattle.wire_requests.specs.declared.FirstAttribute.{FirstAttribute}
+use Rattle.wire_rules.specs.declared.FirstAttribute.{FirstAttribute}
 use Rattle.rules.specs.Attributes.{Attributes, single}
 use Rattle.rules.specs.Objects.{largestInstance, assemblyClass, assemblyPlace, assemblyObject, assembly}
 use Rattle.layout.specs.Places.{setupIn, shapesAt, shapeSize}

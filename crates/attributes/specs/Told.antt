@@ -5,8 +5,8 @@ use mathlib.Core.List.{List, [], _∷_, _++_}
 use lib.Dec.{eqb}
 use lib.ListN.{length}
 use lib.Seq.{sets}
-use Rattle.wire_requests.specs.declared.FirstAttribute.{FirstAttribute}
-use Rattle.wire_requests.specs.declared.FirstAttribute.the-variants.{Number, NoAttribute}
+use Rattle.wire_rules.specs.declared.FirstAttribute.{FirstAttribute}
+use Rattle.wire_rules.specs.declared.FirstAttribute.the-variants.{Number, NoAttribute}
 use Rattle.rules.specs.declared.objects.Fault.{Fault}
 use Rattle.rules.specs.declared.objects.Fault.the-variants.{ServiceUnknown, NotEnoughData}
 use Rattle.rules.specs.Attributes.{Outcome, Gives, Fails, Attributes, valueOf, getSingle}

@@ -9,8 +9,8 @@ use lib.ListN.{length, set}
 use lib.Seq.{sets}
 use borrow.Author.Tests.{eq-eqb, ne-eqb}
 use Rattle.cells.specs.Numbers.{put, bytesLe, length-bytesLe, sets-append}
-use Rattle.wire_requests.specs.declared.FirstAttribute.{FirstAttribute}
-use Rattle.wire_requests.specs.declared.FirstAttribute.the-variants.{Number, NoAttribute}
+use Rattle.wire_rules.specs.declared.FirstAttribute.{FirstAttribute}
+use Rattle.wire_rules.specs.declared.FirstAttribute.the-variants.{Number, NoAttribute}
 use Rattle.rules.specs.declared.objects.Fault.{Fault}
 use Rattle.rules.specs.declared.objects.Fault.the-variants.{ObjectUnknown, ServiceUnknown, AttributeUnknown}
 use Rattle.rules.specs.Attributes.{Outcome, Gives, Fails, Attributes, valueOf, attributeNamed, getSingle, single, among, shortString, languageTag, taggedText}

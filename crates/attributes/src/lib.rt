@@ -9,7 +9,7 @@ ghost use Rattle.cells.specs.Numbers.{bytesLe};
 ghost use Rattle.rules.specs.Attributes.{Gives, shortString, taggedText, languageTag, single, classAttributes, valueOf};
 ghost use Rattle.attributes.specs.Told.{told, wanted};
 use rules::objects::Fault;
-use wire_requests::FirstAttribute;
+use wire_rules::FirstAttribute;
 
 pub enum Given {
     Gives(usize),

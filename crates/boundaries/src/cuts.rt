@@ -1,8 +1,8 @@
 // Every form of path segment, cut at every byte.
 use crate::text;
-use wire_paths::Key;
-use wire_paths::Seg;
-use wire_paths::SegStep;
+use wire_rules::Key;
+use wire_rules::Seg;
+use wire_rules::SegStep;
 
 fn say_key(k: Key) {
     text::words(b"key, vendor ");

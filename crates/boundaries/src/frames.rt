@@ -2,8 +2,8 @@
 use crate::text;
 use cells::Written;
 use ids::ToId;
-use wire_items::IoFrame;
-use wire_items::Whole;
+use wire_rules::IoFrame;
+use wire_rules::Whole;
 
 fn say_frame(name: &[u8], frame: &[u8]) {
     text::input(name, frame.len());

@@ -1,8 +1,8 @@
 // 35 and 36 bytes of a small open, 39 and 40 of a large one, 11 and 12 of a close; a path of 510 bytes and of 512.
 use crate::text;
-use wire_opens::CloseAnswer;
-use wire_opens::OpenAnswer;
-use wire_paths::PathAnswer;
+use wire_rules::CloseAnswer;
+use wire_rules::OpenAnswer;
+use wire_rules::PathAnswer;
 
 fn say_open(name: &[u8], request: &[u8], large: bool) {
     text::input(name, request.len());

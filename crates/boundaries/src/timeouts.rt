@@ -5,10 +5,10 @@ fn say_timeout(multiplier: u8) {
     text::words(b"multiplier ");
     text::number(multiplier as usize);
     text::words(b": at RPI 1 the timeout is ");
-    text::number(wire_opens::timeout(1, multiplier) as usize);
+    text::number(wire_numbers::timeout(1, multiplier) as usize);
     text::answer_at(
         b", at RPI 4294967295 ",
-        wire_opens::timeout(4294967295, multiplier) as usize,
+        wire_numbers::timeout(4294967295, multiplier) as usize,
     );
 }
 

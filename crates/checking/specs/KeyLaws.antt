@@ -5,9 +5,9 @@ use mathlib.Core.Path.{_≡_, refl, ap, sym, _∙_}
 use Prim.Native.Nat.{ℕ}
 use lib.Dec.{eqb, ltb}
 use borrow.Author.Tests.{eq-eqb, ne-eqb}
-use Rattle.wire_opens.specs.Transport.{compatibleBit, majorOf}
-use Rattle.wire_paths.specs.declared.Key.{Key}
-use Rattle.wire_paths.specs.declared.ConnectionPath.{ConnectionPath}
+use Rattle.wire_rules.specs.Transport.{compatibleBit, majorOf}
+use Rattle.wire_rules.specs.declared.Key.{Key}
+use Rattle.wire_rules.specs.declared.ConnectionPath.{ConnectionPath}
 use Rattle.rules.specs.declared.Stop.{Stop}
 use Rattle.rules.specs.State.{Identity}
 use Rattle.rules.specs.declared.Stop.the-variants.{KeyVendor, KeyProduct, KeyDevice, KeyRevision}

@@ -5,9 +5,9 @@ use mathlib.Core.Path.{_≡_, refl, ap, sym, _∙_}
 use Prim.Native.Nat.{ℕ, _<_, _≤_}
 use lib.Dec.{leb}
 use borrow.Author.Tests.{le-leb, lt-leb}
-use Rattle.wire_opens.specs.declared.ForwardOpen.{ForwardOpen}
-use Rattle.wire_opens.specs.declared.NetType.{NetType}
-use Rattle.wire_opens.specs.Transport.{transportOk}
+use Rattle.wire_rules.specs.declared.ForwardOpen.{ForwardOpen}
+use Rattle.wire_rules.specs.declared.NetType.{NetType}
+use Rattle.wire_rules.specs.Transport.{transportOk}
 use Rattle.rules.specs.declared.Stop.{Stop}
 use Rattle.rules.specs.State.{Setup}
 use Rattle.rules.specs.declared.Stop.the-variants.{Transport, OtRpi, ToRpi, OtType, ToType}

@@ -1,14 +1,14 @@
 // Check 3: the key of the path is ours.
 use crate::Check;
 use rules::Stop;
-use wire_paths::ConnectionPath;
-use wire_paths::Key;
+use wire_rules::ConnectionPath;
+use wire_rules::Key;
 ghost use mathlib.Core.Path.{_≡_};
 ghost use mathlib.Core.Bool.{_&&_, _||_};
 ghost use Prim.Native.Nat.{_≤_};
 ghost use lib.Dec.{ltb};
 ghost use lib.ListN.{length};
-ghost use Rattle.wire_opens.specs.Transport.{compatibleBit};
+ghost use Rattle.wire_rules.specs.Transport.{compatibleBit};
 ghost use Rattle.rules.specs.Checks.{anyOr, revisionOk, keyStop, keyCheck};
 ghost use Rattle.layout.specs.Setups.{identityOf};
 ghost use Rattle.layout.specs.Places.{setupSize};
@@ -32,7 +32,7 @@ fn minor_ok(ours: u8, k: Key) -> bool
     if k.minor == ours {
         return true;
     }
-    if wire_opens::compatible(k.major) {
+    if wire_numbers::compatible(k.major) {
         return k.minor < ours;
     }
     false
@@ -42,7 +42,7 @@ fn revision_ok(r: &[u8], k: Key) -> bool
     requires { ⌜ setupSize ≤ length (now r) ⌝ }
     ensures { λ x. ⌜ x ≡ revisionOk (identityOf (now (r .entry))) k ⌝ }
 {
-    let asked = wire_opens::major_of(k.major);
+    let asked = wire_numbers::major_of(k.major);
     if asked == 0 {
         return true;
     }

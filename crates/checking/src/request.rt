@@ -1,9 +1,9 @@
 // The checks that read the request and no more than the setup's numbers: 1, 2, 6 and 7.
 use crate::Check;
 use rules::Stop;
-use wire_opens::ForwardOpen;
-use wire_opens::NetType;
-use wire_paths::ConnectionPath;
+use wire_rules::ForwardOpen;
+use wire_rules::NetType;
+use wire_rules::ConnectionPath;
 ghost use mathlib.Core.Path.{_≡_};
 ghost use mathlib.Core.List.{[]};
 ghost use mathlib.Core.Bool.{_&&_, not};
@@ -20,7 +20,7 @@ ghost use Rattle.checking.specs.Says.{stopIn};
 pub fn transport(o: ForwardOpen) -> Check
     ensures { λ x. ⌜ stopIn x ≡ transportCheck o ⌝ }
 {
-    if wire_opens::transport_ok(o.transport) {
+    if wire_numbers::transport_ok(o.transport) {
         return Check::Holds;
     }
     Check::Stops(Stop::Transport(o.transport))

@@ -7,10 +7,10 @@ use mathlib.Core.Path.{_≡_, refl, ap, sym, _∙_}
 use native.Mathlib.Omega.{arith}
 use lib.Dec.{eqb}
 use borrow.Author.Tests.{eq-eqb, ne-eqb}
-use Rattle.wire_opens.specs.declared.ForwardOpen.{ForwardOpen}
-use Rattle.wire_paths.specs.declared.ConnectionPath.{ConnectionPath}
-use Rattle.wire_paths.specs.declared.PathAnswer.{PathAnswer}
-use Rattle.wire_paths.specs.declared.PathAnswer.the-variants.{Parsed, Unparsed}
+use Rattle.wire_rules.specs.declared.ForwardOpen.{ForwardOpen}
+use Rattle.wire_rules.specs.declared.ConnectionPath.{ConnectionPath}
+use Rattle.wire_rules.specs.declared.PathAnswer.{PathAnswer}
+use Rattle.wire_rules.specs.declared.PathAnswer.the-variants.{Parsed, Unparsed}
 use Rattle.rules.specs.declared.Fixed.{Fixed}
 use Rattle.rules.specs.declared.Plan.{Plan}
 use Rattle.rules.specs.declared.Stop.{Stop}

@@ -21,9 +21,9 @@ use Rattle.rules.specs.declared.Kind.{Kind}
 use Rattle.rules.specs.declared.Sent.{Sent}
 use Rattle.ids.specs.declared.ToId.{ToId}
 use Rattle.ids.specs.declared.Triad.{Triad}
-use Rattle.wire_opens.specs.declared.CloseAnswer.{CloseAnswer}
-use Rattle.wire_opens.specs.declared.CloseAnswer.the-variants.{Close, NoClose}
-use Rattle.wire_opens.specs.Requests.{closeOf}
+use Rattle.wire_rules.specs.declared.CloseAnswer.{CloseAnswer}
+use Rattle.wire_rules.specs.declared.CloseAnswer.the-variants.{Close, NoClose}
+use Rattle.wire_rules.specs.Opens.{closeOf}
 use Rattle.image.specs.Image.{view, store, tested}
 use Rattle.image.specs.RowsFit.{RowsFit, fits-change, fits-keep}
 use Rattle.image.specs.Fits.{Suits}

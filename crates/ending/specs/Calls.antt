@@ -13,10 +13,10 @@ use Rattle.cells.specs.Numbers.{le}
 use Rattle.cells.specs.Back.{Bytes}
 use Rattle.cells.specs.Writes.{written, written-all}
 use Rattle.cells.specs.declared.Written.{Written}
-use Rattle.wire_opens.specs.declared.CloseAnswer.{CloseAnswer}
-use Rattle.wire_opens.specs.declared.CloseAnswer.the-variants.{Close, NoClose}
-use Rattle.wire_opens.specs.Requests.{closeOf}
-use Rattle.wire_replies.specs.Replies.{closeReply}
+use Rattle.wire_rules.specs.declared.CloseAnswer.{CloseAnswer}
+use Rattle.wire_rules.specs.declared.CloseAnswer.the-variants.{Close, NoClose}
+use Rattle.wire_rules.specs.Opens.{closeOf}
+use Rattle.wire_rules.specs.Replies.{closeReply}
 use Rattle.wire_replies.specs.ReplyLaws.{close-reply-long}
 use Rattle.rules.specs.Lists.{place, any}
 use Rattle.rules.specs.State.{State}

@@ -7,8 +7,8 @@ use mathlib.Core.Bool.{Bool, true, false, not}
 use Prim.Native.Nat.{ℕ}
 use native.Mathlib.Omega.{arith}
 use lib.ListN.{length}
-use Rattle.wire_opens.specs.Requests.{closeOf}
-use Rattle.wire_opens.specs.declared.CloseAnswer.the-variants.{Close}
+use Rattle.wire_rules.specs.Opens.{closeOf}
+use Rattle.wire_rules.specs.declared.CloseAnswer.the-variants.{Close}
 use Rattle.rules.specs.Lists.{find, keep, withoutFirst}
 use Rattle.rules_laws.specs.ListLaws
 use Rattle.rules_laws.specs.ListLaws.{All}

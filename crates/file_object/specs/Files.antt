@@ -7,7 +7,7 @@ use lib.Dec.{eqb}
 use lib.ListN.{length}
 use borrow.Author.Tests.{eq-eqb, ne-eqb}
 use Rattle.cells.specs.Numbers.{bytesLe}
-use Rattle.wire_requests.specs.declared.FirstAttribute.{FirstAttribute}
+use Rattle.wire_rules.specs.declared.FirstAttribute.{FirstAttribute}
 use Rattle.rules.specs.declared.objects.Upload.{Upload}
 use Rattle.rules.specs.declared.objects.Fault.the-variants.{ObjectUnknown}
 use Rattle.rules.specs.State.{Setup}

@@ -14,15 +14,15 @@ use Rattle.cells.specs.BigEndian.{bytesBe}
 use Rattle.cells.specs.Records.{encFields}
 use Rattle.cells.specs.Back.{all}
 use Rattle.tables.specs.Tables.{rows}
-use Rattle.wire_items.specs.Items.{startOf, stepAt, itemsFrom, itemsOf}
-use Rattle.wire_items.specs.Frames.{ioOf, ioFrame}
-use Rattle.wire_paths.specs.Segments.{portAt, logicalAt, keyOf, keyAt, dataAt, segAt, segsFrom, segsOf}
-use Rattle.wire_paths.specs.Segments
-use Rattle.wire_paths.specs.ConnectionPath.{gather, last, connectionPath, pathOf}
-use Rattle.wire_paths.specs.ConnectionPath
-use Rattle.wire_opens.specs.Params.{paramsAt}
-use Rattle.wire_opens.specs.Requests.{triadAt, wayAt, placeAt, fieldsOf, openWith, widthOf, openOf}
-use Rattle.wire_replies.specs.Replies.{openReply}
+use Rattle.wire_rules.specs.Items.{startOf, stepAt, itemsFrom, itemsOf}
+use Rattle.wire_rules.specs.Frames.{ioOf, ioFrame}
+use Rattle.wire_rules.specs.Segments.{portAt, logicalAt, keyOf, keyAt, dataAt, segAt, segsFrom, segsOf}
+use Rattle.wire_rules.specs.Segments
+use Rattle.wire_rules.specs.ConnectionPath.{gather, last, connectionPath, pathOf}
+use Rattle.wire_rules.specs.ConnectionPath
+use Rattle.wire_rules.specs.Params.{paramsAt}
+use Rattle.wire_rules.specs.Opens.{triadAt, wayAt, placeAt, fieldsOf, openWith, widthOf, openOf}
+use Rattle.wire_rules.specs.Replies.{openReply}
 use Rattle.rules.specs.State.{Setup, isOutput}
 use Rattle.rules.specs.Answers.{Answer, Wrote, Gone, answerNumber, answerBytes}
 use Rattle.rules.specs.Setup.{setupOk, fresh}

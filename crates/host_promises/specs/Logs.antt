@@ -11,8 +11,8 @@ use lib.Seq.{sets, sets-eq}
 use borrow.Author.Tests.{eq-eqb, eqb-false, leb-true}
 use Rattle.cells.specs.Numbers.{le, bytesLe}
 use Rattle.cells.specs.Records.{encFields, le-mid}
-use Rattle.wire_opens.specs.declared.OpenAnswer.the-variants.{Open, NoOpen}
-use Rattle.wire_replies.specs.Replies.{openReply}
+use Rattle.wire_rules.specs.declared.OpenAnswer.the-variants.{Open, NoOpen}
+use Rattle.wire_rules.specs.Replies.{openReply}
 use Rattle.rules_laws.specs.ListLaws.{by-cases, clash, either-way}
 use Rattle.rules.specs.declared.Verdict.the-variants.{Stopped, Planned}
 use Rattle.rules.specs.State.{State}

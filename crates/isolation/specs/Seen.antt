@@ -7,10 +7,10 @@ use mathlib.Core.Bool.{Bool, true, false, cond, not, _&&_}
 use Prim.Native.Nat.{ℕ, _+_}
 use lib.Dec.{eqb, leb}
 use lib.ListN.{length, length-map}
-use Rattle.wire_opens.specs.declared.OpenAnswer.the-variants.{Open, NoOpen}
-use Rattle.wire_opens.specs.declared.CloseAnswer.the-variants.{Close, NoClose}
-use Rattle.wire_items.specs.Frames.{ioOf}
-use Rattle.wire_opens.specs.Requests.{closeOf}
+use Rattle.wire_rules.specs.declared.OpenAnswer.the-variants.{Open, NoOpen}
+use Rattle.wire_rules.specs.declared.CloseAnswer.the-variants.{Close, NoClose}
+use Rattle.wire_rules.specs.Frames.{ioOf}
+use Rattle.wire_rules.specs.Opens.{closeOf}
 use Rattle.rules.specs.declared.AssemblyKind.the-variants.{Input, Output, Config}
 use Rattle.rules.specs.declared.Stores.the-variants.{Nothing, Into}
 use Rattle.rules.specs.declared.Verdict.the-variants.{Stopped, Planned}

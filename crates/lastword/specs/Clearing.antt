@@ -7,9 +7,9 @@ use mathlib.Core.Bool.{Bool, true, false, cond, not, _&&_, _||_}
 use Prim.Native.Nat.{ℕ, _+_, _-_, _^_, _≤_, _<_}
 use native.Mathlib.Omega.{arith}
 use borrow.Author.Tests.{ltb-false, lt-ltb}
-use Rattle.wire_items.specs.Frames.{ioOf}
-use Rattle.wire_opens.specs.Requests.{closeOf}
-use Rattle.wire_opens.specs.declared.CloseAnswer.the-variants.{Close}
+use Rattle.wire_rules.specs.Frames.{ioOf}
+use Rattle.wire_rules.specs.Opens.{closeOf}
+use Rattle.wire_rules.specs.declared.CloseAnswer.the-variants.{Close}
 use Rattle.rules.specs.Lists.{maybe, isSome}
 use Rattle.rules_laws.specs.ListLaws.{by-cases, clash}
 use Rattle.rules_laws.specs.ExpiryLaws.{same-test}

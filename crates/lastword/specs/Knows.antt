@@ -10,8 +10,8 @@ use lib.ListN.{length}
 use borrow.Author.Tests.{eq-eqb}
 use Rattle.cells.specs.Numbers.{le}
 use Rattle.cells.specs.Records.{encFields, le-mid}
-use Rattle.wire_opens.specs.Timeout.{timeoutOf}
-use Rattle.wire_replies.specs.Replies.{openReply}
+use Rattle.wire_rules.specs.Timeout.{timeoutOf}
+use Rattle.wire_rules.specs.Replies.{openReply}
 use Rattle.rules.specs.declared.Event.the-variants.{Closed}
 use Rattle.rules.specs.Lists.{find, any, changeFirst, withoutFirst, maybe, isSome}
 use Rattle.rules_laws.specs.ListLaws

@@ -7,7 +7,7 @@ use Prim.Native.Nat.{ℕ, suc, _+_, _-_, _%_, _^_}
 use lib.Dec.{eqb, leb, ltb}
 use lib.ListN.{length, drop, getD}
 use Rattle.cells.specs.Numbers.{le}
-use Rattle.wire_opens.specs.Timeout.{timeoutOf}
+use Rattle.wire_rules.specs.Timeout.{timeoutOf}
 use Rattle.rules.specs.Lists.{maybe}
 use Rattle.rules.specs.State.{Setup, triadIs}
 use Rattle.rules.specs.Answers.{Answer, answerBytes}

@@ -11,12 +11,12 @@ use borrow.Author.Tests.{leb-true, le-leb, eq-eqb, eqb-true, eqb-false}
 use Rattle.cells.specs.Numbers.{le, leOf, le-1, le-2, bytesLe}
 use Rattle.cells.specs.Records.{sum, encFields, decFields, dec-enc, length-encFields}
 use Rattle.cells.specs.Back.{Bytes, all, all-at, all-cons, all-nil}
-use Rattle.wire_requests.specs.declared.Object.{Object}
-use Rattle.wire_requests.specs.declared.Object.the-variants.{Named, NoObject}
-use Rattle.wire_requests.specs.declared.FirstAttribute.{FirstAttribute}
-use Rattle.wire_requests.specs.declared.RequestAnswer.{RequestAnswer}
-use Rattle.wire_requests.specs.declared.RequestAnswer.the-variants.{Parsed, Unparsed}
-use Rattle.wire_requests.specs.Requests.{requestOf}
+use Rattle.wire_rules.specs.declared.Object.{Object}
+use Rattle.wire_rules.specs.declared.Object.the-variants.{Named, NoObject}
+use Rattle.wire_rules.specs.declared.FirstAttribute.{FirstAttribute}
+use Rattle.wire_rules.specs.declared.RequestAnswer.{RequestAnswer}
+use Rattle.wire_rules.specs.declared.RequestAnswer.the-variants.{Parsed, Unparsed}
+use Rattle.wire_rules.specs.Requests.{requestOf}
 use Rattle.rules_laws.specs.ListLaws.{either-way, All}
 use Rattle.rules.specs.declared.objects.Last.{Last}
 use Rattle.rules.specs.declared.objects.Last.the-variants.{NoLast, Was}

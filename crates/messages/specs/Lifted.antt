@@ -7,7 +7,7 @@ use mathlib.Core.Path.{_≡_, refl, ap, sym, _∙_}
 use lib.ListN.{length}
 use lib.Seq.{sets}
 use Rattle.cells.specs.Pick.{pick}
-use Rattle.wire_requests.specs.Requests.{requestOf}
+use Rattle.wire_rules.specs.Requests.{requestOf}
 use Rattle.rules.specs.declared.objects.Upload.{Upload}
 use Rattle.rules.specs.State.{State}
 use Rattle.rules.specs.Attributes.{Outcome}

@@ -12,7 +12,7 @@ use borrow.Author.Tests.{eq-eqb, ne-eqb, eqb-true, eqb-false}
 use Rattle.cells.specs.Numbers.{le, le-1}
 use Rattle.cells.specs.Records.{decFields}
 use Rattle.cells.specs.Back.{Bytes, all, all-at, bytes-take, bytes-drop}
-use Rattle.wire_requests.specs.declared.FirstAttribute.{FirstAttribute}
+use Rattle.wire_rules.specs.declared.FirstAttribute.{FirstAttribute}
 use Rattle.rules.specs.declared.objects.Upload.{Upload}
 use Rattle.rules.specs.declared.objects.Fault.the-variants.{PathUnknown}
 use Rattle.rules.specs.State.{Setup, State, contentAt}

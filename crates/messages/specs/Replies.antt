@@ -10,7 +10,7 @@ use Rattle.cells.specs.Numbers.{bytesLe, sets-append, take-sets, drop-sets-add}
 use Rattle.cells.specs.Records.{encFields}
 use Rattle.cells.specs.Writes.{written, written-all}
 use Rattle.cells.specs.declared.Written.{Written}
-use Rattle.wire_replies.specs.Replies as wire
+use Rattle.wire_rules.specs.Replies as wire
 use Rattle.wire_replies.specs.ReplyLaws.{reply-head-long}
 use Rattle.rules.specs.declared.objects.Fault.{Fault}
 use Rattle.rules.specs.declared.objects.Upload.{Upload}

@@ -8,12 +8,12 @@ use lib.Dec.{eqb}
 use lib.ListN.{length, take, drop, length-drop}
 use lib.Seq.{take-all}
 use borrow.Author.Tests.{ne-eqb}
-use Rattle.wire_requests.specs.declared.FirstAttribute.{FirstAttribute}
-use Rattle.wire_requests.specs.declared.Object.{Object}
-use Rattle.wire_requests.specs.declared.Request.{Request}
-use Rattle.wire_requests.specs.declared.RequestAnswer.{RequestAnswer}
-use Rattle.wire_requests.specs.declared.RequestAnswer.the-variants.{Parsed, Unparsed}
-use Rattle.wire_requests.specs.Requests.{requestOf}
+use Rattle.wire_rules.specs.declared.FirstAttribute.{FirstAttribute}
+use Rattle.wire_rules.specs.declared.Object.{Object}
+use Rattle.wire_rules.specs.declared.Request.{Request}
+use Rattle.wire_rules.specs.declared.RequestAnswer.{RequestAnswer}
+use Rattle.wire_rules.specs.declared.RequestAnswer.the-variants.{Parsed, Unparsed}
+use Rattle.wire_rules.specs.Requests.{requestOf}
 use Rattle.rules.specs.declared.objects.Upload.{Upload}
 use Rattle.rules.specs.declared.objects.Fault.the-variants.{PathUnknown}
 use Rattle.rules.specs.State.{State}

@@ -2,16 +2,16 @@
 // state stays, and the position of an upload is the only thing that a message may change.
 use attributes::Given;
 use rules::objects::Fault;
-use wire_requests::FirstAttribute;
-use wire_requests::Object;
-use wire_requests::RequestAnswer;
+use wire_rules::FirstAttribute;
+use wire_rules::Object;
+use wire_rules::RequestAnswer;
 ghost use mathlib.Core.Path.{_≡_};
 ghost use mathlib.Core.Bool.{true};
 ghost use Prim.Native.Nat.{ℕ, _≤_, _<_};
 ghost use lib.ListN.{length};
 ghost use lib.Seq.{sets};
 ghost use Rattle.rules.specs.Attributes.{statusNumber};
-ghost use Rattle.wire_requests.specs.Requests.{requestOf};
+ghost use Rattle.wire_rules.specs.Requests.{requestOf};
 ghost use Rattle.rules.specs.Message.{replyHead, fileIn, ofClass, ofObject, serviceOf, messageOutcome};
 ghost use Rattle.image.specs.Image.{view};
 ghost use Rattle.application.specs.Outcomes.{Passed};

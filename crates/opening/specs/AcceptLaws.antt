@@ -11,7 +11,7 @@ use Rattle.cells.specs.Numbers.{le}
 use Rattle.cells.specs.Back.{Bytes}
 use Rattle.cells.specs.Writes.{written, written-all}
 use Rattle.cells.specs.declared.Written.{Written}
-use Rattle.wire_opens.specs.declared.ForwardOpen.{ForwardOpen}
+use Rattle.wire_rules.specs.declared.ForwardOpen.{ForwardOpen}
 use Rattle.wire_replies.specs.ReplyLaws.{open-reply-long}
 use Rattle.rules.specs.Answers.{No, NoRoom, Answer, Accepted, Refused, isYes, answerNumber, answerBytes}
 use Rattle.rules.specs.Checks.{asksMulticast}
@@ -101,7 +101,7 @@ module _ (t : ℕ) (o : ForwardOpen) (g : Origin) (d : List ℕ) (p : Plan) (s o
     reply-is = λ j. openReplyAt (n-is j) (side-is j)
       where
         openReplyAt : ℕ → Opening.Side → List ℕ
-        openReplyAt k z = Rattle.wire_replies.specs.Replies.openReply (record { 0 = k }) (z .toid) (o .triad) (o .ot .rpi) (z .torpi)
+        openReplyAt k z = Rattle.wire_rules.specs.Replies.openReply (record { 0 = k }) (z .toid) (o .triad) (o .ot .rpi) (z .torpi)
 
     pub accept-done : 26 ≤ length out → (c : Conn) → c ≡ newConn t o g p n → (s′ out′ : List ℕ) → Opens c (x .next) (p .stores) d s s′ → StoresFit (p .stores) d (view s)
         → out′ ≡ sets out 0 (replyFrom o n x) → (v : Bool) → v ≡ asksMulticast o → (r : ℕ) → r ≡ answerNumber (Accepted v (x .dest) [])

@@ -6,10 +6,10 @@ use mathlib.Core.Path.{_≡_, refl, ap, sym, subst, _∙_}
 use native.Mathlib.Omega.{arith}
 use lib.ListN.{length, take, drop, length-drop}
 use lib.Seq.{length-take-le}
-use Rattle.wire_opens.specs.declared.ForwardOpen.{ForwardOpen}
-use Rattle.wire_opens.specs.declared.OpenAnswer.{OpenAnswer}
-use Rattle.wire_opens.specs.declared.OpenAnswer.the-variants.{Open, NoOpen}
-use Rattle.wire_paths.specs.ConnectionPath.{pathOf}
+use Rattle.wire_rules.specs.declared.ForwardOpen.{ForwardOpen}
+use Rattle.wire_rules.specs.declared.OpenAnswer.{OpenAnswer}
+use Rattle.wire_rules.specs.declared.OpenAnswer.the-variants.{Open, NoOpen}
+use Rattle.wire_rules.specs.ConnectionPath.{pathOf}
 use Rattle.rules_laws.specs.ListLaws.{either-way}
 use Rattle.rules.specs.Answers.{isYes}
 use Rattle.rules.specs.Checks.{pathIn, verdict}

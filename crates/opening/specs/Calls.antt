@@ -10,13 +10,13 @@ use lib.Seq.{sets}
 use borrow.Author.Tests.{le-leb, lt-leb}
 use Rattle.cells.specs.Back.{Bytes}
 use Rattle.cells.specs.Pick.{pick}
-use Rattle.wire_opens.specs.declared.ForwardOpen.{ForwardOpen}
-use Rattle.wire_opens.specs.declared.OpenAnswer.{OpenAnswer}
-use Rattle.wire_opens.specs.declared.OpenAnswer.the-variants.{Open, NoOpen}
-use Rattle.wire_opens.specs.Requests.{openOf}
+use Rattle.wire_rules.specs.declared.ForwardOpen.{ForwardOpen}
+use Rattle.wire_rules.specs.declared.OpenAnswer.{OpenAnswer}
+use Rattle.wire_rules.specs.declared.OpenAnswer.the-variants.{Open, NoOpen}
+use Rattle.wire_rules.specs.Opens.{openOf}
 use Rattle.wire_opens.specs.RequestLaws.{open-path}
-use Rattle.wire_paths.specs.declared.PathAnswer.{PathAnswer}
-use Rattle.wire_paths.specs.ConnectionPath.{pathOf}
+use Rattle.wire_rules.specs.declared.PathAnswer.{PathAnswer}
+use Rattle.wire_rules.specs.ConnectionPath.{pathOf}
 use Rattle.rules.specs.Answers.{Answer, Refused, Failed, NotParsed, BadTime, isYes, answerNumber, answerBytes, settled}
 use Rattle.rules.specs.Checks.{pathIn, verdict}
 use Rattle.rules.specs.Opening.{opened, pathBytes, verdictOf, planAnswer, planEffect, askedAnswer, askedEffect, openAsked, openAnswer, openEffect, openCall}

@@ -11,11 +11,11 @@ use lib.Seq.{length-take-le}
 use borrow.Author.Tests.{ltb-true, ltb-false, eqb-true, eqb-false}
 use Rattle.cells.specs.Numbers.{le}
 use Rattle.cells.specs.Back.{Bytes}
-use Rattle.wire_opens.specs.declared.ForwardOpen.{ForwardOpen}
-use Rattle.wire_paths.specs.declared.ConnectionPath.{ConnectionPath}
-use Rattle.wire_paths.specs.declared.PathAnswer.{PathAnswer}
-use Rattle.wire_paths.specs.declared.PathAnswer.the-variants.{Parsed, Unparsed}
-use Rattle.wire_paths.specs.ConnectionPath.{pathOf}
+use Rattle.wire_rules.specs.declared.ForwardOpen.{ForwardOpen}
+use Rattle.wire_rules.specs.declared.ConnectionPath.{ConnectionPath}
+use Rattle.wire_rules.specs.declared.PathAnswer.{PathAnswer}
+use Rattle.wire_rules.specs.declared.PathAnswer.the-variants.{Parsed, Unparsed}
+use Rattle.wire_rules.specs.ConnectionPath.{pathOf}
 use Rattle.wire_paths.specs.PathLaws.{data-inside}
 use Rattle.rules_laws.specs.ListLaws.{by-cases, clash}
 use Rattle.rules.specs.State.{isInput, isOutput, isOwner, Setup, State, noShape, shapeAt, contentAt, fixeds}

@@ -7,9 +7,9 @@ use native.Mathlib.Omega.{arith}
 use lib.Dec.{eqb}
 use borrow.Author.Tests.{eq-eqb, ne-eqb, eqb-true, not-true, not-false}
 use Rattle.ids.specs.declared.ToId.{ToId}
-use Rattle.wire_opens.specs.declared.ForwardOpen.{ForwardOpen}
-use Rattle.wire_opens.specs.Timeout.{timeoutOf}
-use Rattle.wire_opens.specs.Group.{groupOf}
+use Rattle.wire_rules.specs.declared.ForwardOpen.{ForwardOpen}
+use Rattle.wire_rules.specs.Timeout.{timeoutOf}
+use Rattle.wire_rules.specs.Group.{groupOf}
 use Rattle.rules.specs.declared.Socket.{Socket}
 use Rattle.rules.specs.declared.Origin.{Origin}
 use Rattle.rules.specs.declared.Fixed.{Fixed}

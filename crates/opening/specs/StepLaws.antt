@@ -5,7 +5,7 @@ use mathlib.Core.List.{List, [], _∷_}
 use mathlib.Core.Path.{_≡_, refl, ap, sym, subst, _∙_}
 use native.Mathlib.Omega.{arith}
 use lib.ListN.{length}
-use Rattle.wire_opens.specs.declared.ForwardOpen.{ForwardOpen}
+use Rattle.wire_rules.specs.declared.ForwardOpen.{ForwardOpen}
 use Rattle.rules.specs.State.{Content, State, noContent, contentAt, shapeAt, withFault, withNextId}
 use Rattle.rules.specs.Events.{infoOf, pushed, pushedAll, eventRecord}
 use Rattle.rules.specs.Opening.{sideAt, newFixed, newConn, holding, stored, configEvent, opened}

@@ -4,8 +4,8 @@ use mathlib.Core.Bool.{false}
 use mathlib.Core.List.{List, []}
 use mathlib.Core.Path.{_≡_}
 use lib.ListN.{length}
-use Rattle.wire_opens.specs.declared.ForwardOpen.{ForwardOpen}
-use Rattle.wire_replies.specs.Replies.{openReply}
+use Rattle.wire_rules.specs.declared.ForwardOpen.{ForwardOpen}
+use Rattle.wire_rules.specs.Replies.{openReply}
 use Rattle.rules.specs.State.{State, contentAt, shapeAt, withFault, withNextId}
 use Rattle.rules.specs.Answers.{Answer, settled}
 use Rattle.rules.specs.Events.{infoOf}

@@ -2,9 +2,9 @@
 use crate::placing;
 use rules::Origin;
 use rules::Verdict;
-use wire_opens::ForwardOpen;
-use wire_opens::Place;
-use wire_paths::PathAnswer;
+use wire_rules::ForwardOpen;
+use wire_rules::Place;
+use wire_rules::PathAnswer;
 ghost use mathlib.Core.Path.{_≡_};
 ghost use mathlib.Core.Bool.{true};
 ghost use Prim.Native.Nat.{ℕ, _+_, _≤_, _<_};

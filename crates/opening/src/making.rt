@@ -11,7 +11,7 @@ use rules::Plan;
 use rules::Sent;
 use rules::Socket;
 use rules::Stream;
-use wire_opens::ForwardOpen;
+use wire_rules::ForwardOpen;
 ghost use mathlib.Core.Path.{_≡_};
 ghost use Prim.Native.Nat.{_<_};
 ghost use Rattle.rules.specs.declared.Stream.the-variants.{Own};
@@ -70,7 +70,7 @@ fn group_dest(g: Origin) -> Socket
     ensures { λ r. ⌜ r ≡ groupDest g ⌝ }
 {
     Socket {
-        address: wire_opens::group(g.local, g.mask),
+        address: wire_numbers::group(g.local, g.mask),
         port: g.ioport,
     }
 }

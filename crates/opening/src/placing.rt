@@ -7,7 +7,7 @@ use rules::Origin;
 use rules::Plan;
 use rules::Socket;
 use rules::Stores;
-use wire_opens::ForwardOpen;
+use wire_rules::ForwardOpen;
 ghost use mathlib.Core.Path.{_≡_};
 ghost use mathlib.Core.Bool.{true};
 ghost use mathlib.Core.List.{[]};

@@ -16,7 +16,7 @@ use Rattle.cells.specs.Records.{ofBool}
 use Rattle.cells.specs.declared.Written.{Written}
 use Rattle.cells.specs.declared.Written.the-variants.{Bytes, NoRoom}
 use Rattle.tables.specs.Store.{sets-right}
-use Rattle.wire_frames.specs.Writing.{frameWritten, behind, frameAppended}
+use Rattle.wire_rules.specs.Writing.{frameWritten, behind, frameAppended}
 use Rattle.wire_frames.proofs.WriteLaws.{frame-length}
 use Rattle.rules.specs.State.{Content, contentAt, noContent, Shape}
 use Rattle.rules.specs.Producing.{dueBy, nextTime, nextDue}

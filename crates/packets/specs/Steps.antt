@@ -5,7 +5,7 @@ use mathlib.Core.Path.{_≡_}
 use lib.ListN.{length, take, drop}
 use Rattle.cells.specs.BigEndian.{bytesBe}
 use Rattle.cells.specs.Records.{ofBool}
-use Rattle.wire_items.specs.Frames.{ioFrame}
+use Rattle.wire_rules.specs.Frames.{ioFrame}
 use Rattle.rules.specs.State.{State, contentAt}
 use Rattle.rules.specs.Producing.{nextDue}
 use Rattle.rules.specs.declared.Fixed.{Fixed}

@@ -15,7 +15,7 @@ use Rattle.rules.specs.Answers.{isYes}
 use Rattle.rules.specs.Receiving.{Frame, meantFor, hear, newer, hasCip, repeats, rightSize, taken, changes, deliver, delivered, outputEvents, received, frameOf, receiveAnswer, receiveEffect, receiveCall}
 use Rattle.rules.specs.declared.Conn.{Conn}
 use Rattle.rules.specs.declared.Event.{Event}
-use Rattle.wire_items.specs.Frames.{ioOf}
+use Rattle.wire_rules.specs.Frames.{ioOf}
 use Rattle.image.specs.Image.{view, store, tested}
 use Rattle.image.specs.RowsFit.{fits-change}
 use Rattle.image.specs.Fits.{Suits}

@@ -9,8 +9,8 @@ use lib.Dec.{eqb, leb}
 use lib.ListN.{length}
 use Rattle.tables.specs.Ring.{by-cases}
 use Rattle.copies.specs.Same.{Tells}
-use Rattle.wire_opens.specs.Timeout.{timeoutOf}
-use Rattle.wire_opens.specs.NumberLaws.{timeout-most}
+use Rattle.wire_rules.specs.Timeout.{timeoutOf}
+use Rattle.wire_numbers.specs.NumberLaws.{timeout-most}
 use Rattle.rules.specs.Lists.{same}
 use Rattle.rules.specs.State.{isOwner}
 use Rattle.rules.specs.declared.Kind.{Kind}

@@ -12,15 +12,15 @@ use Rattle.cells.specs.Pick.{pick}
 use Rattle.cells.specs.Numbers.{le}
 use Rattle.tables.specs.Ring.{by-cases}
 use Rattle.ids.specs.declared.OtId.{OtId}
-use Rattle.wire_items.specs.declared.Cursor.{Cursor}
-use Rattle.wire_items.specs.declared.Start.{Start}
-use Rattle.wire_items.specs.declared.Start.the-variants.{At, NoCount}
-use Rattle.wire_items.specs.declared.Step.{Step}
-use Rattle.wire_items.specs.declared.Step.the-variants.{Item, End, Broken as BrokenStep}
-use Rattle.wire_items.specs.declared.IoFrame.{IoFrame}
-use Rattle.wire_items.specs.declared.IoFrame.the-variants.{Io, NotIo, Broken}
-use Rattle.wire_items.specs.Items.{Part, Items, wellFormed, broken, cursor, itemEnd, startOf, stepAt, cons, follow, itemsFrom, begun, itemsOf}
-use Rattle.wire_items.specs.Frames.{otId, ioPair, firstTwo, ioOfItems, ioOf}
+use Rattle.wire_rules.specs.declared.Cursor.{Cursor}
+use Rattle.wire_rules.specs.declared.Start.{Start}
+use Rattle.wire_rules.specs.declared.Start.the-variants.{At, NoCount}
+use Rattle.wire_rules.specs.declared.Step.{Step}
+use Rattle.wire_rules.specs.declared.Step.the-variants.{Item, End, Broken as BrokenStep}
+use Rattle.wire_rules.specs.declared.IoFrame.{IoFrame}
+use Rattle.wire_rules.specs.declared.IoFrame.the-variants.{Io, NotIo, Broken}
+use Rattle.wire_rules.specs.Items.{Part, Items, wellFormed, broken, cursor, itemEnd, startOf, stepAt, cons, follow, itemsFrom, begun, itemsOf}
+use Rattle.wire_rules.specs.Frames.{otId, ioPair, firstTwo, ioOfItems, ioOf}
 use Rattle.rules.specs.Lists.{maybe}
 use Rattle.rules.specs.State.{State}
 use Rattle.rules.specs.Receiving.{Frame, frameOf, received, receiveEffect}

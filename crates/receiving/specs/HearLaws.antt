@@ -12,7 +12,7 @@ use Rattle.cells.specs.Numbers.{le}
 use Rattle.tables.specs.Ring.{by-cases}
 use Rattle.tables.specs.Tables.{rows, length-rows}
 use Rattle.ids.specs.declared.OtId.{OtId}
-use Rattle.wire_opens.specs.Timeout.{timeoutOf}
+use Rattle.wire_rules.specs.Timeout.{timeoutOf}
 use Rattle.rules.specs.Lists.{find, place, changeFirst, changeAt, maybe}
 use Rattle.rules.specs.State.{State, Content, noContent, contentAt, shapeAt, isOwner, withTable, withHeard}
 use Rattle.rules.specs.Events.{pushedAll}

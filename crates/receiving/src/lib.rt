@@ -3,12 +3,12 @@
 use ids::OtId;
 use layout::Found;
 use rules::Heard;
-use wire_items::IoFrame;
+use wire_rules::IoFrame;
 ghost use mathlib.Core.Path.{_≡_};
 ghost use mathlib.Core.Bool.{not, _||_, Bool·beq};
 ghost use Prim.Native.Nat.{_+_, _≤_, _<_};
 ghost use lib.ListN.{length};
-ghost use Rattle.wire_opens.specs.Timeout.{timeoutOf};
+ghost use Rattle.wire_rules.specs.Timeout.{timeoutOf};
 ghost use Rattle.rules.specs.Receiving.{receiveEffect};
 ghost use Rattle.layout.specs.Places.{connectionsOf, assembliesOf};
 ghost use Rattle.image.specs.Holds.{Ready, Slotted, Becomes};
@@ -20,7 +20,7 @@ pub fn lives_until(time: u64, rpi: u32, multiplier: u8) -> u64
     requires { ⌜ time < 9223372036854775808 ⌝ }
     ensures { λ r. ⌜ r ≡ time + timeoutOf rpi multiplier ⌝ }
 {
-    time + wire_opens::timeout(rpi, multiplier)
+    time + wire_numbers::timeout(rpi, multiplier)
 }
 
 fn differs(changed: bool, was: bool, run: bool) -> bool

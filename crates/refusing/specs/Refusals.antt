@@ -11,11 +11,11 @@ use borrow.Author.Tests.{le-leb, lt-leb, eq-eqb, ne-eqb}
 use Rattle.cells.specs.Writes.{written, written-all}
 use Rattle.cells.specs.declared.Written.{Written}
 use Rattle.ids.specs.declared.Triad.{Triad}
-use Rattle.wire_opens.specs.declared.ForwardOpen.{ForwardOpen}
-use Rattle.wire_opens.specs.declared.OpenAnswer.{OpenAnswer}
-use Rattle.wire_opens.specs.declared.OpenAnswer.the-variants.{Open, NoOpen}
-use Rattle.wire_opens.specs.Requests.{openOf}
-use Rattle.wire_replies.specs.Replies.{openRefusal}
+use Rattle.wire_rules.specs.declared.ForwardOpen.{ForwardOpen}
+use Rattle.wire_rules.specs.declared.OpenAnswer.{OpenAnswer}
+use Rattle.wire_rules.specs.declared.OpenAnswer.the-variants.{Open, NoOpen}
+use Rattle.wire_rules.specs.Opens.{openOf}
+use Rattle.wire_rules.specs.Replies.{openRefusal}
 use Rattle.wire_replies.specs.ReplyLaws.{open-refusal-long}
 use Rattle.rules.specs.Answers.{Answer, Wrote, Refused, Failed, NotParsed, NoRoom, wordsOf, wordsNumber, answerNumber, answerBytes, fitting}
 use Rattle.routing.specs.Answered.{answered}

@@ -1,7 +1,7 @@
 // What a refused open is answered with: the number that carries its status and words, and the data of its reply.
 use ids::Triad;
 use rules::Stop;
-use wire_opens::OpenAnswer;
+use wire_rules::OpenAnswer;
 ghost use mathlib.Core.Path.{_≡_};
 ghost use Prim.Native.Nat.{_+_};
 ghost use mathlib.Core.List.{[], _∷_};

@@ -8,7 +8,7 @@ use native.Mathlib.Omega.{arith}
 use lib.ListN.{length, drop}
 use Rattle.tables.specs.Tables.{length-rows}
 use Rattle.tables.specs.Ring.{by-cases}
-use Rattle.wire_paths.specs.declared.ConnectionPath.{ConnectionPath}
+use Rattle.wire_rules.specs.declared.ConnectionPath.{ConnectionPath}
 use Rattle.rules.specs.declared.AssemblyKind.{AssemblyKind}
 use Rattle.rules.specs.State.{Setup, noShape, isInput, isOutput, isConfig, isOwner}
 use Rattle.rules.specs.Lists.{isSome}

@@ -9,7 +9,7 @@ use lib.Dec.{eqb}
 use lib.ListN.{drop}
 use borrow.Author.Tests.{eq-eqb, ne-eqb}
 use Rattle.tables.specs.Tables.{rows, length-rows}
-use Rattle.wire_paths.specs.declared.ConnectionPath.{ConnectionPath}
+use Rattle.wire_rules.specs.declared.ConnectionPath.{ConnectionPath}
 use Rattle.rules.specs.declared.Kind.{Kind}
 use Rattle.rules.specs.declared.Kind.the-variants.{Owner, InputOnly, ListenOnly}
 use Rattle.rules.specs.declared.Stop.{Stop}

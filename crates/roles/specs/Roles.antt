@@ -2,7 +2,7 @@
 use Prim.Native.Nat.{ℕ}
 use mathlib.Core.Bool.{Bool, cond}
 use mathlib.Core.Option.{Option, none, some}
-use Rattle.wire_paths.specs.declared.ConnectionPath.{ConnectionPath}
+use Rattle.wire_rules.specs.declared.ConnectionPath.{ConnectionPath}
 use Rattle.rules.specs.declared.Kind.{Kind}
 use Rattle.rules.specs.declared.Stop.{Stop}
 use Rattle.rules.specs.declared.Stop.the-variants.{NoInputPoint}

@@ -9,9 +9,9 @@ use lib.Dec.{eqb}
 use lib.ListN.{drop, List·getD-eq-default}
 use borrow.Author.Tests.{eq-eqb, ne-eqb}
 use Rattle.tables.specs.Tables.{rows, length-rows, row-at}
-use Rattle.wire_opens.specs.declared.NetParams.{NetParams}
-use Rattle.wire_opens.specs.declared.ForwardOpen.{ForwardOpen}
-use Rattle.wire_paths.specs.declared.ConnectionPath.{ConnectionPath}
+use Rattle.wire_rules.specs.declared.NetParams.{NetParams}
+use Rattle.wire_rules.specs.declared.ForwardOpen.{ForwardOpen}
+use Rattle.wire_rules.specs.declared.ConnectionPath.{ConnectionPath}
 use Rattle.rules.specs.declared.Stop.{Stop}
 use Rattle.rules.specs.declared.Stop.the-variants.{NoConfig, ConfigLength, OwnerSize, HeartbeatSize}
 use Rattle.rules.specs.declared.Stores.{Stores}

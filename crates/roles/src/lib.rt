@@ -6,7 +6,7 @@ use layout::Found;
 use rules::Kind;
 use rules::Stop;
 use rules::Stores;
-use wire_paths::ConnectionPath;
+use wire_rules::ConnectionPath;
 ghost use mathlib.Core.Path.{_≡_};
 ghost use mathlib.Core.List.{[]};
 ghost use mathlib.Core.Bool.{_&&_, _||_};

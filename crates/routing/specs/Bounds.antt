@@ -9,15 +9,15 @@ use borrow.Author.Tests.{ltb-true, ltb-false, lt-ltb}
 use lib.Dec.{ltb, leb}
 use lib.ListN.{length, getD, take, drop}
 use Rattle.cells.specs.Pick.{pick}
-use Rattle.wire_paths.specs.Segments.{pathMax, stepAt, Segs, segs, broken, follow, segsFrom, segsOf}
-use Rattle.wire_paths.specs.ConnectionPath.{numbersIn, connectionPath, pathRead, pathOf}
+use Rattle.wire_rules.specs.Segments.{pathMax, stepAt, Segs, segs, broken, follow, segsFrom, segsOf}
+use Rattle.wire_rules.specs.ConnectionPath.{numbersIn, connectionPath, pathRead, pathOf}
 use Rattle.wire_paths.specs.PathLaws as paths
-use Rattle.wire_paths.specs.declared.ConnectionPath.{ConnectionPath}
-use Rattle.wire_paths.specs.declared.PathAnswer.the-variants.{Parsed, Unparsed}
-use Rattle.wire_requests.specs.Requests.{messageMax, requestWith, requestOf}
+use Rattle.wire_rules.specs.declared.ConnectionPath.{ConnectionPath}
+use Rattle.wire_rules.specs.declared.PathAnswer.the-variants.{Parsed, Unparsed}
+use Rattle.wire_rules.specs.Requests.{messageMax, requestWith, requestOf}
 use Rattle.wire_requests.specs.PlaceLaws as places
-use Rattle.wire_requests.specs.declared.Request.{Request}
-use Rattle.wire_requests.specs.declared.RequestAnswer as requests
+use Rattle.wire_rules.specs.declared.Request.{Request}
+use Rattle.wire_rules.specs.declared.RequestAnswer as requests
 
 -- a path over size is broken at once
 over : (s : List ℕ) → pathMax < length s → pathOf s ≡ Unparsed pathMax

@@ -4,13 +4,13 @@ use mathlib.Core.List.{List, [], _∷_}
 use mathlib.Core.Path.{_≡_, refl, ap, sym, _∙_}
 use lib.ListN.{length}
 use Rattle.cells.specs.Records.{sum, ofBool, putFields}
-use Rattle.wire_paths.specs.declared.Key.{Key}
-use Rattle.wire_paths.specs.declared.ConnectionPath.{ConnectionPath}
-use Rattle.wire_paths.specs.declared.PathAnswer as paths
-use Rattle.wire_paths.specs.ConnectionPath.{pathOf}
-use Rattle.wire_requests.specs.declared.Request.{Request}
-use Rattle.wire_requests.specs.declared.RequestAnswer as requests
-use Rattle.wire_requests.specs.Requests.{requestOf}
+use Rattle.wire_rules.specs.declared.Key.{Key}
+use Rattle.wire_rules.specs.declared.ConnectionPath.{ConnectionPath}
+use Rattle.wire_rules.specs.declared.PathAnswer as paths
+use Rattle.wire_rules.specs.ConnectionPath.{pathOf}
+use Rattle.wire_rules.specs.declared.Request.{Request}
+use Rattle.wire_rules.specs.declared.RequestAnswer as requests
+use Rattle.wire_rules.specs.Requests.{requestOf}
 use Rattle.rules.specs.Answers.{Answer, NotParsed}
 use Rattle.rules.specs.Routing.{pathRecord, pathFor, pathAnswer, isNamed, classOf, instanceOf, hasAttribute, attributeOf, requestRecord, requestFor, requestAnswer}
 use Rattle.routing.specs.Answered.{wrote, wrote-none, wrote-all, answered, answered-no, answered-same}

@@ -7,13 +7,13 @@ ghost use Rattle.cells.specs.Records.{putFields, ofBool};
 ghost use Rattle.rules.specs.Routing.{pathAnswer, requestAnswer, isNamed, classOf, instanceOf, hasAttribute, attributeOf};
 ghost use Rattle.routing.specs.Answered.{answered};
 ghost use Rattle.routing.specs.Told.{pathTold, requestTold};
-use wire_paths::ConnectionPath;
-use wire_paths::Key;
-use wire_paths::PathAnswer;
-use wire_requests::FirstAttribute;
-use wire_requests::Object;
-use wire_requests::Request;
-use wire_requests::RequestAnswer;
+use wire_rules::ConnectionPath;
+use wire_rules::Key;
+use wire_rules::PathAnswer;
+use wire_rules::FirstAttribute;
+use wire_rules::Object;
+use wire_rules::Request;
+use wire_rules::RequestAnswer;
 
 fn put_four(s: &mut [u8], at: usize, a: u32, b: u32, c: u32, d: u32)
     requires { ⌜ at + 16 ≤ length (now s) ⌝ }

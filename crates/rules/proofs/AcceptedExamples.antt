@@ -4,7 +4,7 @@ use mathlib.Core.List.{List, [], _∷_, _++_, map}
 use mathlib.Core.Bool.{Bool, true, false}
 use Prim.Native.Nat.{ℕ, _+_, _*_, _^_}
 use lib.ListN.{getD, length, drop}
-use Rattle.wire_opens.specs.Examples.{address}
+use Rattle.wire_rules.specs.Examples.{address}
 use Rattle.rules.specs.State
 use Rattle.rules.specs.State.{State, Due, Never, At, Origin, Socket, Configured, contentAt, withTable, withFault, withNextId}
 use Rattle.rules.specs.Answers.{answerNumber, answerBytes}

@@ -6,10 +6,10 @@ use Prim.Native.Nat.{ℕ, _-_, _^_}
 use lib.ListN.{set}
 use Rattle.cells.specs.Numbers.{le, leOf, bytesLe}
 use Rattle.cells.specs.Records.{encFields}
-use Rattle.wire_opens.specs.Examples.{Example, _is_, Hold}
-use Rattle.wire_opens.specs.Params.{paramsAt}
-use Rattle.wire_opens.specs.Requests.{triadAt, wayAt, placeAt, fieldsOf, openWith, widthOf, openOf, closeOf}
-use Rattle.wire_replies.specs.Replies.{triadReply}
+use Rattle.wire_rules.specs.Examples.{Example, _is_, Hold}
+use Rattle.wire_rules.specs.Params.{paramsAt}
+use Rattle.wire_rules.specs.Opens.{triadAt, wayAt, placeAt, fieldsOf, openWith, widthOf, openOf, closeOf}
+use Rattle.wire_rules.specs.Replies.{triadReply}
 use Rattle.rules.specs.Answers.{Done, Wrote, Accepted, Gone, Refused, Failed, BadSetup, BadTime, NotParsed, NoAssembly, TooLong, NoRoom, NothingThere, noNumber, answerNumber, answerBytes, Transport, InputSize, fitting, settled}
 use Rattle.rules.specs.Checks.{must, transportCheck, verdict, placeOf}
 use Rattle.rules.specs.Opening.{verdictOf, openAnswer, openEffect, openCall, refusalAnswer}

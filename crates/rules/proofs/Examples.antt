@@ -9,15 +9,15 @@ use Prim.Native.Nat.{ℕ, _+_, _*_, _/_, _^_}
 use lib.ListN.{length, getD, set, replicate}
 use Rattle.cells.specs.Numbers.{bytesLe}
 use Rattle.cells.specs.Records.{sum}
-use Rattle.wire_items.specs.Frames.{ioFrame}
-use Rattle.wire_paths.specs.Segments.{segsOf}
-use Rattle.wire_paths.specs.Segments
-use Rattle.wire_opens.specs.Examples.{Example, _is_, Hold, address}
-use Rattle.wire_opens.specs.Params.{smallParams}
-use Rattle.wire_opens.specs.Timeout.{timeoutOf}
-use Rattle.wire_opens.specs.Group.{groupOfHost}
-use Rattle.wire_opens.specs.declared.NetType.the-variants.{Null, Multicast}
-use Rattle.wire_paths.specs.declared.Seg.the-variants.{Class, Instance, Point}
+use Rattle.wire_rules.specs.Frames.{ioFrame}
+use Rattle.wire_rules.specs.Segments.{segsOf}
+use Rattle.wire_rules.specs.Segments
+use Rattle.wire_rules.specs.Examples.{Example, _is_, Hold, address}
+use Rattle.wire_rules.specs.Params.{smallParams}
+use Rattle.wire_rules.specs.Timeout.{timeoutOf}
+use Rattle.wire_rules.specs.Group.{groupOfHost}
+use Rattle.wire_rules.specs.declared.NetType.the-variants.{Null, Multicast}
+use Rattle.wire_rules.specs.declared.Seg.the-variants.{Class, Instance, Point}
 use Rattle.rules.specs.State
 use Rattle.rules.specs.State.{Input, Output, Config, Due, Never, At, Conn, Setup, Content, State, Origin, Fixed, Events, OutputChanged}
 use Rattle.rules.specs.Answers

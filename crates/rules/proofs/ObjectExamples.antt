@@ -9,9 +9,9 @@ use lib.ListN.{length, replicate}
 use Rattle.cells.specs.Numbers.{bytesLe, le, leOf}
 use Rattle.cells.specs.Records.{sum, encFields}
 use Rattle.cells.specs.Back.{all}
-use Rattle.wire_paths.specs.Segments.{logicalAt, between, segAt, stepAt, segsFrom, segsOf}
-use Rattle.wire_paths.specs.ConnectionPath.{gather}
-use Rattle.wire_requests.specs.Requests.{attributeIn, requestWith, requestOf}
+use Rattle.wire_rules.specs.Segments.{logicalAt, between, segAt, stepAt, segsFrom, segsOf}
+use Rattle.wire_rules.specs.ConnectionPath.{gather}
+use Rattle.wire_rules.specs.Requests.{attributeIn, requestWith, requestOf}
 use Rattle.rules.specs.State.{Input, Output, Config, Kind, Owner, InputOnly, Never, Conn, Identity, Shape, Setup, State}
 use Rattle.rules.specs.Answers.{Wrote, Refused, NoRoom}
 use Rattle.rules.specs.Attributes.{shortString, taggedText}

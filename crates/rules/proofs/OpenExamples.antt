@@ -5,7 +5,7 @@ use mathlib.Core.Bool.{true, false}
 use lib.ListN.{set, replicate}
 use Prim.Native.Nat.{ℕ}
 use Rattle.cells.specs.Numbers.{bytesLe}
-use Rattle.wire_opens.specs.declared.NetType.the-variants.{Null, Reserved}
+use Rattle.wire_rules.specs.declared.NetType.the-variants.{Null, Reserved}
 use Rattle.rules.specs.State
 use Rattle.rules.specs.State.{State, Conn, withTable}
 use Rattle.rules.specs.Answers

@@ -4,8 +4,8 @@ use mathlib.Core.List.{List, [], _∷_, _++_}
 use Prim.Native.Nat.{ℕ, _-_, _^_}
 use Rattle.cells.specs.Numbers.{bytesLe}
 use Rattle.cells.specs.BigEndian.{bytesBe}
-use Rattle.wire_items.specs.Frames.{ioFrame}
-use Rattle.wire_opens.specs.Examples.{Example, _is_, Hold}
+use Rattle.wire_rules.specs.Frames.{ioFrame}
+use Rattle.wire_rules.specs.Examples.{Example, _is_, Hold}
 use Rattle.rules.specs.State.{Owner, InputOnly, ListenOnly, Never, At, Setup, State}
 use Rattle.rules.specs.Answers.{Answer, Wrote, Refused, NoRoom}
 use Rattle.rules.specs.Producing.{sent, frameSent, packet, packets, counters, produceAnswer, produceEffect, produceCall}

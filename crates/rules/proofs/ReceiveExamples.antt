@@ -6,9 +6,9 @@ use Prim.Native.Nat.{ℕ, _<_}
 use lib.ListN.{length}
 use borrow.Author.Tests.{lt-leb}
 use Rattle.cells.specs.Numbers.{le, leOf, bytesLe}
-use Rattle.wire_items.specs.Items.{Items, wellFormed, broken, startOf, stepAt, itemsFrom, itemsOf}
-use Rattle.wire_items.specs.Frames.{ioOfItems, ioOf, ioFrame}
-use Rattle.wire_opens.specs.Examples.{Example, _is_, Hold}
+use Rattle.wire_rules.specs.Items.{Items, wellFormed, broken, startOf, stepAt, itemsFrom, itemsOf}
+use Rattle.wire_rules.specs.Frames.{ioOfItems, ioOf, ioFrame}
+use Rattle.wire_rules.specs.Examples.{Example, _is_, Hold}
 use Rattle.rules.specs.Lists.{maybe}
 use Rattle.rules.specs.State.{Owner, Never, At, State, withFault}
 use Rattle.rules.specs.Answers.{Done}

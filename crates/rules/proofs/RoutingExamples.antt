@@ -4,10 +4,10 @@ use mathlib.Core.Path.{_≡_, refl}
 use Prim.Native.Nat.{ℕ}
 use Rattle.cells.specs.Numbers.{bytesLe, le, leOf}
 use Rattle.cells.specs.Records.{encFields}
-use Rattle.wire_paths.specs.Segments.{portAt, logicalAt, keyOf, keyAt, dataAt, between, segAt, stepAt, segsFrom, segsOf}
-use Rattle.wire_paths.specs.ConnectionPath
-use Rattle.wire_paths.specs.ConnectionPath.{gather, last, connectionPath, pathOf}
-use Rattle.wire_requests.specs.Requests.{attributeIn, requestWith, requestOf}
+use Rattle.wire_rules.specs.Segments.{portAt, logicalAt, keyOf, keyAt, dataAt, between, segAt, stepAt, segsFrom, segsOf}
+use Rattle.wire_rules.specs.ConnectionPath
+use Rattle.wire_rules.specs.ConnectionPath.{gather, last, connectionPath, pathOf}
+use Rattle.wire_rules.specs.Requests.{attributeIn, requestWith, requestOf}
 use Rattle.rules.specs.Answers.{Answer, Wrote, Refused, NotParsed, NoRoom}
 use Rattle.rules.specs.Routing.{pathRecord, pathAnswer, requestRecord, requestAnswer}
 

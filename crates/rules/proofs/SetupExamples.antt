@@ -6,7 +6,7 @@ use mathlib.Core.Bool.{Bool, true, false}
 use Prim.Native.Nat.{ℕ}
 use lib.Dec.{leb}
 use lib.ListN.{replicate, length-replicate}
-use Rattle.wire_opens.specs.Examples.{Example, _is_, Hold}
+use Rattle.wire_rules.specs.Examples.{Example, _is_, Hold}
 use Rattle.rules.specs.State.{Input, Output, Config, AssemblyKind, Shape, Setup}
 use Rattle.rules.specs.Answers.{Done, Refused, BadSetup}
 use Rattle.rules.specs.Checks.{rpiOk}

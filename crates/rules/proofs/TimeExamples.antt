@@ -4,8 +4,8 @@ use mathlib.Core.List.{List, [], _∷_, map}
 use mathlib.Core.Bool.{true, false}
 use Prim.Native.Nat.{ℕ, _+_, _^_}
 use Rattle.cells.specs.Numbers.{le, leOf, bytesLe}
-use Rattle.wire_opens.specs.Examples.{Example, _is_, Hold}
-use Rattle.wire_opens.specs.declared.ForwardOpen.{ForwardOpen}
+use Rattle.wire_rules.specs.Examples.{Example, _is_, Hold}
+use Rattle.wire_rules.specs.declared.ForwardOpen.{ForwardOpen}
 use Rattle.rules.specs.State.{InputOnly, ListenOnly, Never, At, Conn, Origin, Plan, State, withFault}
 use Rattle.rules.specs.Answers.{Wrote, Gone, Refused, NoRoom, NothingThere}
 use Rattle.rules.specs.Events.{infoOf, infoRecord, eventRecord, oldestGone, appended, pushed, pushedAll}

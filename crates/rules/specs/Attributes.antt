@@ -5,8 +5,8 @@ use Prim.Native.Nat.{ℕ}
 use lib.Dec.{eqb}
 use lib.ListN.{length}
 use Rattle.cells.specs.Numbers.{bytesLe}
-pub use Rattle.wire_requests.specs.declared.FirstAttribute.{FirstAttribute}
-pub use Rattle.wire_requests.specs.declared.FirstAttribute.the-variants.{Number, NoAttribute}
+pub use Rattle.wire_rules.specs.declared.FirstAttribute.{FirstAttribute}
+pub use Rattle.wire_rules.specs.declared.FirstAttribute.the-variants.{Number, NoAttribute}
 pub use Rattle.rules.specs.declared.objects.Fault.{Fault}
 pub use Rattle.rules.specs.declared.objects.Fault.the-variants.{PathSegment, PathUnknown, ServiceUnknown, StateConflict, NotEnoughData, AttributeUnknown, ObjectUnknown}
 

@@ -6,16 +6,16 @@ use mathlib.Core.Bool.{Bool, true, false, cond, not, _&&_, _||_}
 use Prim.Native.Nat.{ℕ, _+_}
 use lib.Dec.{eqb, leb, ltb}
 use lib.ListN.{length}
-use Rattle.wire_opens.specs.declared.NetType.{NetType}
-use Rattle.wire_opens.specs.declared.NetType.the-variants.{Null, Multicast, PointToPoint, Reserved}
-use Rattle.wire_opens.specs.declared.NetParams.{NetParams}
-use Rattle.wire_opens.specs.declared.ForwardOpen.{ForwardOpen}
-use Rattle.wire_opens.specs.Transport.{transportOk, compatibleBit, majorOf}
-use Rattle.wire_paths.specs.declared.Key.{Key}
-use Rattle.wire_paths.specs.declared.ConnectionPath.{ConnectionPath}
-use Rattle.wire_paths.specs.declared.PathAnswer.{PathAnswer}
-use Rattle.wire_paths.specs.declared.PathAnswer.the-variants.{Parsed, Unparsed}
-use Rattle.wire_paths.specs.ConnectionPath.{noKey}
+use Rattle.wire_rules.specs.declared.NetType.{NetType}
+use Rattle.wire_rules.specs.declared.NetType.the-variants.{Null, Multicast, PointToPoint, Reserved}
+use Rattle.wire_rules.specs.declared.NetParams.{NetParams}
+use Rattle.wire_rules.specs.declared.ForwardOpen.{ForwardOpen}
+use Rattle.wire_rules.specs.Transport.{transportOk, compatibleBit, majorOf}
+use Rattle.wire_rules.specs.declared.Key.{Key}
+use Rattle.wire_rules.specs.declared.ConnectionPath.{ConnectionPath}
+use Rattle.wire_rules.specs.declared.PathAnswer.{PathAnswer}
+use Rattle.wire_rules.specs.declared.PathAnswer.the-variants.{Parsed, Unparsed}
+use Rattle.wire_rules.specs.ConnectionPath.{noKey}
 use Rattle.rules.specs.Lists.{find, place, any, maybe, isSome}
 use Rattle.rules.specs.State.{AssemblyKind, isInput, isOutput, isConfig, Kind, Owner, InputOnly, ListenOnly, isOwner, isListener, Triad, triadIs, Fixed, Identity, Shape, Setup, shapeAt, Stop, Stream, Joins, Own, Stores, Nothing, Into, Plan, Verdict, Stopped, Planned}
 use Rattle.rules.specs.Answers

@@ -5,11 +5,11 @@ use mathlib.Core.Bool.{cond}
 use Prim.Native.Nat.{ℕ, _+_, _%_}
 use lib.Dec.{eqb, leb}
 use lib.ListN.{drop}
-use Rattle.wire_requests.specs.declared.Object.{Object}
-use Rattle.wire_requests.specs.declared.Object.the-variants.{Named, NoObject}
-use Rattle.wire_requests.specs.declared.RequestAnswer.{RequestAnswer}
-use Rattle.wire_requests.specs.declared.RequestAnswer.the-variants.{Parsed, Unparsed}
-use Rattle.wire_requests.specs.Requests.{requestOf}
+use Rattle.wire_rules.specs.declared.Object.{Object}
+use Rattle.wire_rules.specs.declared.Object.the-variants.{Named, NoObject}
+use Rattle.wire_rules.specs.declared.RequestAnswer.{RequestAnswer}
+use Rattle.wire_rules.specs.declared.RequestAnswer.the-variants.{Parsed, Unparsed}
+use Rattle.wire_rules.specs.Requests.{requestOf}
 use Rattle.rules.specs.State.{Setup, State}
 use Rattle.rules.specs.Answers.{Answer, Wrote, Refused, NoRoom, settled}
 use Rattle.rules.specs.Attributes.{FirstAttribute, Outcome, Gives, Fails, PathSegment, PathUnknown, ServiceUnknown, statusNumber}

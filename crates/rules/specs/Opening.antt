@@ -4,15 +4,15 @@ use mathlib.Core.Bool.{true, false, cond}
 use Prim.Native.Nat.{ℕ, _+_, _-_, _^_}
 use lib.Dec.{eqb}
 use lib.ListN.{length, take, drop}
-use Rattle.wire_opens.specs.declared.ForwardOpen.{ForwardOpen}
-use Rattle.wire_opens.specs.declared.OpenAnswer.{OpenAnswer}
-use Rattle.wire_opens.specs.declared.OpenAnswer.the-variants.{Open, NoOpen}
-use Rattle.wire_opens.specs.Requests.{openOf}
-use Rattle.wire_opens.specs.Timeout.{timeoutOf}
-use Rattle.wire_opens.specs.Group.{groupOf}
-use Rattle.wire_paths.specs.declared.PathAnswer.{PathAnswer}
-use Rattle.wire_paths.specs.ConnectionPath.{pathOf}
-use Rattle.wire_replies.specs.Replies.{openReply, openRefusal}
+use Rattle.wire_rules.specs.declared.ForwardOpen.{ForwardOpen}
+use Rattle.wire_rules.specs.declared.OpenAnswer.{OpenAnswer}
+use Rattle.wire_rules.specs.declared.OpenAnswer.the-variants.{Open, NoOpen}
+use Rattle.wire_rules.specs.Opens.{openOf}
+use Rattle.wire_rules.specs.Timeout.{timeoutOf}
+use Rattle.wire_rules.specs.Group.{groupOf}
+use Rattle.wire_rules.specs.declared.PathAnswer.{PathAnswer}
+use Rattle.wire_rules.specs.ConnectionPath.{pathOf}
+use Rattle.wire_rules.specs.Replies.{openReply, openRefusal}
 use Rattle.rules.specs.Lists.{changeAt}
 use Rattle.rules.specs.State.{ToId, Socket, Fixed, Heard, Never, At, Sent, Conn, Event, Opened, Configured, Origin, Setup, shapeAt, Content, State, fixeds, Stream, Joins, Own, Stores, Nothing, Into, Plan, Verdict, Stopped, Planned}
 use Rattle.rules.specs.Answers.{Answer, Accepted, Wrote, Refused, Failed, NotParsed, fitting, atTime, settled}

@@ -6,7 +6,7 @@ use lib.Dec.{eqb, leb}
 use lib.ListN.{length, getD}
 use Rattle.cells.specs.BigEndian.{bytesBe}
 use Rattle.cells.specs.Records.{ofBool}
-use Rattle.wire_items.specs.Frames.{ioFrame}
+use Rattle.wire_rules.specs.Frames.{ioFrame}
 use Rattle.rules.specs.Lists.{keep, joined}
 use Rattle.rules.specs.State.{Fixed, Due, Never, At, Sent, Conn, withSent, Setup, Content, noContent, Counters, State}
 use Rattle.rules.specs.Answers.{Answer, Wrote, fitting, atTime, settled}

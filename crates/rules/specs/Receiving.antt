@@ -6,10 +6,10 @@ use Prim.Native.Nat.{ℕ, _+_, _-_, _%_, _^_}
 use lib.Dec.{eqb, leb, ltb}
 use lib.ListN.{length, take, drop, getD}
 use Rattle.cells.specs.Numbers.{le}
-use Rattle.wire_items.specs.declared.IoFrame.{IoFrame}
-use Rattle.wire_items.specs.declared.IoFrame.the-variants.{Io, NotIo, Broken}
-use Rattle.wire_items.specs.Frames.{ioOf}
-use Rattle.wire_opens.specs.Timeout.{timeoutOf}
+use Rattle.wire_rules.specs.declared.IoFrame.{IoFrame}
+use Rattle.wire_rules.specs.declared.IoFrame.the-variants.{Io, NotIo, Broken}
+use Rattle.wire_rules.specs.Frames.{ioOf}
+use Rattle.wire_rules.specs.Timeout.{timeoutOf}
 use Rattle.rules.specs.Lists.{find, changeFirst, changeAt, maybe, same}
 use Rattle.rules.specs.State.{OtId, isOwner, Fixed, Heard, Conn, withHeard, Event, OutputChanged, Setup, shapeAt, Content, noContent, State}
 use Rattle.rules.specs.Answers.{Answer, Done, atTime, settled}

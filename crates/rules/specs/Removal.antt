@@ -6,10 +6,10 @@ use Prim.Native.Nat.{ℕ, _-_, min}
 use lib.Dec.{eqb, ltb}
 use lib.ListN.{length}
 use Rattle.cells.specs.Numbers.{bytesLe}
-use Rattle.wire_opens.specs.declared.CloseAnswer.{CloseAnswer}
-use Rattle.wire_opens.specs.declared.CloseAnswer.the-variants.{Close, NoClose}
-use Rattle.wire_opens.specs.Requests.{closeOf}
-use Rattle.wire_replies.specs.Replies.{closeReply}
+use Rattle.wire_rules.specs.declared.CloseAnswer.{CloseAnswer}
+use Rattle.wire_rules.specs.declared.CloseAnswer.the-variants.{Close, NoClose}
+use Rattle.wire_rules.specs.Opens.{closeOf}
+use Rattle.wire_rules.specs.Replies.{closeReply}
 use Rattle.rules.specs.Lists.{find, any, keep, changeFirst, withoutFirst, changeAt, maybe, repeat}
 use Rattle.rules.specs.State.{Triad, ToId, isOwner, isListener, Info, Fixed, Due, Never, At, Conn, withSent, produces, Event, Closed, TimedOut, Setup, Content, State}
 use Rattle.rules.specs.Answers.{Answer, Wrote, Gone, Refused, NotParsed, NothingThere, fitting, atTime, settled}

@@ -2,19 +2,19 @@
 use mathlib.Core.List.{List, [], _∷_}
 use Prim.Native.Nat.{ℕ}
 use Rattle.cells.specs.Records.{encFields, ofBool}
-use Rattle.wire_paths.specs.declared.Key.{Key}
-use Rattle.wire_paths.specs.declared.ConnectionPath.{ConnectionPath}
-use Rattle.wire_paths.specs.declared.PathAnswer as paths
-use Rattle.wire_paths.specs.declared.PathAnswer.{PathAnswer}
-use Rattle.wire_paths.specs.ConnectionPath.{pathOf}
-use Rattle.wire_requests.specs.declared.Object.{Object}
-use Rattle.wire_requests.specs.declared.Object.the-variants.{Named, NoObject}
-use Rattle.wire_requests.specs.declared.FirstAttribute.{FirstAttribute}
-use Rattle.wire_requests.specs.declared.FirstAttribute.the-variants.{Number, NoAttribute}
-use Rattle.wire_requests.specs.declared.Request.{Request}
-use Rattle.wire_requests.specs.declared.RequestAnswer as requests
-use Rattle.wire_requests.specs.declared.RequestAnswer.{RequestAnswer}
-use Rattle.wire_requests.specs.Requests.{requestOf}
+use Rattle.wire_rules.specs.declared.Key.{Key}
+use Rattle.wire_rules.specs.declared.ConnectionPath.{ConnectionPath}
+use Rattle.wire_rules.specs.declared.PathAnswer as paths
+use Rattle.wire_rules.specs.declared.PathAnswer.{PathAnswer}
+use Rattle.wire_rules.specs.ConnectionPath.{pathOf}
+use Rattle.wire_rules.specs.declared.Object.{Object}
+use Rattle.wire_rules.specs.declared.Object.the-variants.{Named, NoObject}
+use Rattle.wire_rules.specs.declared.FirstAttribute.{FirstAttribute}
+use Rattle.wire_rules.specs.declared.FirstAttribute.the-variants.{Number, NoAttribute}
+use Rattle.wire_rules.specs.declared.Request.{Request}
+use Rattle.wire_rules.specs.declared.RequestAnswer as requests
+use Rattle.wire_rules.specs.declared.RequestAnswer.{RequestAnswer}
+use Rattle.wire_rules.specs.Requests.{requestOf}
 use Rattle.rules.specs.Answers.{Answer, Wrote, Refused, NotParsed, fitting}
 
 -- 15.2: the record of a path, 32 bytes: port or attribute segment, key, class (1 if there is one), the number of instances and points (4 for

@@ -6,7 +6,7 @@ pub mod objects;
 use ids::OtId;
 use ids::ToId;
 use ids::Triad;
-use wire_opens::NetType;
+use wire_rules::NetType;
 
 // What an assembly is for: 1, 2 and 3 in numbers.
 pub enum AssemblyKind {

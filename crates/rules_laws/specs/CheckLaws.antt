@@ -6,9 +6,9 @@ use mathlib.Core.Bool.{Bool, true, false, not, _||_}
 use Prim.Native.Nat.{ℕ, suc}
 use lib.Dec.{eqb}
 use lib.ListN.{getD}
-use Rattle.wire_opens.specs.declared.ForwardOpen.{ForwardOpen}
-use Rattle.wire_paths.specs.declared.ConnectionPath.{ConnectionPath}
-use Rattle.wire_paths.specs.declared.PathAnswer.{PathAnswer}
+use Rattle.wire_rules.specs.declared.ForwardOpen.{ForwardOpen}
+use Rattle.wire_rules.specs.declared.ConnectionPath.{ConnectionPath}
+use Rattle.wire_rules.specs.declared.PathAnswer.{PathAnswer}
 use Rattle.rules.specs.Lists.{place, any, maybe, isSome}
 use Rattle.rules_laws.specs.ListLaws.{by-cases, clash, and-left, All}
 use Rattle.rules.specs.declared.AssemblyKind.{AssemblyKind}

@@ -11,11 +11,11 @@ use borrow.Author.Tests.{le-leb, lt-leb, leb-true, lt-ltb}
 use Rattle.cells.specs.Numbers.{bytesLe}
 use Rattle.cells.specs.Records.{encFields}
 use Rattle.cells.specs.Back.{all, all-at}
-use Rattle.wire_requests.specs.declared.Object.{Object}
-use Rattle.wire_requests.specs.declared.Object.the-variants.{Named, NoObject}
-use Rattle.wire_requests.specs.declared.RequestAnswer.{RequestAnswer}
-use Rattle.wire_requests.specs.declared.RequestAnswer.the-variants.{Parsed, Unparsed}
-use Rattle.wire_requests.specs.Requests.{messageMax, requestOf}
+use Rattle.wire_rules.specs.declared.Object.{Object}
+use Rattle.wire_rules.specs.declared.Object.the-variants.{Named, NoObject}
+use Rattle.wire_rules.specs.declared.RequestAnswer.{RequestAnswer}
+use Rattle.wire_rules.specs.declared.RequestAnswer.the-variants.{Parsed, Unparsed}
+use Rattle.wire_rules.specs.Requests.{messageMax, requestOf}
 use Rattle.rules.specs.State.{Setup, State, contentAt}
 use Rattle.rules.specs.Answers.{Wrote, Refused, NoRoom}
 use Rattle.rules.specs.Attributes.{FirstAttribute, Number, NoAttribute, Outcome, Gives, Fails, Attributes, valueOf, attributeNamed, getSingle, single, among, classAttributes, shortString, taggedText}

@@ -6,11 +6,11 @@ use mathlib.Core.Path.{_≡_, refl, ap, sym, _∙_}
 use Prim.Native.Nat.{ℕ, zero, suc, _*_, _≤_}
 use lib.ListN.{length, drop}
 use Rattle.cells.specs.Numbers.{bytesLe}
-use Rattle.wire_paths.specs.Segments.{logicalAt, between, segAt, stepAt, segsFrom, segsOf}
-use Rattle.wire_paths.specs.ConnectionPath.{gather}
-use Rattle.wire_requests.specs.declared.Object.the-variants.{Named}
-use Rattle.wire_requests.specs.declared.RequestAnswer.the-variants.{Parsed}
-use Rattle.wire_requests.specs.Requests.{attributeIn, requestWith, requestOf}
+use Rattle.wire_rules.specs.Segments.{logicalAt, between, segAt, stepAt, segsFrom, segsOf}
+use Rattle.wire_rules.specs.ConnectionPath.{gather}
+use Rattle.wire_rules.specs.declared.Object.the-variants.{Named}
+use Rattle.wire_rules.specs.declared.RequestAnswer.the-variants.{Parsed}
+use Rattle.wire_rules.specs.Requests.{attributeIn, requestWith, requestOf}
 use Rattle.rules.specs.State.{State}
 use Rattle.rules.specs.Attributes.{NoAttribute, Outcome, Gives, Fails}
 use Rattle.rules.specs.declared.objects.Upload.{Upload}

@@ -2,10 +2,10 @@
 use crate::paths;
 use crate::text;
 use ids::Triad;
-use wire_opens::CloseAnswer;
-use wire_opens::NetParams;
-use wire_opens::NetType;
-use wire_opens::OpenAnswer;
+use wire_rules::CloseAnswer;
+use wire_rules::NetParams;
+use wire_rules::NetType;
+use wire_rules::OpenAnswer;
 
 fn say_net(n: NetType) {
     match n {
@@ -37,7 +37,7 @@ fn say_triad(t: Triad) {
 
 fn say_transport(t: u8) {
     text::hex(b"  transport ", t as u32, 2);
-    if wire_opens::transport_ok(t) {
+    if wire_numbers::transport_ok(t) {
         text::words(b" (class 1, bit 7 clear: accepted)\n");
     } else {
         text::words(b" (refused with 0x0103: class 1 with bit 7 clear is accepted)\n");
@@ -47,7 +47,7 @@ fn say_transport(t: u8) {
 fn say_timeout(rpi: u32, multiplier: u8) {
     text::number32(b"  multiplier ", multiplier as u32);
     text::words(b", timeout ");
-    io::print_decimal(libc::STDOUT_FILENO, wire_opens::timeout(rpi, multiplier));
+    io::print_decimal(libc::STDOUT_FILENO, wire_numbers::timeout(rpi, multiplier));
     text::words(b" us\n");
 }
 

@@ -1,19 +1,19 @@
 // Paths segment by segment, and explicit messages.
 use crate::text;
-use wire_paths::Key;
-use wire_paths::Seg;
-use wire_paths::SegStep;
-use wire_requests::FirstAttribute;
-use wire_requests::Object;
-use wire_requests::RequestAnswer;
+use wire_rules::Key;
+use wire_rules::Seg;
+use wire_rules::SegStep;
+use wire_rules::FirstAttribute;
+use wire_rules::Object;
+use wire_rules::RequestAnswer;
 
 fn say_key(k: Key) {
     text::hex(b"key: vendor ", k.vendor as u32, 4);
     text::hex(b", device type ", k.device as u32, 4);
     text::hex(b", product code ", k.product as u32, 4);
-    text::number32(b", revision ", wire_opens::major_of(k.major) as u32);
+    text::number32(b", revision ", wire_numbers::major_of(k.major) as u32);
     text::number32(b".", k.minor as u32);
-    if wire_opens::compatible(k.major) {
+    if wire_numbers::compatible(k.major) {
         text::words(b" or compatible");
     }
     text::words(b"\n");

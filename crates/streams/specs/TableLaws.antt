@@ -7,7 +7,7 @@ use mathlib.Core.Path.{_≡_, refl, ap, sym, _∙_}
 use lib.Dec.{ltb}
 use lib.ListN.{take, drop}
 use Rattle.tables.specs.Tables.{rows, length-rows}
-use Rattle.wire_opens.specs.declared.ForwardOpen.{ForwardOpen}
+use Rattle.wire_rules.specs.declared.ForwardOpen.{ForwardOpen}
 use Rattle.rules.specs.declared.Stop.the-variants.{TriadInUse, Full}
 use Rattle.rules.specs.Lists.{place, any}
 use Rattle.rules.specs.Checks.{must, hasTriad, triadCheck, maxConnections, roomCheck}

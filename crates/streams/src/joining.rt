@@ -3,7 +3,7 @@ use checking::Check;
 use rules::Kind;
 use rules::Stop;
 use rules::Stream;
-use wire_opens::ForwardOpen;
+use wire_rules::ForwardOpen;
 ghost use mathlib.Core.Path.{_≡_};
 ghost use mathlib.Core.Option.{some};
 ghost use Prim.Native.Nat.{_≤_, _<_};

@@ -2,7 +2,7 @@
 use checking::Check;
 use layout::Found;
 use rules::Stop;
-use wire_opens::ForwardOpen;
+use wire_rules::ForwardOpen;
 ghost use mathlib.Core.Path.{_≡_};
 ghost use Prim.Native.Nat.{_≤_};
 ghost use lib.Dec.{ltb};

@@ -1,3 +1,2 @@
-pub mod Examples
 pub mod WriteLaws
 pub mod RoundLaws

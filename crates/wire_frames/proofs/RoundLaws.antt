@@ -13,11 +13,11 @@ use Rattle.cells.specs.Records.{sum, encFields, decFields, dec-enc, length-encF
 use Rattle.cells.specs.Writes.{written-all}
 use Rattle.cells.specs.declared.Written.{Written}
 use Rattle.cells.specs.declared.Written.the-variants.{Bytes, NoRoom}
-use Rattle.wire_items.specs.Frames.{otId, ioOf, ioFrame}
-use Rattle.wire_frames.specs.Writing.{frameWritten, behind, frameAppended}
+use Rattle.wire_rules.specs.Frames.{otId, ioOf, ioFrame}
+use Rattle.wire_rules.specs.Writing.{frameWritten, behind, frameAppended}
 use Rattle.wire_items.specs.Head.{Head}
-use Rattle.wire_frames.specs.Writing.{frontWidths, frontValues}
-use Rattle.wire_items.specs.declared.IoFrame.the-variants.{Io}
+use Rattle.wire_rules.specs.Writing.{frontWidths, frontValues}
+use Rattle.wire_rules.specs.declared.IoFrame.the-variants.{Io}
 use Rattle.wire_items.proofs.ItemLaws.{ends, step-end}
 use Rattle.wire_items.proofs.IoLaws.{is-io}
 use Rattle.wire_frames.proofs.WriteLaws.{frame-split, frame-length, no-room, too-long, past-end}

@@ -12,9 +12,9 @@ use Rattle.cells.specs.Records.{encFields, putFields, putFields-eq, length-encF
 use Rattle.cells.specs.Writes.{written-all, written-none}
 use Rattle.cells.specs.declared.Written.{Written}
 use Rattle.cells.specs.declared.Written.the-variants.{Bytes, NoRoom}
-use Rattle.wire_items.specs.Frames.{ioFrame}
-use Rattle.wire_frames.specs.Writing.{frameWritten, behind, frameAppended}
-use Rattle.wire_frames.specs.Writing.{frontWidths, frontValues}
+use Rattle.wire_rules.specs.Frames.{ioFrame}
+use Rattle.wire_rules.specs.Writing.{frameWritten, behind, frameAppended}
+use Rattle.wire_rules.specs.Writing.{frontWidths, frontValues}
 
 module _ (id sequence cip : ℕ) (bs : List ℕ) where
   -- the numbers before the data, then the data

@@ -6,7 +6,7 @@ ghost use mathlib.Core.Path.{_≡_};
 ghost use Prim.Native.Nat.{_≤_};
 ghost use lib.ListN.{length};
 ghost use Rattle.cells.specs.Records.{putFields};
-ghost use Rattle.wire_frames.specs.Writing.{frameWritten, frameAppended, frontWidths, frontValues};
+ghost use Rattle.wire_rules.specs.Writing.{frameWritten, frameAppended, frontWidths, frontValues};
 
 // All of a frame but the data.
 fn put_front(out: &mut [u8], id: ToId, sequence: u32, cip: u16, size: u16)

@@ -10,12 +10,12 @@ use borrow.Author.Tests.{le-leb, lt-leb, eq-eqb, ne-eqb, leb-true, eqb-true}
 use Rattle.cells.specs.Pick.{pick}
 use Rattle.cells.specs.Numbers.{le}
 use Rattle.cells.specs.Back.{all-at, all-fails, all-cons, all-nil}
-use Rattle.wire_items.specs.Items.{itemEnd, stepAt, Part, Items, wellFormed, broken, cons, itemsFrom, itemsOf, wholeOf}
-use Rattle.wire_items.specs.Frames.{otId, firstTwo, ioOfItems, ioOf}
+use Rattle.wire_rules.specs.Items.{itemEnd, stepAt, Part, Items, wellFormed, broken, cons, itemsFrom, itemsOf, wholeOf}
+use Rattle.wire_rules.specs.Frames.{otId, firstTwo, ioOfItems, ioOf}
 use Rattle.wire_items.specs.Head.{headTests, ioHead, Head, otherOf}
-use Rattle.wire_items.specs.declared.Whole.the-variants.{Good, BrokenAt}
-use Rattle.wire_items.specs.declared.IoFrame.{IoFrame}
-use Rattle.wire_items.specs.declared.IoFrame.the-variants.{Io, NotIo, Broken}
+use Rattle.wire_rules.specs.declared.Whole.the-variants.{Good, BrokenAt}
+use Rattle.wire_rules.specs.declared.IoFrame.{IoFrame}
+use Rattle.wire_rules.specs.declared.IoFrame.the-variants.{Io, NotIo, Broken}
 use Rattle.wire_items.proofs.ListLaws.{partAt, Chain, link, chain-within, of-good, of-broken, from-count, listed}
 
 -- ---- the head's tests

@@ -9,11 +9,11 @@ use native.Mathlib.Omega.{arith}
 use borrow.Author.Tests.{le-leb, lt-leb, eq-eqb, ne-eqb}
 use Rattle.cells.specs.Pick.{pick}
 use Rattle.cells.specs.Numbers.{le}
-use Rattle.wire_items.specs.Items.{cursor, startOf, itemEnd, stepAt, stepAfter, itemOf, Part, Items, wellFormed, broken, cons, itemsFrom, itemsOf, wholeOf}
-use Rattle.wire_items.specs.declared.Cursor.{Cursor}
-use Rattle.wire_items.specs.declared.Start.the-variants.{At, NoCount}
-use Rattle.wire_items.specs.declared.Step.the-variants.{Item, End, Broken}
-use Rattle.wire_items.specs.declared.Whole.the-variants.{Good, BrokenAt}
+use Rattle.wire_rules.specs.Items.{cursor, startOf, itemEnd, stepAt, stepAfter, itemOf, Part, Items, wellFormed, broken, cons, itemsFrom, itemsOf, wholeOf}
+use Rattle.wire_rules.specs.declared.Cursor.{Cursor}
+use Rattle.wire_rules.specs.declared.Start.the-variants.{At, NoCount}
+use Rattle.wire_rules.specs.declared.Step.the-variants.{Item, End, Broken}
+use Rattle.wire_rules.specs.declared.Whole.the-variants.{Good, BrokenAt}
 
 -- ---- the count
 

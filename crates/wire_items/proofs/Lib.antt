@@ -1,4 +1,3 @@
 pub mod ItemLaws
 pub mod ListLaws
 pub mod IoLaws
-pub mod Examples

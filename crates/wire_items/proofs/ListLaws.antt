@@ -10,10 +10,10 @@ use native.Mathlib.Decide.{decLe}
 use borrow.Author.Tests.{eqb-true, leb-true, le-leb, eq-eqb}
 use Rattle.cells.specs.Pick.{pick}
 use Rattle.cells.specs.Numbers.{le}
-use Rattle.wire_items.specs.Items.{cursor, itemEnd, stepAt, stepAfter, itemOf, Part, Items, wellFormed, broken, cons, follow, itemsFrom, itemsOf, wholeOf}
-use Rattle.wire_items.specs.declared.Cursor.{Cursor}
-use Rattle.wire_items.specs.declared.Step.the-variants.{Item, End, Broken}
-use Rattle.wire_items.specs.declared.Whole.the-variants.{Good, BrokenAt}
+use Rattle.wire_rules.specs.Items.{cursor, itemEnd, stepAt, stepAfter, itemOf, Part, Items, wellFormed, broken, cons, follow, itemsFrom, itemsOf, wholeOf}
+use Rattle.wire_rules.specs.declared.Cursor.{Cursor}
+use Rattle.wire_rules.specs.declared.Step.the-variants.{Item, End, Broken}
+use Rattle.wire_rules.specs.declared.Whole.the-variants.{Good, BrokenAt}
 use Rattle.wire_items.proofs.ItemLaws.{no-count, counted, item-begins}
 
 -- the item whose kind stands at `at`

@@ -7,10 +7,10 @@ use lib.ListN.{length}
 use lib.Dec.{leb, eqb}
 use Rattle.cells.specs.Numbers.{le}
 use Rattle.cells.specs.Back.{all}
-use Rattle.wire_items.specs.declared.Whole.{Whole}
-use Rattle.wire_items.specs.declared.Whole.the-variants.{Good, BrokenAt}
-use Rattle.wire_items.specs.declared.IoFrame.{IoFrame}
-use Rattle.wire_items.specs.declared.IoFrame.the-variants.{NotIo, Broken}
+use Rattle.wire_rules.specs.declared.Whole.{Whole}
+use Rattle.wire_rules.specs.declared.Whole.the-variants.{Good, BrokenAt}
+use Rattle.wire_rules.specs.declared.IoFrame.{IoFrame}
+use Rattle.wire_rules.specs.declared.IoFrame.the-variants.{NotIo, Broken}
 
 abbrev pub headTests : List ℕ → List Bool
 headTests s = leb 18 (length s) ∷ leb 2 (le 2 s 0) ∷ eqb (le 2 s 2) 0x8002 ∷ eqb (le 2 s 4) 8 ∷ eqb (le 2 s 14) 0xB1 ∷ []

@@ -1,52 +1,18 @@
 // The items of a frame (rules 3.2 to 3.11): a 16-bit count, then kind, size, bytes; the last must end with the data. A list that
 // is not well formed has an offset: that of the first item or count that does not fit, or of the first spare byte after the last item.
+use wire_rules::Cursor;
+use wire_rules::Start;
+use wire_rules::Step;
+use wire_rules::Whole;
+use wire_rules::IoFrame;
 use ids::OtId;
 ghost use mathlib.Core.Path.{_≡_};
 ghost use Prim.Native.Nat.{ℕ, _+_, _≤_, _<_};
 ghost use lib.ListN.{length};
 ghost use Rattle.cells.specs.Numbers.{le};
-ghost use Rattle.wire_items.specs.Items.{startOf, stepAt, itemsFrom, itemsOf, wholeOf};
-ghost use Rattle.wire_items.specs.Frames.{ioOf};
+ghost use Rattle.wire_rules.specs.Items.{startOf, stepAt, itemsFrom, itemsOf, wholeOf};
+ghost use Rattle.wire_rules.specs.Frames.{ioOf};
 ghost use Rattle.wire_items.specs.Head.{ioHead, Head, otherOf};
-
-// A place in a list and how many items are to come.
-pub struct Cursor {
-    pub at: usize,
-    pub left: usize,
-}
-
-pub enum Start {
-    At(Cursor),
-    NoCount(usize),
-}
-
-pub enum Step {
-    Item {
-        kind: u16,
-        start: usize,
-        len: usize,
-        next: Cursor,
-    },
-    End,
-    Broken(usize),
-}
-
-pub enum Whole {
-    Good,
-    BrokenAt(usize),
-}
-
-// What a frame is: an I/O frame with the place of its payload (CIP sequence first), another list of items, or no list.
-pub enum IoFrame {
-    Io {
-        id: OtId,
-        sequence: u32,
-        start: usize,
-        len: usize,
-    },
-    NotIo,
-    Broken(usize),
-}
 
 // A 16-bit number as a size or a count.
 fn size_at(s: &[u8], at: usize) -> usize

@@ -1,4 +1,1 @@
-pub mod Transport
-pub mod Timeout
-pub mod Group
 pub mod NumberLaws

@@ -6,8 +6,8 @@ use native.Mathlib.Nat.{mul-le-mul-left}
 use lib.Bits.{bitAnd, and-mask}
 use lib.ListN.{getD}
 use lib.Pow.{pow-mono, pow-pos}
-use Rattle.wire_numbers.specs.Timeout.{factors, factorOf, timeoutOf}
-use Rattle.wire_numbers.specs.Group.{hostOf}
+use Rattle.wire_rules.specs.Timeout.{factors, factorOf, timeoutOf}
+use Rattle.wire_rules.specs.Group.{hostOf}
 
 -- each entry of the table is 4 times 2 to its multiplier
 pub factor-at : (d k : ℕ) → k ≤ 7 → getD factors k d ≡ 4 * 2 ^ k

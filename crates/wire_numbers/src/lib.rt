@@ -1,9 +1,9 @@
 // The numbers that an open carries and what they come to: the transport byte, a key's major revision, the timeout, the group address.
 ghost use mathlib.Core.Path.{_≡_};
 ghost use Prim.Native.Nat.{_*_, _≤_, min};
-ghost use Rattle.wire_numbers.specs.Transport.{transportClass, directionBit, transportOk, compatibleBit, majorOf};
-ghost use Rattle.wire_numbers.specs.Timeout.{factorOf, timeoutOf};
-ghost use Rattle.wire_numbers.specs.Group.{groupOf};
+ghost use Rattle.wire_rules.specs.Transport.{transportClass, directionBit, transportOk, compatibleBit, majorOf};
+ghost use Rattle.wire_rules.specs.Timeout.{factorOf, timeoutOf};
+ghost use Rattle.wire_rules.specs.Group.{groupOf};
 
 // The transport class.
 pub fn transport_class(t: u8) -> u8

@@ -3,8 +3,8 @@ use Prim.Native.Nat.{ℕ, zero, suc, _%_, _≤_}
 use mathlib.Core.Path.{_≡_, refl}
 use native.Mathlib.Omega.{arith}
 use lib.Bits.{bitAnd, and-mask}
-use Rattle.wire_opens.specs.Params.{netOf}
-use Rattle.wire_opens.specs.declared.NetType.the-variants.{Reserved}
+use Rattle.wire_rules.specs.Params.{netOf}
+use Rattle.wire_rules.specs.declared.NetType.the-variants.{Reserved}
 
 pub mask1 : (v : ℕ) → bitAnd v 1 ≡ v % 2
 mask1 v = and-mask v 1

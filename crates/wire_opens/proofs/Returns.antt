@@ -7,12 +7,12 @@ use lib.ListN.{length}
 use borrow.Author.Tests.{le-leb, lt-leb}
 use Rattle.ids.specs.declared.Triad.{Triad}
 use Rattle.cells.specs.Numbers.{le}
-use Rattle.wire_opens.specs.Params.{smallParams, largeParams, paramsAt}
-use Rattle.wire_opens.specs.Requests.{limit, widthOf, triadAt, fieldsOf, openWith, openOf, closeOf}
-use Rattle.wire_opens.specs.declared.ForwardOpen.{ForwardOpen}
-use Rattle.wire_opens.specs.declared.OpenAnswer.{OpenAnswer}
-use Rattle.wire_opens.specs.declared.OpenAnswer.the-variants.{Open, NoOpen}
-use Rattle.wire_opens.specs.declared.CloseAnswer.the-variants.{Close, NoClose}
+use Rattle.wire_rules.specs.Params.{smallParams, largeParams, paramsAt}
+use Rattle.wire_rules.specs.Opens.{limit, widthOf, triadAt, fieldsOf, openWith, openOf, closeOf}
+use Rattle.wire_rules.specs.declared.ForwardOpen.{ForwardOpen}
+use Rattle.wire_rules.specs.declared.OpenAnswer.{OpenAnswer}
+use Rattle.wire_rules.specs.declared.OpenAnswer.the-variants.{Open, NoOpen}
+use Rattle.wire_rules.specs.declared.CloseAnswer.the-variants.{Close, NoClose}
 
 -- the parameters by the form of the open
 module _ (large : Bool) (s : List ℕ) (at : ℕ) where

@@ -11,13 +11,13 @@ use lib.Seq.{take-append-le}
 use Rattle.cells.specs.Pick.{pick}
 use Rattle.cells.specs.Numbers.{le, le-same}
 use Rattle.ids.specs.declared.Triad.{Triad}
-use Rattle.wire_opens.specs.Params.{paramsAt}
-use Rattle.wire_opens.specs.Requests.{limit, widthOf, triadAt, wayAt, placeAt, fieldsOf, openWith, openOf, closeOf}
-use Rattle.wire_opens.specs.declared.ForwardOpen.{ForwardOpen}
-use Rattle.wire_opens.specs.declared.OpenAnswer.{OpenAnswer}
-use Rattle.wire_opens.specs.declared.OpenAnswer.the-variants.{Open, NoOpen}
-use Rattle.wire_opens.specs.declared.CloseAnswer.{CloseAnswer}
-use Rattle.wire_opens.specs.declared.CloseAnswer.the-variants.{Close, NoClose}
+use Rattle.wire_rules.specs.Params.{paramsAt}
+use Rattle.wire_rules.specs.Opens.{limit, widthOf, triadAt, wayAt, placeAt, fieldsOf, openWith, openOf, closeOf}
+use Rattle.wire_rules.specs.declared.ForwardOpen.{ForwardOpen}
+use Rattle.wire_rules.specs.declared.OpenAnswer.{OpenAnswer}
+use Rattle.wire_rules.specs.declared.OpenAnswer.the-variants.{Open, NoOpen}
+use Rattle.wire_rules.specs.declared.CloseAnswer.{CloseAnswer}
+use Rattle.wire_rules.specs.declared.CloseAnswer.the-variants.{Close, NoClose}
 
 -- an open passed each test that stands before it
 opened : (b : Bool) (a : OpenAnswer) (o : ForwardOpen) → pick b a NoOpen ≡ Open o → (b ≡ true) × (a ≡ Open o)

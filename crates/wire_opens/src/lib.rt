@@ -1,72 +1,24 @@
 // The Forward Open and Forward Close requests; `wire_numbers` has what their numbers come to. A large open has network parameters
 // of four bytes where a small one has two. Bytes after the path are ignored, and a close's path is not parsed here.
+use wire_rules::NetType;
+use wire_rules::NetParams;
+use wire_rules::Way;
+use wire_rules::Place;
+use wire_rules::ForwardOpen;
+use wire_rules::OpenAnswer;
+use wire_rules::CloseAnswer;
 ghost use mathlib.Core.Path.{_≡_};
 ghost use Prim.Native.Nat.{_+_, _*_, _≤_};
 ghost use lib.ListN.{length};
 ghost use Rattle.cells.specs.Numbers.{le};
-ghost use Rattle.wire_opens.specs.Params.{netOf, smallParams, largeParams, paramsAt};
-ghost use Rattle.wire_opens.specs.Requests.{triadAt, wayAt, fieldsOf, openWith, openOf, closeOf};
+ghost use Rattle.wire_rules.specs.Params.{netOf, smallParams, largeParams, paramsAt};
+ghost use Rattle.wire_rules.specs.Opens.{triadAt, wayAt, fieldsOf, openWith, openOf, closeOf};
 use ids::OtId;
 use ids::ToId;
 use ids::Triad;
-pub use wire_numbers::compatible;
-pub use wire_numbers::group;
-pub use wire_numbers::major_of;
-pub use wire_numbers::timeout;
-pub use wire_numbers::transport_class;
-pub use wire_numbers::transport_ok;
 
 // Service data up to 65,536 bytes.
 const LIMIT: usize = 65536;
-
-// How a connection is carried in one direction.
-pub enum NetType {
-    Null,
-    Multicast,
-    PointToPoint,
-    Reserved,
-}
-
-// The network connection parameters of one direction.
-pub struct NetParams {
-    pub size: u32,
-    pub variable: bool,
-    pub net: NetType,
-}
-
-// One direction of a connection, as an open asks for it.
-pub struct Way {
-    pub rpi: u32,
-    pub params: NetParams,
-}
-
-// Bytes of the request, by where they begin and how many they are.
-pub struct Place {
-    pub start: usize,
-    pub len: usize,
-}
-
-// A Forward Open or Large Forward Open request.
-pub struct ForwardOpen {
-    pub otid: OtId,
-    pub toid: ToId,
-    pub triad: Triad,
-    pub multiplier: u8,
-    pub ot: Way,
-    pub to: Way,
-    pub transport: u8,
-    pub path: Place,
-}
-
-pub enum OpenAnswer {
-    Open(ForwardOpen),
-    NoOpen,
-}
-
-pub enum CloseAnswer {
-    Close(Triad),
-    NoClose,
-}
 
 fn net_of(n: u32) -> NetType
     ensures { λ r. ⌜ r ≡ netOf n ⌝ }

@@ -2,15 +2,15 @@
 use Prim.Native.Nat.{ℕ}
 use mathlib.Core.Path.{_≡_, sym, _∙_, ap}
 use mathlib.Core.List.{List, [], _∷_, _++_}
-use Rattle.wire_paths.specs.Segments.{stepAt}
+use Rattle.wire_rules.specs.Segments.{stepAt}
 use Rattle.wire_paths.specs.WalkLaws.{Passed, passed-none, passed-more, passed-all, passed-broken}
-use Rattle.wire_paths.specs.ConnectionPath.{connectionPath, pathRead, pathOf}
+use Rattle.wire_rules.specs.ConnectionPath.{connectionPath, pathRead, pathOf}
 use Rattle.wire_paths.specs.Adding.{added}
 use Rattle.wire_paths.proofs.MoreLaws.{added-more}
-use Rattle.wire_paths.specs.declared.Seg.{Seg}
-use Rattle.wire_paths.specs.declared.SegStep.the-variants.{Segment, End, Broken}
-use Rattle.wire_paths.specs.declared.ConnectionPath.{ConnectionPath}
-use Rattle.wire_paths.specs.declared.PathAnswer.the-variants.{Parsed, Unparsed}
+use Rattle.wire_rules.specs.declared.Seg.{Seg}
+use Rattle.wire_rules.specs.declared.SegStep.the-variants.{Segment, End, Broken}
+use Rattle.wire_rules.specs.declared.ConnectionPath.{ConnectionPath}
+use Rattle.wire_rules.specs.declared.PathAnswer.the-variants.{Parsed, Unparsed}
 
 pub record Held (s : List ℕ) (at : ℕ) (p : ConnectionPath) : Type 0 where
   pub done : List Seg

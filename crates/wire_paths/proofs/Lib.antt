@@ -1,4 +1,3 @@
-pub mod Examples
 pub mod StepLaws
 pub mod MoreLaws
 pub mod HeldLaws

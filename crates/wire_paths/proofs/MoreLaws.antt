@@ -8,11 +8,11 @@ use lib.Dec.{T, ltb, ltb→lt, eqb}
 use native.Mathlib.Nat.{min-eq-right}
 use native.Mathlib.Omega.{arith}
 use Rattle.cells.specs.Pick.{pick}
-use Rattle.wire_paths.specs.ConnectionPath.{gather, some, last, connectionPath}
+use Rattle.wire_rules.specs.ConnectionPath.{gather, some, last, connectionPath}
 use Rattle.wire_paths.specs.Adding.{withBar, withKey, withClass, withNumber, withData, added}
-use Rattle.wire_paths.specs.declared.Key.{Key}
-use Rattle.wire_paths.specs.declared.Seg.{Seg}
-use Rattle.wire_paths.specs.declared.Seg.the-variants.{Port, Class, Instance, Point, Attribute, Keyed, Data}
+use Rattle.wire_rules.specs.declared.Key.{Key}
+use Rattle.wire_rules.specs.declared.Seg.{Seg}
+use Rattle.wire_rules.specs.declared.Seg.the-variants.{Port, Class, Instance, Point, Attribute, Keyed, Data}
 
 -- ---- lists with one more at the end
 

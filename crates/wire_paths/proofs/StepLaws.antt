@@ -9,12 +9,12 @@ use native.Mathlib.Omega.{arith}
 use borrow.Author.Tests.{le-leb, lt-leb, eq-eqb, ne-eqb, lt-ltb, le-ltb}
 use Rattle.cells.specs.Pick.{pick}
 use Rattle.cells.specs.Numbers.{le}
-use Rattle.wire_paths.specs.Segments.{evenUp, portOffset, linkOffset, linkSize, portOf, portAt, logicalAt, keyOf, keyAt, dataAt, between, segAt, pathMax, stepAt}
-use Rattle.wire_paths.specs.declared.Key.{Key}
-use Rattle.wire_paths.specs.declared.Seg.{Seg}
-use Rattle.wire_paths.specs.declared.Seg.the-variants.{Port, Class, Instance, Point, Attribute, Keyed, Data}
-use Rattle.wire_paths.specs.declared.SegStep.{SegStep}
-use Rattle.wire_paths.specs.declared.SegStep.the-variants.{Segment, End, Broken}
+use Rattle.wire_rules.specs.Segments.{evenUp, portOffset, linkOffset, linkSize, portOf, portAt, logicalAt, keyOf, keyAt, dataAt, between, segAt, pathMax, stepAt}
+use Rattle.wire_rules.specs.declared.Key.{Key}
+use Rattle.wire_rules.specs.declared.Seg.{Seg}
+use Rattle.wire_rules.specs.declared.Seg.the-variants.{Port, Class, Instance, Point, Attribute, Keyed, Data}
+use Rattle.wire_rules.specs.declared.SegStep.{SegStep}
+use Rattle.wire_rules.specs.declared.SegStep.the-variants.{Segment, End, Broken}
 
 -- ---- ports
 

@@ -3,10 +3,10 @@ use Prim.Native.Nat.{ℕ, _+_}
 use mathlib.Core.Bool.{true}
 use lib.Dec.{ltb, eqb}
 use Rattle.cells.specs.Pick.{pick}
-use Rattle.wire_paths.specs.declared.Key.{Key}
-use Rattle.wire_paths.specs.declared.Seg.{Seg}
-use Rattle.wire_paths.specs.declared.Seg.the-variants.{Port, Class, Instance, Point, Attribute, Keyed, Data}
-use Rattle.wire_paths.specs.declared.ConnectionPath.{ConnectionPath}
+use Rattle.wire_rules.specs.declared.Key.{Key}
+use Rattle.wire_rules.specs.declared.Seg.{Seg}
+use Rattle.wire_rules.specs.declared.Seg.the-variants.{Port, Class, Instance, Point, Attribute, Keyed, Data}
+use Rattle.wire_rules.specs.declared.ConnectionPath.{ConnectionPath}
 
 abbrev pub withBar : ConnectionPath → ConnectionPath
 withBar p =

@@ -1,5 +1,3 @@
-pub mod Segments
-pub mod ConnectionPath
 pub mod Logical
 pub mod Adding
 pub mod PathLaws

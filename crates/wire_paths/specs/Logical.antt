@@ -2,8 +2,8 @@
 use Prim.Native.Nat.{ℕ}
 use Rattle.wire_paths.specs.declared.Logical as kinds
 use Rattle.wire_paths.specs.declared.Logical.{Logical}
-use Rattle.wire_paths.specs.declared.Seg.{Seg}
-use Rattle.wire_paths.specs.declared.Seg.the-variants.{Class, Instance, Point, Attribute}
+use Rattle.wire_rules.specs.declared.Seg.{Seg}
+use Rattle.wire_rules.specs.declared.Seg.the-variants.{Class, Instance, Point, Attribute}
 
 abbrev pub named : Logical → ℕ → Seg
 named kinds.the-variants.Class = Class

@@ -9,15 +9,15 @@ use lib.Dec.{T, leb, leb→le, ltb, eqb}
 use native.Mathlib.Omega.{arith}
 use borrow.Author.Tests.{ltb-true, ltb-false, eqb-true, eqb-false, le-ltb, eq-eqb}
 use Rattle.cells.specs.Pick.{pick}
-use Rattle.wire_paths.specs.Segments.{upTo, evenUp, portOffset, linkOffset, linkSize, portAt, logicalAt, keyAt, dataAt, between, segAt, pathMax, stepAt, Segs, segs, broken, cons, follow, segsFrom, segsOf}
-use Rattle.wire_paths.specs.ConnectionPath.{gather, last, place, connectionPath, pathRead, pathOf}
-use Rattle.wire_paths.specs.declared.ConnectionPath.{ConnectionPath}
-use Rattle.wire_paths.specs.declared.PathAnswer.the-variants.{Parsed}
-use Rattle.wire_paths.specs.declared.Key.{Key}
-use Rattle.wire_paths.specs.declared.Seg.{Seg}
-use Rattle.wire_paths.specs.declared.Seg.the-variants.{Port, Class, Instance, Point, Attribute, Keyed, Data}
-use Rattle.wire_paths.specs.declared.SegStep.{SegStep}
-use Rattle.wire_paths.specs.declared.SegStep.the-variants.{Segment, End, Broken}
+use Rattle.wire_rules.specs.Segments.{upTo, evenUp, portOffset, linkOffset, linkSize, portAt, logicalAt, keyAt, dataAt, between, segAt, pathMax, stepAt, Segs, segs, broken, cons, follow, segsFrom, segsOf}
+use Rattle.wire_rules.specs.ConnectionPath.{gather, last, place, connectionPath, pathRead, pathOf}
+use Rattle.wire_rules.specs.declared.ConnectionPath.{ConnectionPath}
+use Rattle.wire_rules.specs.declared.PathAnswer.the-variants.{Parsed}
+use Rattle.wire_rules.specs.declared.Key.{Key}
+use Rattle.wire_rules.specs.declared.Seg.{Seg}
+use Rattle.wire_rules.specs.declared.Seg.the-variants.{Port, Class, Instance, Point, Attribute, Keyed, Data}
+use Rattle.wire_rules.specs.declared.SegStep.{SegStep}
+use Rattle.wire_rules.specs.declared.SegStep.the-variants.{Segment, End, Broken}
 
 -- ---- what a reader finds at a place
 

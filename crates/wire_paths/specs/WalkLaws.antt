@@ -4,10 +4,10 @@ use mathlib.Core.Path.{_≡_, refl, sym, _∙_, ap}
 use mathlib.Core.List.{List, [], _∷_, _++_, append-assoc, append-nil}
 use lib.ListN.{length}
 use native.Mathlib.Omega.{arith}
-use Rattle.wire_paths.specs.Segments.{stepAt, Segs, segs, broken, cons, segsFrom, segsOf}
+use Rattle.wire_rules.specs.Segments.{stepAt, Segs, segs, broken, cons, segsFrom, segsOf}
 use Rattle.wire_paths.specs.PathLaws.{segment-found}
-use Rattle.wire_paths.specs.declared.Seg.{Seg}
-use Rattle.wire_paths.specs.declared.SegStep.the-variants.{Segment, End, Broken}
+use Rattle.wire_rules.specs.declared.Seg.{Seg}
+use Rattle.wire_rules.specs.declared.SegStep.the-variants.{Segment, End, Broken}
 
 -- the segments l, and then the rest
 abbrev pub after : List Seg → Segs → Segs

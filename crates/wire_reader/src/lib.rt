@@ -1,8 +1,8 @@
 // The reader of a frame's items, over the cursor of `wire_items`: a struct that holds the frame and a place in it.
-use wire_items::Cursor;
-use wire_items::Step;
+use wire_rules::Cursor;
+use wire_rules::Step;
 ghost use mathlib.Core.Path.{_≡_};
-ghost use Rattle.wire_items.specs.Items.{stepAt};
+ghost use Rattle.wire_rules.specs.Items.{stepAt};
 
 // A frame and a cursor in it: gives one item at a time.
 pub struct ItemReader<'a> {

@@ -12,7 +12,7 @@ use Rattle.cells.specs.Records.{sum, encFields, putFields, Laid, putFields-eq, 
 use Rattle.cells.specs.Writes.{written, written-all, written-none}
 use Rattle.cells.specs.declared.Written.{Written}
 use Rattle.cells.specs.declared.Written.the-variants.{Bytes, NoRoom}
-use Rattle.wire_replies.specs.Replies.{withBit7, extended, replyHead}
+use Rattle.wire_rules.specs.Replies.{withBit7, extended, replyHead}
 
 -- a put over what was written before; and one of a value that is known by another name
 pub put-on : (w at v : ℕ) {l l′ l″ : List ℕ} → l″ ≡ put w l′ at v → l′ ≡ l → l″ ≡ put w l at v

@@ -11,7 +11,7 @@ use Rattle.cells.specs.Records.{sum, encFields, decFields, Laid, length-encFiel
 use Rattle.ids.specs.declared.OtId.{OtId}
 use Rattle.ids.specs.declared.ToId.{ToId}
 use Rattle.ids.specs.declared.Triad.{Triad}
-use Rattle.wire_replies.specs.Replies.{openReply, openReplyWidths, openReplyFields, openRefusal, closeReply, triadReplyWidths, triadReplyFields, triadReply, extended, replyHeadWidths, replyHeadFields, replyHead}
+use Rattle.wire_rules.specs.Replies.{openReply, openReplyWidths, openReplyFields, openRefusal, closeReply, triadReplyWidths, triadReplyFields, triadReply, extended, replyHeadWidths, replyHeadFields, replyHead}
 
 pub read-back : (ws vs : List ℕ) → T (Laid ws vs) → (out : List ℕ) → sum ws ≤ length out → decFields ws (sets out 0 (encFields ws vs)) 0 ≡ vs
 read-back ws vs t out h =

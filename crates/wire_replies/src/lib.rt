@@ -6,7 +6,7 @@ ghost use mathlib.Core.List.{[], _∷_};
 ghost use lib.ListN.{length};
 ghost use Rattle.cells.specs.Records.{putFields};
 ghost use Rattle.cells.specs.Writes.{written};
-ghost use Rattle.wire_replies.specs.Replies.{triadWidths, triadFields, withBit7, headWidths, headFields, openReply, triadReply, openRefusal, closeReply, replyHead};
+ghost use Rattle.wire_rules.specs.Replies.{triadWidths, triadFields, withBit7, headWidths, headFields, openReply, triadReply, openRefusal, closeReply, replyHead};
 use cells::Written;
 use ids::OtId;
 use ids::ToId;

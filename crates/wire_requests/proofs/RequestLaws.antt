@@ -5,26 +5,26 @@ use mathlib.Core.List.{List, [], _∷_, _++_, append-nil}
 use lib.ListN.{length, getD, take, drop}
 use native.Mathlib.Omega.{arith}
 use borrow.Author.Tests.{le-leb, lt-leb, lt-ltb, le-ltb}
-use Rattle.wire_paths.specs.Segments.{stepAt, Segs, segs, broken, segsOf}
-use Rattle.wire_paths.specs.ConnectionPath.{gather, pathRead, pathOf}
+use Rattle.wire_rules.specs.Segments.{stepAt, Segs, segs, broken, segsOf}
+use Rattle.wire_rules.specs.ConnectionPath.{gather, pathRead, pathOf}
 use Rattle.wire_paths.specs.WalkLaws.{Ahead, ahead-all, ahead-then, ahead-end, ahead-whole, Passed, passed-none, passed-more, passed-all, passed-broken}
-use Rattle.wire_paths.specs.declared.Seg.{Seg}
-use Rattle.wire_paths.specs.declared.Seg.the-variants.{Port, Class, Instance, Point, Attribute, Keyed, Data}
-use Rattle.wire_paths.proofs.Seg.{the-type}
+use Rattle.wire_rules.specs.declared.Seg.{Seg}
+use Rattle.wire_rules.specs.declared.Seg.the-variants.{Port, Class, Instance, Point, Attribute, Keyed, Data}
+use Rattle.wire_rules.proofs.Seg.{the-type}
 use denote.Enum.Declared.{tagOf}
 use types.Run.{OneOf, miss}
-use Rattle.wire_paths.specs.declared.SegStep.the-variants.{Segment, End, Broken}
-use Rattle.wire_paths.specs.declared.ConnectionPath.{ConnectionPath}
-use Rattle.wire_paths.specs.declared.PathAnswer as paths
-use Rattle.wire_requests.specs.Requests.{inClass, objectIn, attributeOf, firstOf, attributeIn, attributeAnswer, firstAttribute, messageMax, requestWith, requestOf}
+use Rattle.wire_rules.specs.declared.SegStep.the-variants.{Segment, End, Broken}
+use Rattle.wire_rules.specs.declared.ConnectionPath.{ConnectionPath}
+use Rattle.wire_rules.specs.declared.PathAnswer as paths
+use Rattle.wire_rules.specs.Requests.{inClass, objectIn, attributeOf, firstOf, attributeIn, attributeAnswer, firstAttribute, messageMax, requestWith, requestOf}
 use Rattle.wire_requests.specs.Reading.{NamesClass, NamesInClass, NamesObject, keptAttribute}
-use Rattle.wire_requests.specs.declared.Object.{Object}
-use Rattle.wire_requests.specs.declared.Object.the-variants.{Named, NoObject}
-use Rattle.wire_requests.specs.declared.FirstAttribute.{FirstAttribute}
-use Rattle.wire_requests.specs.declared.FirstAttribute.the-variants.{NoAttribute}
-use Rattle.wire_requests.specs.declared.AttributeAnswer as attributes
-use Rattle.wire_requests.specs.declared.RequestAnswer.{RequestAnswer}
-use Rattle.wire_requests.specs.declared.RequestAnswer.the-variants.{Parsed, Unparsed}
+use Rattle.wire_rules.specs.declared.Object.{Object}
+use Rattle.wire_rules.specs.declared.Object.the-variants.{Named, NoObject}
+use Rattle.wire_rules.specs.declared.FirstAttribute.{FirstAttribute}
+use Rattle.wire_rules.specs.declared.FirstAttribute.the-variants.{NoAttribute}
+use Rattle.wire_rules.specs.declared.AttributeAnswer as attributes
+use Rattle.wire_rules.specs.declared.RequestAnswer.{RequestAnswer}
+use Rattle.wire_rules.specs.declared.RequestAnswer.the-variants.{Parsed, Unparsed}
 
 -- ---- the object
 

@@ -8,10 +8,10 @@ use lib.Dec.{ltb, leb}
 use native.Mathlib.Omega.{arith}
 use borrow.Author.Tests.{leb-true}
 use Rattle.cells.specs.Pick.{pick}
-use Rattle.wire_paths.specs.Segments.{Segs, segs, broken, segsOf}
-use Rattle.wire_requests.specs.Requests.{messageMax, requestWith, requestOf}
-use Rattle.wire_requests.specs.declared.Request.{Request}
-use Rattle.wire_requests.specs.declared.RequestAnswer.the-variants.{Parsed, Unparsed}
+use Rattle.wire_rules.specs.Segments.{Segs, segs, broken, segsOf}
+use Rattle.wire_rules.specs.Requests.{messageMax, requestWith, requestOf}
+use Rattle.wire_rules.specs.declared.Request.{Request}
+use Rattle.wire_rules.specs.declared.RequestAnswer.the-variants.{Parsed, Unparsed}
 
 pub data-inside : (m : List ℕ) (r : Request) → Parsed r ≡ requestOf m → (2 ≤ r .datastart) × (r .datastart ≤ length m)
 unfolding requestOf requestWith

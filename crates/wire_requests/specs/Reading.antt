@@ -2,13 +2,13 @@
 use Prim.Native.Nat.{ℕ}
 use mathlib.Core.Path.{_≡_}
 use mathlib.Core.List.{List}
-use Rattle.wire_paths.specs.Segments.{segs, segsOf}
+use Rattle.wire_rules.specs.Segments.{segs, segsOf}
 use Rattle.wire_paths.specs.WalkLaws.{Ahead}
-use Rattle.wire_paths.specs.declared.Seg.{Seg}
-use Rattle.wire_requests.specs.Requests.{classAlone, inClass, objectIn, attributeOf, firstOf}
-use Rattle.wire_requests.specs.declared.Object.{Object}
-use Rattle.wire_requests.specs.declared.FirstAttribute.{FirstAttribute}
-use Rattle.wire_requests.specs.declared.FirstAttribute.the-variants.{Number, NoAttribute}
+use Rattle.wire_rules.specs.declared.Seg.{Seg}
+use Rattle.wire_rules.specs.Requests.{classAlone, inClass, objectIn, attributeOf, firstOf}
+use Rattle.wire_rules.specs.declared.Object.{Object}
+use Rattle.wire_rules.specs.declared.FirstAttribute.{FirstAttribute}
+use Rattle.wire_rules.specs.declared.FirstAttribute.the-variants.{Number, NoAttribute}
 
 abbrev pub NamesClass : List ℕ → ℕ → ℕ → Object → Type 0
 NamesClass s at c o = (l : List Seg) → Ahead s at l → o ≡ classAlone c l

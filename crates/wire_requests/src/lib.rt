@@ -1,46 +1,21 @@
 // CIP requests: a service, a path that names an object and perhaps one of its attributes, then the service's data. A message
 // is lent bytes, at most 65,536 of them; the path is its bytes from 2 to datastart, and the data the rest.
+use wire_rules::Object;
+use wire_rules::FirstAttribute;
+use wire_rules::AttributeAnswer;
+use wire_rules::Request;
+use wire_rules::RequestAnswer;
 ghost use mathlib.Core.Path.{_≡_};
 ghost use Prim.Native.Nat.{ℕ, _+_, _*_, _≤_, _<_};
 ghost use lib.ListN.{length, getD};
-ghost use Rattle.wire_paths.specs.Segments.{segsOf};
-ghost use Rattle.wire_requests.specs.Requests.{attributeOf, firstOf, firstAttribute, requestWith, requestOf};
+ghost use Rattle.wire_rules.specs.Segments.{segsOf};
+ghost use Rattle.wire_rules.specs.Requests.{attributeOf, firstOf, firstAttribute, requestWith, requestOf};
 ghost use Rattle.wire_requests.specs.Reading.{NamesObject, NamesInClass, NamesClass, keptAttribute};
-use wire_paths::PathAnswer;
-use wire_paths::Seg;
-use wire_paths::SegStep;
+use wire_rules::PathAnswer;
+use wire_rules::Seg;
+use wire_rules::SegStep;
 use wire_paths::next_segment;
 use wire_paths::parse_path;
-
-// The object that a path names. Instance 0 is the class itself.
-pub enum Object {
-    Named { class: u32, instance: u32 },
-    NoObject,
-}
-
-// The first attribute that a path names.
-pub enum FirstAttribute {
-    Number(u32),
-    NoAttribute,
-}
-
-pub enum AttributeAnswer {
-    Parsed(FirstAttribute),
-    Unparsed(usize),
-}
-
-pub struct Request {
-    pub service: u8,
-    pub object: Object,
-    pub attribute: FirstAttribute,
-    pub datastart: usize,
-}
-
-// A request, or the service of a message that is none (0 where it has no byte): what the reply to it is to name.
-pub enum RequestAnswer {
-    Parsed(Request),
-    Unparsed(u8),
-}
 
 fn wide(b: u8) -> usize
     ensures { λ r. ⌜ (r ≡ b) × (r < 256) ⌝ }

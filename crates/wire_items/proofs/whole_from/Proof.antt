@@ -1,5 +1,5 @@
 use mathlib.Core.Path.{_≡_, refl, sym, _∙_}
-use Rattle.wire_items.specs.Items.{itemsFrom, wholeOf}
+use Rattle.wire_rules.specs.Items.{itemsFrom, wholeOf}
 use Rattle.wire_items.proofs.ItemLaws.{ends, stops, fewer, goes}
 use borrow.Author.Needs.{needs}
 use Rattle.wire_items.proofs.whole_from.Statement.{statement}

@@ -1,6 +1,6 @@
 use Prim.Native.Nat.{_+_}
 use borrow.Author.Needs.{needs}
-use Rattle.wire_opens.specs.Requests.{fieldsOf, placeAt}
+use Rattle.wire_rules.specs.Opens.{fieldsOf, placeAt}
 use Rattle.wire_opens.proofs.fields.Statement.{statement}
 use Rattle.wire_opens.proofs.fields.Tie as tie
 

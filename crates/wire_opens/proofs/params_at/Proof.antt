@@ -1,6 +1,6 @@
 use borrow.Author.Needs.{needs}
 use mathlib.Core.Path.{ap, _∙_}
-use Rattle.wire_opens.specs.Params.{smallParams, largeParams}
+use Rattle.wire_rules.specs.Params.{smallParams, largeParams}
 use Rattle.wire_opens.proofs.Returns.{large-at, small-at}
 use Rattle.wire_opens.proofs.params_at.Statement.{statement}
 use Rattle.wire_opens.proofs.params_at.Tie as tie

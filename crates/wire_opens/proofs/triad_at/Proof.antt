@@ -1,5 +1,5 @@
 use borrow.Author.Needs.{needs}
-use Rattle.wire_opens.specs.Requests.{triadAt}
+use Rattle.wire_rules.specs.Opens.{triadAt}
 use Rattle.wire_opens.proofs.triad_at.Statement.{statement}
 use Rattle.wire_opens.proofs.triad_at.Tie as tie
 

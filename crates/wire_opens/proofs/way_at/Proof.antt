@@ -1,5 +1,5 @@
 use borrow.Author.Needs.{needs}
-use Rattle.wire_opens.specs.Requests.{wayAt}
+use Rattle.wire_rules.specs.Opens.{wayAt}
 use Rattle.wire_opens.proofs.way_at.Statement.{statement}
 use Rattle.wire_opens.proofs.way_at.Tie as tie
 

@@ -1,4 +1,4 @@
-use Rattle.wire_paths.specs.Segments.{keyOf}
+use Rattle.wire_rules.specs.Segments.{keyOf}
 use borrow.Author.Needs.{needs}
 use Rattle.wire_paths.proofs.key_of.Statement.{statement}
 use Rattle.wire_paths.proofs.key_of.Tie as tie

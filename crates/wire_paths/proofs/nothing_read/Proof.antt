@@ -1,5 +1,5 @@
 use mathlib.Core.Path.{refl}
-use Rattle.wire_paths.specs.ConnectionPath.{gather, some, last, connectionPath}
+use Rattle.wire_rules.specs.ConnectionPath.{gather, some, last, connectionPath}
 use Rattle.wire_paths.proofs.nothing_read.Statement.{statement}
 use Rattle.wire_paths.proofs.nothing_read.Tie as tie
 

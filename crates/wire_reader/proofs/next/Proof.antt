@@ -43,13 +43,13 @@ use denote.Triple.Table.{entered, cited}
 use denote.Triple.Walked.{says, Stays, stay-none, walkOf, goes-none, Walks, ends-at, walked, walk-meets}
 use denote.Exit.{yes}
 use denote.Triple.Clauses.{ensured, lasts}
-use Rattle.wire_items.specs.Items.{stepAt}
+use Rattle.wire_rules.specs.Items.{stepAt}
 use Rattle.wire_reader.specs.declared.ItemReader.{ItemReader}
-use Rattle.wire_items.specs.declared.Step.{Step}
+use Rattle.wire_rules.specs.declared.Step.{Step}
 use Rattle.wire_reader.proofs.ItemReader as T
 use Rattle.wire_reader.proofs.ItemReader.Laws as T′
-use Rattle.wire_items.proofs.Step as S
-use Rattle.wire_items.proofs.Step.Laws as S′
+use Rattle.wire_rules.proofs.Step as S
+use Rattle.wire_rules.proofs.Step.Laws as S′
 use Rattle.wire_items.proofs.step_at as step
 use Rattle.wire_items.proofs.step_at.Symbol as step-def
 use Rattle.wire_items.proofs.step_at.Symbol.{name as #wire-items·step-at}

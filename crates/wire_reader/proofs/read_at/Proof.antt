@@ -38,16 +38,16 @@ use denote.Triple.Table.{entered, cited}
 use denote.Triple.Walked.{says, Stays, stay-none, stay-none-slice, walkOf, goes-none, goes-none-slice, Walks, ends-at, walked, walk-meets}
 use denote.Exit.{yes}
 use denote.Triple.Clauses.{ensured, lasts}
-use Rattle.wire_items.specs.Items.{stepAt}
-use Rattle.wire_items.specs.declared.Cursor.{Cursor}
+use Rattle.wire_rules.specs.Items.{stepAt}
+use Rattle.wire_rules.specs.declared.Cursor.{Cursor}
 use Rattle.wire_reader.specs.declared.ItemReader.{ItemReader}
-use Rattle.wire_items.specs.declared.Step.{Step}
-use Rattle.wire_items.proofs.Cursor as K
-use Rattle.wire_items.proofs.Cursor.Laws as K′
+use Rattle.wire_rules.specs.declared.Step.{Step}
+use Rattle.wire_rules.proofs.Cursor as K
+use Rattle.wire_rules.proofs.Cursor.Laws as K′
 use Rattle.wire_reader.proofs.ItemReader as T
 use Rattle.wire_reader.proofs.ItemReader.Laws as T′
-use Rattle.wire_items.proofs.Step as S
-use Rattle.wire_items.proofs.Step.Laws as S′
+use Rattle.wire_rules.proofs.Step as S
+use Rattle.wire_rules.proofs.Step.Laws as S′
 use Rattle.wire_reader.proofs.reader as reader
 use Rattle.wire_reader.proofs.reader.Symbol as reader-def
 use Rattle.wire_reader.proofs.reader.Symbol.{name as #wire-reader·reader}

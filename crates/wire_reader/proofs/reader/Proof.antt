@@ -36,10 +36,10 @@ use denote.Triple.Spec.{Meets, tripleOf}
 use denote.Triple.Table.{entered}
 use denote.Triple.Walked.{says, Stays, stay-none, stay-none-slice, walkOf, goes-none, goes-none-slice, Walks, ends-at, walked, walk-meets}
 use denote.Exit.{yes}
-use Rattle.wire_items.specs.declared.Cursor.{Cursor}
+use Rattle.wire_rules.specs.declared.Cursor.{Cursor}
 use Rattle.wire_reader.specs.declared.ItemReader.{ItemReader}
-use Rattle.wire_items.proofs.Cursor as K
-use Rattle.wire_items.proofs.Cursor.Laws as K′
+use Rattle.wire_rules.proofs.Cursor as K
+use Rattle.wire_rules.proofs.Cursor.Laws as K′
 use Rattle.wire_reader.proofs.ItemReader as T
 use Rattle.wire_reader.proofs.ItemReader.Laws as T′
 use Rattle.wire_reader.proofs.reader.Key.{name as #wire-reader·reader}

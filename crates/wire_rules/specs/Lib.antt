@@ -1,0 +1,13 @@
+pub mod Items
+pub mod Frames
+pub mod Writing
+pub mod Segments
+pub mod ConnectionPath
+pub mod Requests
+pub mod Transport
+pub mod Timeout
+pub mod Group
+pub mod Params
+pub mod Opens
+pub mod Examples
+pub mod Replies
