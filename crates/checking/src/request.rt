@@ -1,9 +1,9 @@
 // The checks that read the request and no more than the setup's numbers: 1, 2, 6 and 7.
 use crate::Check;
 use rules::Stop;
+use wire_rules::ConnectionPath;
 use wire_rules::ForwardOpen;
 use wire_rules::NetType;
-use wire_rules::ConnectionPath;
 ghost use mathlib.Core.Path.{_≡_};
 ghost use mathlib.Core.List.{[]};
 ghost use mathlib.Core.Bool.{_&&_, not};

@@ -17,7 +17,7 @@ use Rattle.rules.specs.Objects.{fileAttributes, initiateUpload, uploadTransfer,
 use Rattle.attributes.specs.declared.Given.{Given}
 use Rattle.attributes.specs.Told.{told}
 use Rattle.attributes.specs.Values.{Without}
-use Rattle.uploads.specs.Positions.{decUpload, encUpload}
+use Rattle.positions.specs.Positions.{decUpload, encUpload}
 use Rattle.uploads.specs.Lent.{stepped}
 
 -- 8 bytes that say an upload in the one way in which it is written

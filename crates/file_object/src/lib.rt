@@ -14,7 +14,7 @@ ghost use Rattle.rules.specs.Objects.{fileAttributes, edsFile, file};
 ghost use Rattle.layout.specs.Setups.{setupFrom};
 ghost use Rattle.layout.specs.Places.{setupSize};
 ghost use Rattle.attributes.specs.Told.{told};
-ghost use Rattle.uploads.specs.Positions.{decUpload};
+ghost use Rattle.positions.specs.Positions.{decUpload};
 ghost use Rattle.uploads.specs.Lent.{stepped};
 ghost use Rattle.file_object.specs.Files.{firstAttributes, lastAttributes, Whole};
 

@@ -24,7 +24,7 @@ use Rattle.rules.specs.Calls.{Call, answer, next, run}
 use Rattle.steps.specs.Names.{ForwardOpen, OpenAnswer, Origin, Plan, Verdict}
 use Rattle.steps.specs.Steps.{log, Nothing, news, Reading, learnt, history, acceptance}
 use Rattle.starting.specs.Block.{accepted}
-use Rattle.uploads.specs.Positions.{decUpload}
+use Rattle.positions.specs.Positions.{decUpload}
 use Rattle.lastword.specs.Knows.{id-told}
 use Rattle.adapter.specs.Origins.{originOf}
 use Rattle.host_runs.specs.Contracts.{Said, Answers}

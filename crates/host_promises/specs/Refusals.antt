@@ -21,7 +21,7 @@ use Rattle.image.specs.ViewLaws.{store-view}
 use Rattle.image.specs.Lift.{lifted-fails, lifted-passes, out-fails, read-fails}
 use Rattle.starting.specs.Block.{accepted}
 use Rattle.starting.specs.Calls.{other-size, bad-setup, set-up}
-use Rattle.uploads.specs.Positions.{decUpload}
+use Rattle.positions.specs.Positions.{decUpload}
 use Rattle.messages.specs.Positions.{positionTested, whole-tested}
 use Rattle.messages.specs.Lifted.{liftedMessage}
 use Rattle.faults.specs.Bounds.{refused-leaves}

@@ -12,7 +12,7 @@ use Rattle.rules_laws.specs.ListLaws.{by-cases}
 use Rattle.rules.specs.State.{Setup, State}
 use Rattle.rules.specs.Answers.{Wrote, Refused, NoRoom, answerNumber}
 use Rattle.rules.specs.Message.{replyRoom, messageReply, messageAnswer}
-use Rattle.uploads.specs.Positions.{decUpload}
+use Rattle.positions.specs.Positions.{decUpload}
 use Rattle.image.specs.Image.{view, tested}
 use Rattle.messages.specs.Positions.{positionTested}
 use Rattle.messages.specs.Lifted.{liftedMessage}

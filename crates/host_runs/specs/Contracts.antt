@@ -13,7 +13,7 @@ use Rattle.rules.specs.Message.{messageCall}
 use Rattle.routing.specs.Answered.{answered}
 use Rattle.image.specs.Lift.{lifted, liftedOut, liftedRead}
 use Rattle.starting.specs.Block.{setupGiven, accepted, setupCall}
-use Rattle.uploads.specs.Positions.{decUpload, encUpload}
+use Rattle.positions.specs.Positions.{decUpload, encUpload}
 use Rattle.messages.specs.Positions.{positionTested}
 use Rattle.messages.specs.Lifted.{liftedMessage}
 

@@ -34,8 +34,8 @@ use Rattle.rules.specs.Message.{fileIn, ofClass, ofObject, ofRequest, messageOu
 use Rattle.rules_laws.specs.ReplyLaws.{position-kept}
 use Rattle.layout.specs.Places.{setupIn, assembliesOf}
 use Rattle.image.specs.Image.{view, tested}
-use Rattle.uploads.specs.Positions.{wPosition, decUpload, lastNumber, anyLast, lastOffset, listPosition, heldIn, listUpload, encUpload, plain, plainList}
-use Rattle.uploads.specs.PositionLaws.{read-none, read-under}
+use Rattle.positions.specs.Positions.{wPosition, decUpload, lastNumber, anyLast, lastOffset, listPosition, heldIn, listUpload, encUpload, plain, plainList}
+use Rattle.positions.specs.PositionLaws.{read-none, read-under}
 use Rattle.messages.specs.Positions.{positionTested, position-ok, eds-none, eds-some, eds-long, mark-small, sized-tested}
 use Rattle.messages.specs.Lifted.{liftedMessage, messageOn}
 

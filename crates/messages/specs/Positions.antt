@@ -28,8 +28,8 @@ use Rattle.image.specs.Fits.{is-sound, is-long, short-name, short-eds-name, sho
 use Rattle.image.specs.StoreLaws.{length-edsIn, content-short}
 use Rattle.image.specs.ViewLaws.{suits-view}
 use Rattle.attributes.specs.declared.Given.{Given}
-use Rattle.uploads.specs.Positions.{wPosition, plainList, okWith, decUpload, uploadTested}
-use Rattle.uploads.specs.PositionLaws.{ok-none, ok-some, write-again}
+use Rattle.positions.specs.Positions.{wPosition, plainList, okWith, decUpload, uploadTested}
+use Rattle.positions.specs.PositionLaws.{ok-none, ok-some, write-again}
 use Rattle.uploads.specs.Lent.{stepped}
 use Rattle.file_object.specs.Files.{Whole}
 

@@ -19,7 +19,7 @@ use Rattle.rules.specs.Message.{replyHead, replyTo}
 use Rattle.attributes.specs.declared.Given as given
 use Rattle.attributes.specs.declared.Given.{Given}
 use Rattle.attributes.specs.Told.{told}
-use Rattle.uploads.specs.Positions.{encUpload}
+use Rattle.positions.specs.Positions.{encUpload}
 use Rattle.uploads.specs.Lent.{stepped}
 
 -- how many bytes of data there are

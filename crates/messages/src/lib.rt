@@ -15,7 +15,7 @@ ghost use Rattle.wire_rules.specs.Requests.{requestOf};
 ghost use Rattle.rules.specs.Message.{replyHead, fileIn, ofClass, ofObject, serviceOf, messageOutcome};
 ghost use Rattle.image.specs.Image.{view};
 ghost use Rattle.application.specs.Outcomes.{Passed};
-ghost use Rattle.uploads.specs.Positions.{decUpload};
+ghost use Rattle.positions.specs.Positions.{decUpload};
 ghost use Rattle.uploads.specs.Lent.{stepped};
 ghost use Rattle.file_object.specs.Files.{Whole};
 ghost use Rattle.messages.specs.Replies.{count, headed, replied};
@@ -29,9 +29,9 @@ pub fn position_tested(s: &[u8], position: &[u8]) -> bool
     let limit = cells::u8_at(&s[0..layout::SETUP_SIZE], 1);
     let mark = cells::u32_at(&s[0..layout::SETUP_SIZE], 4);
     if mark == 0 {
-        return uploads::upload_tested(position, limit, false, 0);
+        return positions::upload_tested(position, limit, false, 0);
     }
-    uploads::upload_tested(position, limit, true, (mark - 1) as u16)
+    positions::upload_tested(position, limit, true, (mark - 1) as u16)
 }
 
 // Without an EDS there is no File object.

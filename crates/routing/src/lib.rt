@@ -8,10 +8,10 @@ ghost use Rattle.rules.specs.Routing.{pathAnswer, requestAnswer, isNamed, class
 ghost use Rattle.routing.specs.Answered.{answered};
 ghost use Rattle.routing.specs.Told.{pathTold, requestTold};
 use wire_rules::ConnectionPath;
-use wire_rules::Key;
-use wire_rules::PathAnswer;
 use wire_rules::FirstAttribute;
+use wire_rules::Key;
 use wire_rules::Object;
+use wire_rules::PathAnswer;
 use wire_rules::Request;
 use wire_rules::RequestAnswer;
 

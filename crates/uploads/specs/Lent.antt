@@ -13,8 +13,8 @@ use Rattle.rules.specs.declared.objects.Position.{Position}
 use Rattle.rules.specs.declared.objects.Upload.{Upload}
 use Rattle.attributes.specs.declared.Given.{Given}
 use Rattle.attributes.specs.Told.{told}
-use Rattle.uploads.specs.Positions.{wPosition, listPosition, decUpload, encUpload, uploadTested}
-use Rattle.uploads.specs.PositionLaws.{write-again}
+use Rattle.positions.specs.Positions.{wPosition, listPosition, decUpload, encUpload, uploadTested}
+use Rattle.positions.specs.PositionLaws.{write-again}
 use Rattle.uploads.specs.Sending.{held}
 
 abbrev pub stepped : Outcome × Upload → List ℕ → Given × (List ℕ × List ℕ)

@@ -15,7 +15,7 @@ use Rattle.rules.specs.declared.objects.Turn.{Turn}
 use Rattle.rules.specs.declared.objects.Turn.the-variants.{Repeat, InTurn, OutOfTurn}
 use Rattle.rules.specs.declared.objects.Upload.{Upload}
 use Rattle.rules.specs.declared.objects.Upload.the-variants.{NoUpload, Under}
-use Rattle.uploads.specs.Positions.{wPosition, asPosition, asUpload, decUpload, heldIn}
+use Rattle.positions.specs.Positions.{wPosition, asPosition, asUpload, decUpload, heldIn}
 use Rattle.uploads.specs.Steps.{advancedTo, advanced-to}
 use Rattle.uploads.specs.declared.steps.Sends.{Sends}
 use Rattle.uploads.specs.declared.steps.Sends.the-variants.{Length, Part, Nothing}

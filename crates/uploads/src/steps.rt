@@ -1,11 +1,11 @@
 // One step of an upload: by value first, then over the position lent, then over the position's lent bytes.
 use crate::advanced;
 use crate::clamped;
-use crate::position_in;
-use crate::put_position;
 use crate::replies::send;
 use crate::turn_of;
 use attributes::Given;
+use positions::position_in;
+use positions::put_position;
 use rules::objects::Fault;
 use rules::objects::Last;
 use rules::objects::Position;
@@ -15,7 +15,7 @@ ghost use Prim.Native.Nat.{_≤_};
 ghost use lib.ListN.{length};
 ghost use Rattle.cells.specs.Records.{putFields};
 ghost use Rattle.rules.specs.Upload.{initiate, transfer};
-ghost use Rattle.uploads.specs.Positions.{wPosition, decUpload, heldIn, listPosition};
+ghost use Rattle.positions.specs.Positions.{wPosition, decUpload, heldIn, listPosition};
 ghost use Rattle.uploads.specs.Sending.{stepFor, initiateStep, transferStep};
 ghost use Rattle.uploads.specs.Lent.{stepped};
 

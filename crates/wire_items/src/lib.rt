@@ -1,11 +1,11 @@
 // The items of a frame (rules 3.2 to 3.11): a 16-bit count, then kind, size, bytes; the last must end with the data. A list that
 // is not well formed has an offset: that of the first item or count that does not fit, or of the first spare byte after the last item.
+use ids::OtId;
 use wire_rules::Cursor;
+use wire_rules::IoFrame;
 use wire_rules::Start;
 use wire_rules::Step;
 use wire_rules::Whole;
-use wire_rules::IoFrame;
-use ids::OtId;
 ghost use mathlib.Core.Path.{_≡_};
 ghost use Prim.Native.Nat.{ℕ, _+_, _≤_, _<_};
 ghost use lib.ListN.{length};

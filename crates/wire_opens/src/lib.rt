@@ -1,12 +1,12 @@
 // The Forward Open and Forward Close requests; `wire_numbers` has what their numbers come to. A large open has network parameters
 // of four bytes where a small one has two. Bytes after the path are ignored, and a close's path is not parsed here.
-use wire_rules::NetType;
-use wire_rules::NetParams;
-use wire_rules::Way;
-use wire_rules::Place;
-use wire_rules::ForwardOpen;
-use wire_rules::OpenAnswer;
 use wire_rules::CloseAnswer;
+use wire_rules::ForwardOpen;
+use wire_rules::NetParams;
+use wire_rules::NetType;
+use wire_rules::OpenAnswer;
+use wire_rules::Place;
+use wire_rules::Way;
 ghost use mathlib.Core.Path.{_≡_};
 ghost use Prim.Native.Nat.{_+_, _*_, _≤_};
 ghost use lib.ListN.{length};

@@ -1,11 +1,11 @@
 // The segments of a padded EPATH, and what an open reads of them. A path is lent bytes, at most 510 of them; a link or
 // configuration data is a place in these bytes, never a copy. Bytes that are no path are answered with the offset of the
 // first segment that does not parse or runs past the end.
+use wire_rules::ConnectionPath;
 use wire_rules::Key;
+use wire_rules::PathAnswer;
 use wire_rules::Seg;
 use wire_rules::SegStep;
-use wire_rules::ConnectionPath;
-use wire_rules::PathAnswer;
 ghost use mathlib.Core.Path.{_≡_};
 ghost use Prim.Native.Nat.{ℕ, _+_, _*_, _/_, _%_, _≤_, _<_};
 ghost use lib.ListN.{length, getD};

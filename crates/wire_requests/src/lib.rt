@@ -1,8 +1,8 @@
 // CIP requests: a service, a path that names an object and perhaps one of its attributes, then the service's data. A message
 // is lent bytes, at most 65,536 of them; the path is its bytes from 2 to datastart, and the data the rest.
-use wire_rules::Object;
-use wire_rules::FirstAttribute;
 use wire_rules::AttributeAnswer;
+use wire_rules::FirstAttribute;
+use wire_rules::Object;
 use wire_rules::Request;
 use wire_rules::RequestAnswer;
 ghost use mathlib.Core.Path.{_≡_};
@@ -11,11 +11,11 @@ ghost use lib.ListN.{length, getD};
 ghost use Rattle.wire_rules.specs.Segments.{segsOf};
 ghost use Rattle.wire_rules.specs.Requests.{attributeOf, firstOf, firstAttribute, requestWith, requestOf};
 ghost use Rattle.wire_requests.specs.Reading.{NamesObject, NamesInClass, NamesClass, keptAttribute};
+use wire_paths::next_segment;
+use wire_paths::parse_path;
 use wire_rules::PathAnswer;
 use wire_rules::Seg;
 use wire_rules::SegStep;
-use wire_paths::next_segment;
-use wire_paths::parse_path;
 
 fn wide(b: u8) -> usize
     ensures { λ r. ⌜ (r ≡ b) × (r < 256) ⌝ }

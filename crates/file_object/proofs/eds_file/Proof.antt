@@ -3,7 +3,7 @@ use mathlib.Core.List.{[]}
 use mathlib.Core.Path.{ap, _∙_}
 use Rattle.rules.specs.Upload.{initiate}
 use Rattle.layout.specs.Setups.{setupFrom}
-use Rattle.uploads.specs.Positions.{decUpload}
+use Rattle.positions.specs.Positions.{decUpload}
 use Rattle.uploads.specs.Lent.{stepped}
 use Rattle.file_object.specs.Files.{eds-initiate, eds-transfer, eds-alone, kept}
 use borrow.Author.Needs.{needs}

@@ -1,7 +1,7 @@
 use mathlib.Core.List.{[]}
 use Rattle.layout.specs.Setups.{setupFrom}
 use Rattle.attributes.specs.Values.{fails}
-use Rattle.uploads.specs.Positions.{decUpload}
+use Rattle.positions.specs.Positions.{decUpload}
 use Rattle.file_object.specs.Files.{file-class, file-none, file-eds, kept}
 use borrow.Author.Needs.{needs}
 use Rattle.file_object.proofs.file.Statement.{statement}

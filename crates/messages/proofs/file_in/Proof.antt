@@ -6,7 +6,7 @@ use lib.ListN.{take, drop, length-take}
 use Rattle.image.specs.Fits.{is-long}
 use Rattle.image.specs.Holds.{setup-ready}
 use Rattle.attributes.specs.Values.{fails}
-use Rattle.uploads.specs.Positions.{decUpload}
+use Rattle.positions.specs.Positions.{decUpload}
 use Rattle.file_object.specs.Files.{kept}
 use Rattle.messages.specs.Positions.{mark-small, names-short, no-file, the-file}
 use native.Mathlib.Omega.{arith}

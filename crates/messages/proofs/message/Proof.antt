@@ -4,7 +4,7 @@ use lib.ListN.{length}
 use Rattle.wire_requests.specs.PlaceLaws.{data-inside}
 use Rattle.image.specs.Image.{view}
 use Rattle.image.specs.StoreLaws.{mid-long}
-use Rattle.uploads.specs.Positions.{decUpload}
+use Rattle.positions.specs.Positions.{decUpload}
 use Rattle.messages.specs.Positions.{position-ok, whole-tested, sized-tested}
 use Rattle.messages.specs.Replies.{reply-done, reply-alone, few}
 use Rattle.messages.specs.Ways.{object-lent, reply-for, reply-short}

@@ -5,7 +5,7 @@ use Rattle.rules.specs.Objects.{identity, assembly, tcpIp, ethernetLink}
 use Rattle.rules.specs.Message.{ofClass, fileIn}
 use Rattle.image.specs.Image.{view}
 use Rattle.attributes.specs.Values.{fails}
-use Rattle.uploads.specs.Positions.{decUpload}
+use Rattle.positions.specs.Positions.{decUpload}
 use Rattle.file_object.specs.Files.{kept}
 use Rattle.messages.specs.Ways.{class-is, class-none}
 use borrow.Author.Needs.{needs}

@@ -1,6 +1,6 @@
 use Rattle.image.specs.Image.{view}
 use Rattle.attributes.specs.Values.{fails}
-use Rattle.uploads.specs.Positions.{decUpload}
+use Rattle.positions.specs.Positions.{decUpload}
 use Rattle.file_object.specs.Files.{kept}
 use Rattle.messages.specs.Ways.{object-is}
 use borrow.Author.Needs.{needs}

@@ -1,7 +1,7 @@
 -- The initiate over the lent bytes: the position is read, the step made by value, and both are written.
 use mathlib.Core.Path.{ap, _∙_}
 use Rattle.rules.specs.declared.objects.Position.{Position}
-use Rattle.uploads.specs.Positions.{decUpload}
+use Rattle.positions.specs.Positions.{decUpload}
 use Rattle.uploads.specs.Sending.{done, initiateStep, initiate-done}
 use Rattle.uploads.specs.Lent.{put-whole, step-done}
 use borrow.Author.Needs.{needs}

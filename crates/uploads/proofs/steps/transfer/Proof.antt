@@ -2,7 +2,7 @@
 use lib.ListN.{length}
 use mathlib.Core.Path.{ap, _∙_}
 use Rattle.attributes.specs.Told.{told}
-use Rattle.uploads.specs.Positions.{decUpload, heldIn}
+use Rattle.positions.specs.Positions.{decUpload, heldIn}
 use Rattle.uploads.specs.Sending.{outcomeOf, transferStep, transfer-done}
 use Rattle.uploads.specs.Lent.{put-whole, step-done}
 use Rattle.uploads.specs.declared.steps.Sends.{Sends}

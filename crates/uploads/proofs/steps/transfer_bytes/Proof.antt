@@ -47,7 +47,7 @@ use denote.Triple.Walked.{says, needs, Stays, gave-slice, stay-none, stay-none-s
 use denote.Exit.{yes}
 use borrow.Table.OneValue.{part-in-at, part-out-at}
 use Rattle.cells.specs.Records.{putFields}
-use Rattle.uploads.specs.Positions.{wPosition, decUpload, heldIn, listPosition}
+use Rattle.positions.specs.Positions.{wPosition, decUpload, heldIn, listPosition}
 use Rattle.uploads.specs.Sending.{transferStep}
 use Rattle.rules.specs.declared.objects.Position.{Position}
 use Rattle.uploads.specs.declared.steps.Sends.{Sends}
@@ -56,18 +56,18 @@ use Rattle.rules.proofs.objects.Position as T
 use Rattle.rules.proofs.objects.Position.Laws as T′
 use Rattle.uploads.proofs.steps.Sends as S
 use Rattle.uploads.proofs.steps.Sends.Laws as S′
-use Rattle.uploads.proofs.position_in as read
-use Rattle.uploads.proofs.position_in.Symbol as read-def
-use Rattle.uploads.proofs.position_in.Symbol.{name as #read}
-use Rattle.uploads.proofs.position_in.Met as read-thm
+use Rattle.positions.proofs.position_in as read
+use Rattle.positions.proofs.position_in.Symbol as read-def
+use Rattle.positions.proofs.position_in.Symbol.{name as #read}
+use Rattle.positions.proofs.position_in.Met as read-thm
 use Rattle.uploads.proofs.steps.transfer_lent as transfer
 use Rattle.uploads.proofs.steps.transfer_lent.Symbol as transfer-def
 use Rattle.uploads.proofs.steps.transfer_lent.Symbol.{name as #transfer}
 use Rattle.uploads.proofs.steps.transfer_lent.Met as transfer-thm
-use Rattle.uploads.proofs.put_position as put
-use Rattle.uploads.proofs.put_position.Symbol as put-def
-use Rattle.uploads.proofs.put_position.Symbol.{name as #put}
-use Rattle.uploads.proofs.put_position.Met as put-thm
+use Rattle.positions.proofs.put_position as put
+use Rattle.positions.proofs.put_position.Symbol as put-def
+use Rattle.positions.proofs.put_position.Symbol.{name as #put}
+use Rattle.positions.proofs.put_position.Met as put-thm
 use Rattle.uploads.proofs.steps.transfer_bytes.Key.{name as #over-bytes}
 use Rattle.uploads.proofs.steps.transfer_bytes as over-bytes
 use Rattle.uploads.proofs.steps.transfer_bytes.Statement as stated
@@ -238,6 +238,6 @@ transfer-bytes-spec 𝓤 H 𝓜 𝓖 𝓡 =
     entered 𝓤 H (tripleOf 𝓤 H (𝓖 .A) over-bytes.signature (over-bytes.spec 𝓤 H (𝓖 .A) (𝓜 .mem) (𝓡 .run)))
     (tables 𝓤 H 𝓜 𝓡 code.env .C) (tables 𝓤 H 𝓜 𝓡 code.env .Λ) #over-bytes code.function (code.unfolded 𝓤 H 𝓜 𝓡)
     (over-bytes-meets 𝓤 H (𝓖 .A) (givenOf 𝓤 H 𝓜 𝓖) (𝓜 .mem) (𝓡 .run) (tablesOf 𝓤 H 𝓜 (tables 𝓤 H 𝓜 𝓡 code.env))
-    (cited 𝓤 H (Read 𝓤 H (𝓖 .A) (𝓜 .mem) (𝓡 .run)) 𝓜 𝓡 code.env #read read-def.routine code.calls-uploads·position-in (read-thm.met 𝓤 H 𝓜 𝓖 𝓡))
+    (cited 𝓤 H (Read 𝓤 H (𝓖 .A) (𝓜 .mem) (𝓡 .run)) 𝓜 𝓡 code.env #read read-def.routine code.calls-positions·position-in (read-thm.met 𝓤 H 𝓜 𝓖 𝓡))
     (cited 𝓤 H (Transfer 𝓤 H (𝓖 .A) (𝓜 .mem) (𝓡 .run)) 𝓜 𝓡 code.env #transfer transfer-def.routine code.calls-uploads·steps·transfer-lent (transfer-thm.met 𝓤 H 𝓜 𝓖 𝓡))
-    (cited 𝓤 H (Put 𝓤 H (𝓖 .A) (𝓜 .mem) (𝓡 .run)) 𝓜 𝓡 code.env #put put-def.routine code.calls-uploads·put-position (put-thm.met 𝓤 H 𝓜 𝓖 𝓡)))
+    (cited 𝓤 H (Put 𝓤 H (𝓖 .A) (𝓜 .mem) (𝓡 .run)) 𝓜 𝓡 code.env #put put-def.routine code.calls-positions·put-position (put-thm.met 𝓤 H 𝓜 𝓖 𝓡)))
