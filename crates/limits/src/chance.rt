@@ -1,117 +1,60 @@
-// Bytes by chance as the state: every call answers 1; and where their counts are made good, every call answers a number that it has, and
-// leaves a state that passes the test.
-use crate::every;
-use crate::every::Tally;
-use crate::memory;
-use crate::setups;
-use crate::text;
-
-fn next(x: u32) -> u32 {
-    let a = x ^ (x << 13);
-    let b = a ^ (a >> 17);
-    b ^ (b << 5)
-}
+// Bytes by chance as the state, and the numbers that the state test asks about, as docs/STATE.md lists them, made good.
+ghost use Prim.Native.Nat.{_≤_};
 
 fn fill(s: &mut [u8], seed: u32) -> u32 {
     let mut x = seed;
-    let mut i = 0;
+    let mut i: usize = 0;
     while i < s.len() {
-        x = next(x);
-        s[i] = (x >> 24) as u8;
+        let a = x ^ (x << 13);
+        let b = a ^ (a >> 17);
+        x = b ^ (b << 5);
+        s[i] = (x / 16777216 % 256) as u8;
         i += 1;
     }
     x
 }
 
-// A byte brought below n.
-fn below(s: &mut [u8], at: usize, n: u8) {
-    if n > 0 {
-        let v = memory::get(s, at) % n;
-        memory::put(s, at, v);
+// Bytes brought to one of n numbers from the least on: those at a place and so far apart up to an end.
+fn mend(s: &mut [u8], place: usize, end: usize, apart: usize, n: u8, least: u8)
+    requires { ⌜ (end ≤ 240) × (1 ≤ apart) × (apart ≤ 5) × (1 ≤ n) ⌝ }
+{
+    if s.len() < end {
+        return;
+    }
+    let mut at = place;
+    while at < end {
+        s[at] = std::num::wrapping_add_u8(s[at] % n, least);
+        at += apart;
     }
 }
 
-// The numbers that the state test asks about, as docs/STATE.md lists them, made good.
+// The setup: its counts, lengths and sizes.
+fn mend_setup(s: &mut [u8]) {
+    mend(s, 0, 1, 1, 17, 0);
+    mend(s, 1, 2, 1, 1, 1);
+    mend(s, 2, 4, 1, 33, 0);
+    mend(s, 6, 8, 1, 1, 0);
+    mend(s, 113, 190, layout::SHAPE, 2, 0);
+}
+
+// The head: the next id, the ring's word, and the number of connections.
 fn mend_head(s: &mut [u8]) {
-    below(s, 0, 17);
-    memory::put(s, 1, 1);
+    mend(s, layout::NEXT_ID, 217, 1, 1, 1);
+    mend(s, 222, 223, 1, 32, 0);
+    mend(s, 223, 224, 1, 1, 0);
+    mend(s, layout::CONNECTIONS, 225, 1, 33, 0);
+    mend(s, 225, 226, 1, 1, 0);
 }
 
-fn mend_names(s: &mut [u8]) {
-    below(s, 2, 33);
-    below(s, 3, 33);
-    memory::put(s, 6, 0);
-    memory::put(s, 7, 0);
-}
-
-fn mend_counts(s: &mut [u8]) {
-    memory::put(s, 216, 1);
-    below(s, 222, 32);
-    memory::put(s, 223, 0);
-    below(s, 224, 33);
-    memory::put(s, 225, 0);
-}
-
-fn mend_shapes(s: &mut [u8]) {
-    let mut i: usize = 0;
-    while i < 16 {
-        below(s, 113 + i * 5, 2);
-        i += 1;
+// A state by chance, its counts made good or not, and the next seed; where there is no seed, the state as it is.
+pub fn state_of(s: &mut [u8], seed: u32, good: bool) -> u32 {
+    if seed == 0 {
+        return 0;
     }
-}
-
-fn say_tally(t: Tally) {
-    text::counted(t.calls, b" calls: ");
-    text::counted(t.ones, b" answers of 1, ");
-    text::counted(t.known, b" other numbers of theirs, ");
-    text::counted(t.passed, b" times the state passed its test\n");
-}
-
-fn chance_state(state: &mut [u8], seed: u32, mend: bool) -> u32 {
-    let x = fill(state, seed);
-    if mend {
-        mend_head(state);
-        mend_names(state);
-        mend_counts(state);
-        mend_shapes(state);
+    let x = fill(s, seed);
+    if good {
+        mend_setup(s);
+        mend_head(s);
     }
     x
-}
-
-fn tally(seed: u32, mend: bool) -> Tally {
-    let mut state = [0u8; 109056];
-    let mut t = every::none();
-    let mut x = seed;
-    let mut i: usize = 0;
-    while i < 50 {
-        x = chance_state(&mut state, x, mend);
-        t = every::count_all(t, &mut state, (x as u64) * 1000000000);
-        i += 1;
-    }
-    t
-}
-
-pub fn say_states() {
-    text::words(b"50 states of chance bytes, ");
-    say_tally(tally(20250101, false));
-    text::words(b"50 of them with their counts made good, ");
-    say_tally(tally(20250102, true));
-}
-
-// The bytes of a good state, one short or one more.
-fn other_length(name: &[u8], state: &mut [u8]) {
-    let mut good = [0u8; 109056];
-    setups::fresh(&mut good);
-    memory::copy(state, &good);
-    text::words(name);
-    say_tally(every::count_all(every::none(), state, 5));
-}
-
-pub fn say_lengths() {
-    let mut short = [0u8; 109055];
-    other_length(b"a state of 109,055 bytes, ", &mut short);
-    let mut long = [0u8; 109057];
-    other_length(b"a state of 109,057 bytes, ", &mut long);
-    let mut whole = [0u8; 109056];
-    other_length(b"the same in 109,056 bytes, ", &mut whole);
 }

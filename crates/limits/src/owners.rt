@@ -1,65 +1,52 @@
-// Two owners in the table, written as docs/STATE.md has the rows, and their frames.
-use crate::memory;
+// Two owners and the events of their outputs.
+use crate::calls;
+use adapter::host::threshtide_next_event;
+use adapter::host::threshtide_output;
 use adapter::traffic::threshtide_receive;
 
-pub const PEER: u32 = 0x0A000001;
-
-// An owner of the output at a place, from 10.0.0.1, O->T RPI 10,000 with multiplier 0; it lives until 100,000 and does not produce.
-fn add_owner(row: &mut [u8], id: u8, output: u8) {
-    memory::put(row, 29, output);
-    memory::put(row, 32, id);
-    memory::put(row, 36, 1);
-    memory::put(row, 39, 10);
-    memory::put(row, 60, id);
-    if row.len() == 69 {
-        cells::put_u64(row, 16, 100000);
-        cells::put_u32(row, 44, 10000);
+// How many events wait; all are taken.
+pub fn take_all(state: &mut [u8]) -> u64 {
+    let mut out = [0u8; 32];
+    let mut n: u64 = 0;
+    while n < 2000 {
+        if threshtide_next_event(state, &mut out) == 9 {
+            return n;
+        }
+        n += 1;
     }
+    n
 }
 
-// Id 1 owns the output at place 1, instance 101; id 2 owns that at place 4, instance 104.
-pub fn add_owners(state: &mut [u8]) {
-    if state.len() != 109056 {
-        return;
+// The connection of the i-th row, the last (docs/STATE.md): from 10.0.0.1, O->T RPI 10,000 with multiplier 0, the owner of the output at
+// a place. It lives until 100,000 and does not produce.
+pub fn join(state: &mut [u8], i: usize, id: u32, output: u16) -> u64 {
+    let mut row = [0u8; layout::ROW];
+    if state.len() != layout::STATE_SIZE {
+        return 255;
     }
-    add_owner(&mut state[256..325], 1, 1);
-    add_owner(&mut state[325..394], 2, 4);
-    memory::put(state, 224, 2);
+    if i > 31 {
+        return 255;
+    }
+    cells::put_u64(&mut row, 16, 100000);
+    cells::put_u8(&mut row, 29, (output % 256) as u8);
+    cells::put_u32(&mut row, 32, id);
+    cells::put_u32(&mut row, 36, calls::PEER);
+    cells::put_u32(&mut row, 44, 10000);
+    cells::put_u16(&mut row, 60, (id % 65536) as u16);
+    copies::copy_in(state, layout::TABLE + i * layout::ROW, &row);
+    cells::put_u16(state, layout::CONNECTIONS, (i + 1) as u16);
+    0
 }
 
-// A frame of a connection: its number as sequence and CIP sequence, run, and four bytes of data.
-pub fn hear(state: &mut [u8], time: u64, id: u8, n: u16, byte: u8) -> u64 {
-    let mut f = [
-        2u8,
-        0,
-        2,
-        128,
-        8,
-        0,
-        id,
-        0,
-        0,
-        0,
-        0,
-        0,
-        0,
-        0,
-        177,
-        0,
-        10,
-        0,
-        0,
-        0,
-        1,
-        0,
-        0,
-        0,
-        byte,
-        0,
-        0,
-        0,
-    ];
-    cells::put_u16(&mut f, 10, n);
-    cells::put_u16(&mut f, 18, n);
-    threshtide_receive(state, time, PEER, &f)
+// A change of instance 104, and a read of it, so many times.
+pub fn change(state: &mut [u8], many: u32) -> u64 {
+    let mut out = [0u8; 5];
+    let mut k: u32 = 0;
+    while k < many {
+        k += 1;
+        let n = (k % 65536) as u16;
+        threshtide_receive(state, 0, calls::PEER, &calls::frame(2, k, n, k % 2 + 1));
+        threshtide_output(state, 104, &mut out);
+    }
+    0
 }

@@ -1,4 +1,5 @@
-use Prim.Native.Nat.{_+_, _-_, _≤_}
+-- Every byte of the state is written once.
+use Prim.Native.Nat.{_-_, _≤_}
 use mathlib.Core.Path.{_≡_}
 use lib.ListN.{length}
 use borrow.Author.Needs.{needs}
@@ -13,9 +14,6 @@ abbrev μ-loop : tie.MeasureT-loop
 
 loop-holds : tie.Need-loop-holds Inv-loop μ-loop
 loop-holds c = search needs
-
-next-requires : tie.Need-next-requires Inv-loop μ-loop
-next-requires c κs = search needs
 
 cast-s : tie.Need-cast-s Inv-loop μ-loop
 cast-s c = search needs
@@ -45,7 +43,6 @@ fill-spec =
     Inv-loop
     μ-loop
     loop-holds
-    next-requires
     cast-s
     slice-write-s
     add-i

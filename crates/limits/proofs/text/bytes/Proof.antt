@@ -1,15 +1,15 @@
-use Prim.Native.Nat.{_+_, _-_, _≤_}
-use mathlib.Core.Path.{_≡_}
+-- Each byte is one of those lent.
+use Prim.Native.Nat.{_-_, _≤_}
 use lib.ListN.{length}
 use borrow.Author.Needs.{needs}
 use Rattle.limits.proofs.text.bytes.Statement.{statement}
 use Rattle.limits.proofs.text.bytes.Tie as tie
 
 abbrev Inv-loop : tie.InvT-loop
-Inv-loop name s i₀ t5 i = i ≤ length s
+Inv-loop name s n i₀ t6 t7 i = i ≤ length s
 
 abbrev μ-loop : tie.MeasureT-loop
-μ-loop name s i₀ t5 i = length s - i
+μ-loop name s n i₀ t6 t7 i = length s - i
 
 words-requires : tie.Need-words-requires Inv-loop μ-loop
 words-requires c κs = search needs
@@ -23,11 +23,17 @@ words-requires-2 c κs = search needs
 loop-holds : tie.Need-loop-holds Inv-loop μ-loop
 loop-holds c = search needs
 
-shared-slice-read-byte : tie.Need-shared-slice-read-byte Inv-loop μ-loop
-shared-slice-read-byte c = search needs
+slice-aggregate-number : tie.Need-slice-aggregate-number Inv-loop μ-loop
+slice-aggregate-number c = search needs
 
-byte-requires : tie.Need-byte-requires Inv-loop μ-loop
-byte-requires c κs = search needs
+u8-at-requires : tie.Need-u8-at-requires Inv-loop μ-loop
+u8-at-requires c κs = search needs
+
+cast-number : tie.Need-cast-number Inv-loop μ-loop
+cast-number c = search needs
+
+number-requires : tie.Need-number-requires Inv-loop μ-loop
+number-requires c κs = search needs
 
 add-i : tie.Need-add-i Inv-loop μ-loop
 add-i c = search needs
@@ -57,8 +63,10 @@ bytes-spec =
     slice-aggregate-words
     words-requires-2
     loop-holds
-    shared-slice-read-byte
-    byte-requires
+    slice-aggregate-number
+    u8-at-requires
+    cast-number
+    number-requires
     add-i
     loop-less
     loop-again

@@ -1,21 +1,26 @@
-use Prim.Native.Nat.{_+_, _-_, _≤_}
+-- The loop ends because its turns are counted.
+use Prim.Native.Nat.{_-_, _≤_}
 use mathlib.Core.Path.{_≡_}
 use lib.ListN.{length}
 use borrow.Author.Needs.{needs}
-use Rattle.limits.proofs.ring.take_all.Statement.{statement}
-use Rattle.limits.proofs.ring.take_all.Tie as tie
+use Rattle.limits.proofs.owners.take_all.Statement.{statement}
+use Rattle.limits.proofs.owners.take_all.Tie as tie
 
 abbrev Inv-loop : tie.InvT-loop
-Inv-loop state₀ n₀ state n = (length state ≡ length state₀) × (n ≤ 2000)
+Inv-loop state₀ out₀ n₀ state out n = (length state ≡ length state₀) × (length out ≡ 32) × (n ≤ 2000)
 
 abbrev μ-loop : tie.MeasureT-loop
-μ-loop state₀ n₀ state n = 2000 - n
+μ-loop state₀ out₀ n₀ state out n = 2000 - n
 
 loop-holds : tie.Need-loop-holds Inv-loop μ-loop
 loop-holds c = search needs
 
-take-one-requires : tie.Need-take-one-requires Inv-loop μ-loop
-take-one-requires c κs = search needs
+slice-aggregate-threshtide-next-event :
+    tie.Need-slice-aggregate-threshtide-next-event Inv-loop μ-loop
+slice-aggregate-threshtide-next-event c = search needs
+
+threshtide-next-event-requires : tie.Need-threshtide-next-event-requires Inv-loop μ-loop
+threshtide-next-event-requires c κs = search needs
 
 same-length : tie.Need-same-length Inv-loop μ-loop
 same-length c = search needs
@@ -45,7 +50,8 @@ take-all-spec =
     Inv-loop
     μ-loop
     loop-holds
-    take-one-requires
+    slice-aggregate-threshtide-next-event
+    threshtide-next-event-requires
     same-length
     returns
     add-n
