@@ -1,92 +1,21 @@
-// The calls, each on a state whose only assembly is the input 100 of 4 bytes; connections to it are input-only, point-to-point.
+// The calls, by the letter that the table has for each. Connections are input-only, point-to-point.
 use crate::text;
 use adapter::ends::threshtide_expire;
+use adapter::explicit::threshtide_message;
 use adapter::opens::threshtide_open;
 use adapter::start::threshtide_setup;
 use adapter::traffic::threshtide_produce;
 use adapter::traffic::threshtide_receive;
-ghost use mathlib.Core.Path.{_≡_};
-ghost use Prim.Native.Nat.{_≤_};
-ghost use lib.ListN.{length};
 
-pub const OPEN: u8 = 0;
-
-pub const RECEIVE: u8 = 1;
-
-pub const PRODUCE: u8 = 2;
-
-pub const EXPIRE: u8 = 3;
-
-// As many bytes as a state has.
-pub fn memory() -> [u8; 109056]
-    ensures { λ r. ⌜ 109056 ≡ length r ⌝ }
-{
-    [0; 109056]
-}
-
-fn write_block(b: &mut [u8])
-    requires { ⌜ 192 ≤ length (now b) ⌝ }
-{
-    cells::put_u16(b, 0, 257);
-    cells::put_u32(b, 20, 238);
-    cells::put_u32(b, 28, 2000);
-    cells::put_u32(b, 32, 3200000);
-    cells::put_u32(b, 110, 262244);
-    cells::put_u8(b, 114, 1);
-}
-
-pub fn begin(state: &mut [u8], seed: u32) {
-    let mut block = [0u8; 192];
-    write_block(&mut block);
-    threshtide_setup(state, &block, &[], seed);
-}
-
-// RPI 10,000 both ways; the path is class 4, point 238 (input-only), point 100.
+// Connection serial by its number, RPI 10,000 both ways; the path is class 4, point 238 (input-only), point 100.
 fn open(serial: u8, time: u64, state: &mut [u8], out: &mut [u8]) -> u64 {
-    let request = [
-        10u8,
-        14,
+    let mut request = [0u8; 42];
+    copies::copy_in(
+        &mut request,
         0,
-        0,
-        0,
-        0,
-        0,
-        112,
-        0,
-        0,
-        serial,
-        0,
-        2,
-        0,
-        3,
-        0,
-        0,
-        0,
-        0,
-        0,
-        0,
-        0,
-        16,
-        39,
-        0,
-        0,
-        2,
-        64,
-        16,
-        39,
-        0,
-        0,
-        6,
-        64,
-        1,
-        3,
-        32,
-        4,
-        44,
-        238,
-        44,
-        100,
-    ];
+        b"\x0A\x0E\x00\x00\x00\x00\x00\x70\x00\x00\x00\x00\x02\x00\x03\x00\x00\x00\x00\x00\x00\x00\x10\x27\x00\x00\x02\x40\x10\x27\x00\x00\x06\x40\x01\x03\x20\x04\x2C\xEE\x2C\x64",
+    );
+    request[10] = serial;
     threshtide_open(
         state,
         time,
@@ -103,73 +32,92 @@ fn open(serial: u8, time: u64, state: &mut [u8], out: &mut [u8]) -> u64 {
     )
 }
 
-fn call(kind: u8, serial: u8, time: u64, state: &mut [u8], out: &mut [u8]) -> u64 {
-    match kind {
-        OPEN => open(serial, time, state, out),
-        RECEIVE => threshtide_receive(state, time, 167772161, &[0u8]),
-        PRODUCE => threshtide_produce(state, time, out),
-        _ => threshtide_expire(state, time),
+// a is a time, or the seed of a setup; b a serial, an attribute of File, or how many bytes the EDS has: none or one.
+fn call(letter: u8, a: u64, b: u64, block: &[u8], state: &mut [u8], out: &mut [u8]) -> u64 {
+    let seed = (a % 4294967296) as u32;
+    let n = (b % 256) as u8;
+    let mut upload = [0u8; 8];
+    let message = [0x0Eu8, 3, 0x20, 0x37, 0x24, 0xC8, 0x30, n];
+    match letter {
+        b'b' => {
+            if n == 0 {
+                threshtide_setup(state, block, &[], seed)
+            } else {
+                threshtide_setup(state, block, b"E", seed)
+            }
+        }
+        b'o' => open(n, a, state, out),
+        b'h' => threshtide_receive(state, a, 167772161, &[0u8]),
+        b'e' => threshtide_expire(state, a),
+        b'm' => threshtide_message(state, &mut upload, 0, 0, &message, out),
+        _ => threshtide_produce(state, a, out),
     }
 }
 
-fn add(serial: u8, state: &mut [u8]) {
-    let mut out = [0u8; 26];
-    open(serial, 1000, state, &mut out);
-}
-
-pub fn fill_table(state: &mut [u8], many: u8) {
-    let mut k: u8 = 0;
-    while k < many {
-        k += 1;
-        add(k, state);
-    }
-}
-
-fn call_in(kind: u8, serial: u8, time: u64, room: usize, state: &mut [u8], lent: &mut [u8]) -> u64 {
+fn call_in(
+    letter: u8,
+    a: u64,
+    b: u64,
+    room: u64,
+    block: &[u8],
+    state: &mut [u8],
+    out: &mut [u8],
+) -> u64 {
     let start: usize = 0;
-    if lent.len() < room {
+    let end = room as usize;
+    if out.len() < end {
         return 8;
     }
-    call(kind, serial, time, state, &mut lent[start..room])
+    call(letter, a, b, block, state, &mut out[start..end])
 }
 
-// The call with so much room, its answer, and whether a byte of the state changed.
-pub fn say(name: &[u8], kind: u8, serial: u8, time: u64, room: usize, state: &mut [u8]) {
-    let mut before = memory();
-    let mut lent = [0u8; 1184];
-    if state.len() != 109056 {
+// The call with so much room, its answer, and whether a byte of the state changed; of a message and a packet the next lines tell more.
+pub fn say(
+    letter: u8,
+    name: &[u8],
+    a: u64,
+    b: u64,
+    room: u64,
+    block: &[u8; 192],
+    state: &mut [u8; 109056],
+    out: &mut [u8; 1184],
+) {
+    let before = *state;
+    let answer = call_in(letter, a, b, room, block, state, out);
+    if name.len() < 2 {
         return;
     }
-    copies::copy_in(&mut before, 0, state);
-    let answer = call_in(kind, serial, time, room, state, &mut lent);
     text::line(name, answer);
-    text::kept(check::same(&before, state));
-}
-
-pub fn say_number(name: &[u8], state: &[u8], at: usize) {
-    if state.len() == 109056 {
-        if at < 109000 {
-            text::number(name, cells::u32_at(state, at));
-        }
+    if letter == b'm' {
+        return;
+    }
+    if letter == b's' {
+        text::words(b"\n");
+    } else if check::same(&before, state) {
+        text::words(b"; no byte of the state changed\n");
+    } else {
+        text::words(b"; the state changed\n");
     }
 }
 
-// The last sequence and the last CIP sequence in the first row (docs/STATE.md).
-pub fn plant(state: &mut [u8]) {
-    if state.len() == 109056 {
-        cells::put_u32(state, 264, 4294967295);
-        cells::put_u16(state, 268, 65535);
+// Whether the reply is this text as rules 13.18 and 13.19 have it: the reply's head, the language tag, a length byte, the text.
+pub fn say_wanted(wanted: &[u8], out: &[u8]) {
+    let mut reply = [0u8; 64];
+    let start: usize = 0;
+    let n = wanted.len();
+    if n > 50 {
+        return;
     }
-}
-
-// Produce into exactly enough room, and what the packet says behind its 13 bytes of address.
-pub fn say_packet(state: &mut [u8]) {
-    let mut lent = [0u8; 37];
-    let answer = threshtide_produce(state, 1000, &mut lent);
-    text::line(b"produce, exactly enough room", answer);
-    text::number(b"\nsequence in the packet: ", cells::u32_at(&lent, 23));
-    text::number(
-        b"CIP sequence in the packet: ",
-        cells::u16_at(&lent, 31) as u32,
-    );
+    if out.len() < 64 {
+        return;
+    }
+    let end = n + 12;
+    copies::copy_in(&mut reply, 0, b"\x8E\x00\x00\x00\x01eng\xDA\x04\x00");
+    cells::put_u8(&mut reply, 11, n as u8);
+    copies::copy_in(&mut reply, 12, wanted);
+    if check::same(&out[start..end], &reply[start..end]) {
+        text::words(b"; as wanted, byte by byte\n");
+    } else {
+        text::words(b"; NOT AS WANTED\n");
+    }
 }

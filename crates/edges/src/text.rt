@@ -1,49 +1,27 @@
 // Lines on standard output.
 use libc::STDOUT_FILENO;
 
-fn words(s: &[u8]) {
+pub fn words(s: &[u8]) {
     io::write_all(STDOUT_FILENO, s);
 }
 
-pub fn number(before: &[u8], n: u32) {
+pub fn hex(before: &[u8], n: u64, width: usize) {
     words(before);
     words(b"0x");
-    io::print_hex(STDOUT_FILENO, n as u64, 8);
-    words(b"\n");
-}
-
-fn no(answer: u64) {
-    words(b": No. ");
-    io::print_decimal(STDOUT_FILENO, answer % 256);
-    if answer % 256 == 5 {
-        words(b" with the word 0x");
-        io::print_hex(STDOUT_FILENO, answer / 4294967296 % 65536, 4);
-    }
+    io::print_hex(STDOUT_FILENO, n, width);
 }
 
 // A yes with what it counts, or the number for no, and the word that refuses an open.
 pub fn line(name: &[u8], answer: u64) {
     words(name);
-    if answer % 256 != 0 {
-        no(answer);
-    } else {
+    if answer % 256 == 0 {
         words(b": yes, ");
         io::print_decimal(STDOUT_FILENO, answer / 256);
+        return;
     }
-}
-
-pub fn kept(same: bool) {
-    if same {
-        words(b"; no byte of the state changed\n");
-    } else {
-        words(b"; the state changed\n");
-    }
-}
-
-pub fn wanted(same: bool) {
-    if same {
-        words(b"; as wanted, byte by byte\n");
-    } else {
-        words(b"; NOT AS WANTED\n");
+    words(b": No. ");
+    io::print_decimal(STDOUT_FILENO, answer % 256);
+    if answer % 256 == 5 {
+        hex(b" with the word ", answer / 4294967296 % 65536, 4);
     }
 }
