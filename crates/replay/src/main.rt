@@ -4,39 +4,31 @@ mod calls;
 mod recorded;
 mod text;
 
-fn replay_file(path: &[u8]) {
-    let fd = os::open_read(path);
+// The file that the k-th argument names.
+fn replay_file(k: usize) {
+    let mut path = io::buffer();
+    let p = os::arg(k, &mut path);
+    let fd = os::open_read(&path[..p]);
     if fd < 0 {
-        os::fail(path);
+        os::fail(&path[..p]);
         return;
     }
-    text::words(path);
+    text::words(&path[..p]);
     text::words(b"\n");
     recorded::replay_all(fd);
     libc::close(fd);
 }
 
-fn replay_named(k: usize) {
-    let mut path = io::buffer();
-    let p = os::arg(k, &mut path);
-    replay_file(&path[..p]);
-}
-
-// What to give, where no file is named.
-fn advise(n: usize) {
+fn main() {
+    let n = os::arg_count();
     if n < 2 {
         text::words(
             b"usage: replay FILE [FILE ..]\n  FILE  recorded calls, as crates/replay/SAMPLE.md says\n",
         );
     }
-}
-
-fn main() {
-    let n = os::arg_count();
-    advise(n);
     let mut k: usize = 1;
     while k < n {
-        replay_named(k);
+        replay_file(k);
         k += 1;
     }
 }

@@ -1,6 +1,5 @@
 // The calls of a file, one behind the other: each is 56 bytes of numbers, then the bytes passed in, the EDS, and the bytes written.
 ghost use Prim.Native.Nat.{_≤_};
-ghost use mathlib.Core.Path.{_≡_};
 ghost use lib.ListN.{length};
 use crate::calls;
 use crate::text;
@@ -31,18 +30,15 @@ fn first_difference(out: &[u8], written: &[u8]) -> usize {
     i
 }
 
-fn tell_answers(call: u8, found: u64, recorded: u64) {
+fn tell_difference(call: u8, found: u64, recorded: u64, out: &[u8], written: &[u8], at: usize) {
     text::words(b"DIFFERENT: ");
     text::name(call);
     text::hex(b" answered ", found);
     text::hex(b", recorded ", recorded);
-}
-
-fn tell_output(out: &[u8], written: &[u8], at: usize) {
     if at < out.len() {
-        text::number(b"; output byte ", at);
-        text::byte(b" is ", out[at]);
-        text::byte(b", recorded ", recorded_byte(written, at));
+        text::number(b"; output byte ", at, b"");
+        text::hex(b" is ", cells::u8_at(out, at) as u64);
+        text::hex(b", recorded ", recorded_byte(written, at) as u64);
     } else {
         text::words(b"; output as recorded");
     }
@@ -60,7 +56,6 @@ fn replay_call(
 ) -> bool
     requires { ⌜ 56 ≤ length (now head) ⌝ }
 {
-    calls::fill(out, LENT);
     let found = calls::call(head, bytes, eds, state, uploads, out);
     let recorded = cells::u64_at(head, 48);
     let at = first_difference(out, written);
@@ -69,30 +64,8 @@ fn replay_call(
             return true;
         }
     }
-    tell_answers(head[0], found, recorded);
-    tell_output(out, written, at);
+    tell_difference(head[0], found, recorded, out, written, at);
     false
-}
-
-fn broken(why: &[u8]) -> Step {
-    text::words(b"BROKEN OFF: ");
-    text::words(why);
-    Step::Stop
-}
-
-// How many bytes of numbers were left in the file.
-fn read_numbers(fd: i32, part: &mut [u8]) -> usize
-    requires { ⌜ 56 ≤ length (now part) ⌝ }
-{
-    let start: usize = 0;
-    io::read_full(fd, &mut part[start..56])
-}
-
-// Whether the file has the rest of the record.
-fn read_bytes(fd: i32, part: &mut [u8], end: usize) -> bool
-    requires { ⌜ (56 ≤ end) × (end ≤ length (now part)) ⌝ }
-{
-    io::read_full(fd, &mut part[56..end]) == end - 56
 }
 
 // The record that begins the bytes, as far as its numbers say.
@@ -147,28 +120,29 @@ fn record_length(part: &[u8]) -> usize
 fn read_record(fd: i32, part: &mut [u8]) -> Step
     requires { ⌜ 56 ≤ length (now part) ⌝ }
 {
-    let n = read_numbers(fd, part);
+    let start: usize = 0;
+    let n = io::read_full(fd, &mut part[start..56]);
     if n == 0 {
         return Step::End;
     }
     if n < 56 {
-        return broken(b"the numbers of a call are cut");
+        text::words(b"BROKEN OFF: the numbers of a call are cut");
+        return Step::Stop;
     }
     let end = record_length(part);
     if end < 56 {
-        return broken(b"no call has such numbers");
+        text::words(b"BROKEN OFF: no call has such numbers");
+        return Step::Stop;
     }
     if part.len() < end {
-        return broken(b"a call has more bytes than any may have");
+        text::words(b"BROKEN OFF: a call has more bytes than any may have");
+        return Step::Stop;
     }
-    if !read_bytes(fd, part, end) {
-        return broken(b"the bytes of a call are cut");
+    if io::read_full(fd, &mut part[56..end]) != end - 56 {
+        text::words(b"BROKEN OFF: the bytes of a call are cut");
+        return Step::Stop;
     }
     Step::Call(end)
-}
-
-fn read_next(fd: i32, part: &mut [u8; 65536]) -> Step {
-    read_record(fd, part)
 }
 
 // The same as replay_record on arrays, whose lengths are known.
@@ -178,6 +152,7 @@ fn turn(
     uploads: &mut [u8; 32],
     lent: &mut [u8; 17440],
 ) -> bool {
+    *lent = [LENT; 17440];
     replay_record(part, state, uploads, lent)
 }
 
@@ -189,7 +164,7 @@ fn next(
     uploads: &mut [u8; 32],
     lent: &mut [u8; 17440],
 ) -> Step {
-    let step = read_next(fd, part);
+    let step = read_record(fd, part);
     match step {
         Step::Call(length) => {
             if turn(part, state, uploads, lent) {
@@ -203,67 +178,35 @@ fn next(
     }
 }
 
-fn count(counts: &mut [u32; 19], call: u8) {
-    let k = (call % 19) as usize;
-    counts[k] = std::num::wrapping_add_u32(counts[k], 1);
-}
-
-fn tell_count(call: u8, n: u32) {
-    text::words(b"  ");
-    text::name(call);
-    text::number(b" ", n as usize);
-    text::words(b"\n");
-}
-
-fn tell_counts(counts: &[u32; 19]) {
-    let mut k: u8 = 1;
-    while k < 19 {
-        tell_count(k, counts[k as usize]);
-        k += 1;
-    }
-}
-
-fn tell_place(n: usize, at: usize) {
-    text::number(b"; call ", n);
-    text::number(b" of the file, at byte ", at);
-    text::words(b"\n");
-}
-
-fn tell_end(n: usize, counts: &[u32; 19]) {
+fn tell_end(n: usize, counts: &[usize; 19]) {
     if n == 0 {
         text::words(b"NO CALL: the file is empty, or cannot be read\n");
         return;
     }
-    tell_counts(counts);
-    text::number(b"", n);
-    text::words(b" calls replayed, all as recorded\n");
-}
-
-fn fresh_state() -> [u8; 109056]
-    ensures { λ r. ⌜ 109056 ≡ length r ⌝ }
-{
-    [0; 109056]
-}
-
-fn output() -> [u8; 17440]
-    ensures { λ r. ⌜ 17440 ≡ length r ⌝ }
-{
-    [0; 17440]
+    let mut k: u8 = 1;
+    while k < 19 {
+        text::words(b"  ");
+        text::name(k);
+        text::number(b" ", counts[k as usize], b"\n");
+        k += 1;
+    }
+    text::number(b"", n, b" calls replayed, all as recorded\n");
 }
 
 // All records of a file, as far as each goes as recorded; at most a million.
 pub fn replay_all(fd: i32) {
     let mut part = io::large_buffer();
-    let mut state = fresh_state();
+    let mut state = [0u8; 109056];
     let mut uploads = [0u8; 32];
-    let mut lent = output();
-    let mut counts = [0u32; 19];
+    let mut lent = [0u8; 17440];
+    let mut counts = [0usize; 19];
     let mut at: usize = 0;
     let mut n: usize = 0;
     while n < 1000000 {
         match next(fd, &mut part, &mut state, &mut uploads, &mut lent) {
             Step::Call(length) => {
-                count(&mut counts, part[0]);
+                let k = (part[0] % 19) as usize;
+                counts[k] = std::num::wrapping_add_usize(counts[k], 1);
                 at = std::num::wrapping_add_usize(at, length);
             }
             Step::End => {
@@ -271,7 +214,8 @@ pub fn replay_all(fd: i32) {
                 return;
             }
             Step::Stop => {
-                tell_place(n + 1, at);
+                text::number(b"; call ", n + 1, b" of the file, at byte ");
+                text::number(b"", at, b"\n");
                 return;
             }
         }

@@ -1,3 +1,4 @@
+-- The loop ends because the arguments are counted.
 use Prim.Native.Nat.{_-_}
 use borrow.Author.Needs.{needs}
 use Rattle.replay.proofs.main.Statement.{statement}
@@ -12,14 +13,17 @@ abbrev μ-loop : tie.MeasureT-loop
 arg-count-requires : tie.Need-arg-count-requires Inv-loop μ-loop
 arg-count-requires c κs = search needs
 
-advise-requires : tie.Need-advise-requires Inv-loop μ-loop
-advise-requires c κs = search needs
+slice-aggregate-words : tie.Need-slice-aggregate-words Inv-loop μ-loop
+slice-aggregate-words c = search needs
+
+words-requires : tie.Need-words-requires Inv-loop μ-loop
+words-requires c κs = search needs
 
 loop-holds : tie.Need-loop-holds Inv-loop μ-loop
 loop-holds c = search needs
 
-replay-named-requires : tie.Need-replay-named-requires Inv-loop μ-loop
-replay-named-requires c κs = search needs
+replay-file-requires : tie.Need-replay-file-requires Inv-loop μ-loop
+replay-file-requires c κs = search needs
 
 add-k : tie.Need-add-k Inv-loop μ-loop
 add-k c = search needs
@@ -40,9 +44,10 @@ main-spec =
     Inv-loop
     μ-loop
     arg-count-requires
-    advise-requires
+    slice-aggregate-words
+    words-requires
     loop-holds
-    replay-named-requires
+    replay-file-requires
     add-k
     loop-less
     loop-again
