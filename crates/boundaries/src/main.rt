@@ -1,18 +1,13 @@
-// The limits of the rules that concern the wire, run and compared: each line of stdout is one input and its answer.
+// The limits of the rules that concern the wire, run and compared: stdin is the table of inputs, each line of stdout one input and its answer.
+mod cases;
 mod cuts;
 mod frames;
 mod opens;
 mod text;
-mod timeouts;
 
 fn main() {
-    opens::say_opens();
-    opens::say_closes();
-    opens::say_paths();
-    frames::say_sizes();
-    frames::say_counts();
-    cuts::say_ports();
-    cuts::say_values();
-    cuts::say_others();
-    timeouts::say_timeouts();
+    let mut table = io::large_buffer();
+    let mut room = [0u8; 262143];
+    let n = io::read_full(libc::STDIN_FILENO, &mut table);
+    cases::say_all(&table[..n], &mut room);
 }

@@ -5,24 +5,13 @@ pub fn words(s: &[u8]) {
     io::write_all(STDOUT_FILENO, s);
 }
 
-pub fn number(n: usize) {
+pub fn number(before: &[u8], n: usize, after: &[u8]) {
+    words(before);
     io::print_decimal(STDOUT_FILENO, n as u64);
+    words(after);
 }
 
 pub fn input(name: &[u8], n: usize) {
     words(name);
-    words(b" of ");
-    number(n);
-    words(b" bytes: ");
-}
-
-pub fn answer(s: &[u8]) {
-    words(s);
-    words(b"\n");
-}
-
-pub fn answer_at(s: &[u8], at: usize) {
-    words(s);
-    number(at);
-    words(b"\n");
+    number(b" of ", n, b" bytes: ");
 }

@@ -1,11 +1,12 @@
+-- Each cut is a part of the path.
 use mathlib.Core.Path.{sym}
 use lib.Seq.{length-take-le}
 use native.Mathlib.Omega.{arith}
 use Prim.Native.Nat.{_+_, _-_, _≤_}
 use lib.ListN.{length}
 use borrow.Author.Needs.{needs}
-use Rattle.boundaries.proofs.cuts.say_form.Statement.{statement}
-use Rattle.boundaries.proofs.cuts.say_form.Tie as tie
+use Rattle.boundaries.proofs.cuts.say_cuts.Statement.{statement}
+use Rattle.boundaries.proofs.cuts.say_cuts.Tie as tie
 
 abbrev Inv-loop : tie.InvT-loop
 Inv-loop name path n₀ n = n ≤ length path + 1
@@ -18,7 +19,9 @@ loop-holds c = search needs
 
 slice-aggregate-say-cut : tie.Need-slice-aggregate-say-cut Inv-loop μ-loop
 slice-aggregate-say-cut c =
-    sym (length-take-le (c .before .before .loop .n) (c .before .before .before .before .before .args .path .now) (omega arith))
+    let turn = c .before .before in
+    let start = turn .before .before .before in
+    sym (length-take-le (turn .loop .n) (start .args .path .now) (omega arith))
 
 say-cut-requires : tie.Need-say-cut-requires Inv-loop μ-loop
 say-cut-requires c κs = search needs
@@ -35,8 +38,8 @@ loop-again c = search needs
 returns : tie.Need-returns Inv-loop μ-loop
 returns c = search needs
 
-pub say-form-spec : {M : Type 1} → statement M
-say-form-spec =
+pub say-cuts-spec : {M : Type 1} → statement M
+say-cuts-spec =
     tie.close
     (tie.spec
     Inv-loop
