@@ -8,14 +8,14 @@ use native.Mathlib.Omega.{arith}
 use lib.Dec.{eqb}
 use lib.ListN.{drop}
 use borrow.Author.Tests.{eq-eqb, ne-eqb}
-use Rattle.tables.specs.Tables.{rows, rows-rest, rows-end}
 use Rattle.rules.specs.Lists.{place}
 use Rattle.rules.specs.State.{Shape}
 use Rattle.wire_rules.specs.declared.FirstAttribute.{FirstAttribute}
 use Rattle.rules.specs.Attributes.{Attributes, single}
 use Rattle.rules.specs.Objects.{largestInstance, assemblyClass, assemblyPlace, assemblyObject, assembly}
-use Rattle.layout.specs.Places.{setupIn, shapesAt, shapeSize}
-use Rattle.layout.specs.Setups.{decShape, shapeIn, setupFrom, setupOf, shapesOf}
+use Rattle.layout.specs.Places.{setupIn}
+use Rattle.layout.specs.Listed.{listed, listed-rest, listed-end}
+use Rattle.layout.specs.Setups.{shapeIn, setupFrom, setupOf, shapesOf}
 use Rattle.image.specs.Image.{view}
 use Rattle.layout.specs.Searched.{placeIn}
 use Rattle.layout.specs.declared.Found.{Found}
@@ -29,7 +29,7 @@ hasInstance n a = eqb (a .instance) n
 
 module _ (n : ℕ) (r : List ℕ) where
   abbrev shapes : List Shape
-  shapes = rows shapeSize decShape n (drop shapesAt r)
+  shapes = listed (shapeIn r) n
 
   pub largest-starts : max 0 (largestInstance (drop 0 shapes)) ≡ largestInstance shapes
   largest-starts = omega arith
@@ -38,12 +38,12 @@ module _ (n : ℕ) (r : List ℕ) where
       → max (max most m) (largestInstance (drop (i + 1) shapes)) ≡ max most (largestInstance (drop i shapes))
   largest-on i most h m e =
       (let z : max (max most m) (largestInstance (drop (i + 1) shapes)) ≡ max most (max (shapeIn r i .instance) (largestInstance (drop (i + 1) shapes))) = omega (arith, e) in z)
-      ∙ ap (λ (xs : List Shape). max most (largestInstance xs)) (sym (rows-rest shapeSize decShape n (drop shapesAt r) i h))
+      ∙ ap (λ (xs : List Shape). max most (largestInstance xs)) (sym (listed-rest (shapeIn r) n i h))
 
   pub largest-ends : (i most : ℕ) → n ≤ i → most ≡ max most (largestInstance (drop i shapes))
   largest-ends i most h =
       (let z : most ≡ max most 0 = omega arith in z)
-      ∙ ap (λ (xs : List Shape). max most (largestInstance xs)) (sym (rows-end shapeSize decShape n (drop shapesAt r) i h))
+      ∙ ap (λ (xs : List Shape). max most (largestInstance xs)) (sym (listed-end (shapeIn r) n i h))
 
 -- ---- the class
 

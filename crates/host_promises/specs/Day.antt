@@ -35,12 +35,11 @@ use Rattle.rules.specs.Receiving.{newer, recorded, hear, taken, changes, delive
 use Rattle.rules.specs.Host.{outputAnswer, outputEffect, outputCall}
 use Rattle.rules.specs.Calls.{answer, run}
 use Rattle.rules.proofs.Examples.{setup, start, owner, heard}
-use Rattle.layout.specs.Setups.{decShape}
 use Rattle.layout.specs.Places.{marksAt, stateSize}
 use Rattle.image.specs.Image.{view}
 use Rattle.image.specs.Lift.{lifted, liftedOut}
 use Rattle.lastword.specs.Clearing.{Heard-lately}
-use Rattle.starting.specs.Block.{regionOf, setupGiven, kindGiven, accepted, started, setupCall}
+use Rattle.starting.specs.Block.{decShape, markedBlock, setupGiven, kindGiven, accepted, started, setupCall}
 use Rattle.starting.specs.Calls.{set-up}
 use Rattle.adapter.specs.Origins.{originOf}
 use Rattle.host_runs.specs.Contracts.{Said, Met}
@@ -57,11 +56,11 @@ block =
     bytesLe 4 1000 ++ bytesLe 4 100000 ++ replicate 74 0 ++ (150 ∷ 0 ∷ 2 ∷ 0 ∷ 2 ∷ 101 ∷ 0 ∷ 1 ∷ 0 ∷ 1 ∷ 5 ∷ 0 ∷ 2 ∷ 0 ∷ 3 ∷ []) ++ replicate 67 0
 
 block-accepted : accepted block [] ≡ true
-unfolding accepted setupGiven regionOf kindGiven setupOk le leOf put bytesLe all rows decShape
+unfolding accepted setupGiven markedBlock kindGiven setupOk le leOf put bytesLe all rows decShape
 block-accepted = refl
 
 block-says : setupGiven block [] ≡ setup
-unfolding setupGiven regionOf le leOf put bytesLe rows decShape
+unfolding setupGiven markedBlock le leOf put bytesLe rows decShape
 block-says = refl
 
 -- a buffer of zeros is set up, which is answered 0

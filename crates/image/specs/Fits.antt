@@ -1,19 +1,19 @@
 -- What a state must meet to be stored, what a buffer must meet to be written over, and what the state test says of a buffer.
-use Prim.Native.Nat.{ℕ, _*_, _≤_, _<_}
+use Prim.Native.Nat.{ℕ, _≤_, _<_}
 use mathlib.Core.Bool.{true}
 use mathlib.Core.List.{List, [], _∷_}
-use mathlib.Core.Path.{_≡_, sym, _∙_}
+use mathlib.Core.Path.{_≡_}
 use native.Mathlib.Omega.{arith}
 use lib.Dec.{ltb}
-use lib.ListN.{length, take, drop, List·getD-eq-default}
+use lib.ListN.{length, List·getD-eq-default}
 use borrow.Author.Tests.{leb-true, ltb-true, ltb-false, eqb-true}
 use Rattle.cells.specs.Numbers.{le}
 use Rattle.cells.specs.Back.{all, all-at}
-use Rattle.tables.specs.Tables.{rows, length-rows, row-at}
 use Rattle.tables.specs.Ring.{by-cases}
 use Rattle.rules.specs.State.{State, noShape, shapeAt, contentAt}
-use Rattle.layout.specs.Places.{setupIn, stateSize, shapesAt, nextIdOf, ringWordOf, ringBound, firstOf, waitingOf, connectionsOf, assembliesOf, shapeSize}
-use Rattle.layout.specs.Setups.{decShape, shapeIn, setupOf, testsSetup, goodSetup, goodShape, goodShapes}
+use Rattle.layout.specs.Places.{setupIn, stateSize, nextIdOf, ringWordOf, ringBound, firstOf, waitingOf, connectionsOf, assembliesOf}
+use Rattle.layout.specs.Setups.{shapeIn, setupOf, testsSetup, goodSetup, goodShapes}
+use Rattle.layout.specs.SetupLaws.{length-shapes, shape-of, shape-short}
 use Rattle.layout.specs.Bits.{word-fits}
 use Rattle.image.specs.RowsFit.{RowsFit}
 use Rattle.image.specs.Image.{goodHead, testsHead, testsState, tested}
@@ -68,26 +68,20 @@ module _ (r : List ℕ) (ok : goodSetup r ≡ true) where
   unfolding goodSetup
   short-eds = leb-true (le 4 r 4) 65536 (all-at (testsSetup r) ok 4)
 
-pub shape-short : (r : List ℕ) → goodShapes r ≡ true → (i : ℕ) → i < assembliesOf r → shapeIn r i .size ≤ 512
-unfolding goodShapes goodShape decShape
-shape-short r ok i h =
-    let b : List ℕ = take shapeSize (drop (i * shapeSize) (drop shapesAt r)) in
-    leb-true (le 2 b 2) 512 (sym (row-at shapeSize goodShape (assembliesOf r) (drop shapesAt r) i true h) ∙ all-at (rows shapeSize goodShape (assembliesOf r) (drop shapesAt r)) ok i)
-
 module _ (l : List ℕ) where
   pub length-assemblies : length (setupOf l .assemblies) ≡ assembliesOf (setupIn l)
   unfolding setupOf
-  length-assemblies = length-rows shapeSize decShape (assembliesOf (setupIn l)) (drop shapesAt (setupIn l))
+  length-assemblies = length-shapes (setupIn l)
 
   pub shape-at : (i : ℕ) → i < assembliesOf (setupIn l) → shapeAt (setupOf l) i ≡ shapeIn (setupIn l) i
   unfolding setupOf
-  shape-at i h = row-at shapeSize decShape (assembliesOf (setupIn l)) (drop shapesAt (setupIn l)) i noShape h
+  shape-at i h = shape-of (setupIn l) i noShape h
 
-  pub size-short : goodShapes (setupIn l) ≡ true → (i : ℕ) → shapeAt (setupOf l) i .size ≤ 512
-  size-short ok i =
+  pub size-short : assembliesOf (setupIn l) ≤ 16 → goodShapes (setupIn l) ≡ true → (i : ℕ) → shapeAt (setupOf l) i .size ≤ 512
+  size-short few ok i =
       let n : ℕ = assembliesOf (setupIn l) in
       by-cases (ltb i n)
-      (λ t. let h : i < n = ltb-true i n t in rw (shape-at i h) (shape-short (setupIn l) ok i h))
+      (λ t. let h : i < n = ltb-true i n t in rw (shape-at i h) (shape-short (setupIn l) ok i (omega arith)))
       (λ t. let h : n ≤ i = ltb-false i n t in let e = length-assemblies in
       rw (List·getD-eq-default (setupOf l .assemblies) noShape {n = i} (omega arith)) (omega arith))
 

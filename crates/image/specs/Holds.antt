@@ -6,21 +6,22 @@ use mathlib.Core.Path.{_≡_, ap, sym, _∙_}
 use native.Mathlib.Omega.{arith}
 use lib.ListN.{length, getD, take, drop, length-map, List·getD-map}
 use lib.Seq.{drop-drop, take-take}
-use Rattle.cells.specs.Numbers.{drop-take}
+use Rattle.cells.specs.Numbers.{drop-take, le-take}
 use Rattle.cells.specs.Records.{ofBool}
 use Rattle.cells.specs.Back.{Bytes}
 use Rattle.tables.specs.Tables.{rows, length-rows}
 use Rattle.tables.specs.Store.{row-stored}
 use Rattle.tables.specs.Slots.{slot-at}
 use Rattle.rules.specs.State.{Setup, State, noContent, shapeAt, contentAt}
-use Rattle.layout.specs.Places.{setupIn, marksIn, tableIn, dataIn, setupSize, dataFrom, dataSize, stateSize, rowSize, shapesAt, nextIdOf, ringWordOf, firstOf, waitingOf, faultOf, connectionsOf, producedOf, lateOf, maxLateOf, markAt, assembliesOf}
-use Rattle.layout.specs.Setups.{setupOf, decShape, shapeIn}
+use Rattle.layout.specs.Places.{setupIn, marksIn, tableIn, dataIn, setupSize, dataFrom, dataSize, stateSize, rowSize, instancesAt, sizesAt, kindsAt, nextIdOf, ringWordOf, firstOf, waitingOf, faultOf, connectionsOf, producedOf, lateOf, maxLateOf, markAt, assembliesOf}
+use Rattle.layout.specs.Setups.{setupOf, shapeIn, kindNamed}
+use Rattle.layout.specs.SetupLaws.{shape-short}
 use Rattle.layout.specs.Rows.{decConn, encConn, connAt, connsIn}
 use Rattle.layout.specs.RowLaws.{length-encConn, dec-encConn}
 use Rattle.layout.specs.Bits.{wordOf, runIn, notifiedIn}
 use Rattle.image.specs.Image.{view, store, tested, bytesOf, marksOf, tableOf, dataOf}
 use Rattle.image.specs.RowsFit.{fits-at}
-use Rattle.image.specs.Fits.{Suits, few-assemblies, shape-short, shape-at, is-long, is-sound, shapes-good, few-conns, few-events}
+use Rattle.image.specs.Fits.{Suits, few-assemblies, shape-at, is-long, is-sound, shapes-good, few-conns, few-events}
 use Rattle.image.specs.Contents.{run-over, notified-over}
 use Rattle.image.specs.StoreLaws.{length-setupIn, length-store, few-contents, short-bytes, content-short, room, table-of-store, data-of-store, setup-kept, assemblies-is, produced-is, late-is, maxLate-is, nextId-is, word-is, gone-is, waiting-is, fault-is, conns-is, mark-is}
 use Rattle.image.specs.ViewLaws.{suits-view, store-view, table-read}
@@ -59,16 +60,21 @@ pub setup-ready : (s : List ℕ) → Ready s → (setupSize ≤ length (setupIn 
 setup-ready s r = (let n = length-setupIn s (r .long) in omega arith, let e = assemblies-in s in let a = r .assemblies in omega arith)
 
 -- a part of a part
-part-in : (n k m : ℕ) (x : List ℕ) → k + n ≤ m → take n (drop k (take m x)) ≡ take n (drop k x)
+pub part-in : (n k m : ℕ) (x : List ℕ) → k + n ≤ m → take n (drop k (take m x)) ≡ take n (drop k x)
 part-in n k m x h =
     let e : m ≡ k + (m - k) = omega arith in
     ap (λ (j : ℕ). take n (drop k (take j x))) e ∙ ap (take n) (drop-take k (m - k) x) ∙ take-take n (m - k) (drop k x) (omega arith)
 
 -- a shape is read from the setup's region, or from the whole buffer
 pub shape-in : (s : List ℕ) (i : ℕ) → i < 16 → shapeIn (setupIn s) i ≡ shapeIn s i
+unfolding shapeIn
 shape-in s i h =
-    ap (λ (z : List ℕ). decShape (take 5 (drop (i * 5) z))) (drop-take shapesAt 82 s)
-    ∙ ap decShape (part-in 5 (i * 5) 82 (drop shapesAt s) (omega arith))
+    λ j.
+    record {
+      instance = le-take 2 s setupSize (instancesAt + i * 2) (omega arith) j;
+      kind = kindNamed (le-take 1 s setupSize (kindsAt + i) (omega arith) j);
+      size = le-take 2 s setupSize (sizesAt + i * 2) (omega arith) j;
+    }
 
 -- ---- a tested buffer holds its own state
 

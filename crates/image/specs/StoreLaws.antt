@@ -73,7 +73,7 @@ module _ (st : State) (l : List ℕ) (w : Suits st l) where
   pub content-short : (i : ℕ) → length (contentAt st i .bytes) ≤ 512
   content-short i =
       let a : shapeAt (st .setup) i .size ≡ shapeAt (setupOf l) i .size = ap (λ (u : Setup). shapeAt u i .size) (w .setup) in
-      let b = size-short l (w .lent .shapes) i in let c = w .fits .sized i in omega arith
+      let b = size-short l (few-assemblies (setupIn l) (w .lent .sound)) (w .lent .shapes) i in let c = w .fits .sized i in omega arith
 
   pub short-bytes : Short (map bytesOf (st .contents))
   short-bytes i = rw (List·getD-map bytesOf (st .contents) i noContent) (content-short i)

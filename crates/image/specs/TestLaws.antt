@@ -7,12 +7,12 @@ use native.Mathlib.Omega.{arith}
 use lib.Dec.{leb, ltb}
 use lib.ListN.{length, getD, take, drop}
 use borrow.Author.Tests.{le-leb, lt-leb, le-ltb, lt-ltb, eq-eqb, ne-eqb}
-use Rattle.cells.specs.Numbers.{le, le-1, le-take, le-drop}
+use Rattle.cells.specs.Numbers.{le, le-take}
 use Rattle.cells.specs.Back.{all, all-fails}
 use Rattle.tables.specs.Tables.{rows, rows-rest, rows-end}
-use Rattle.layout.specs.Places.{setupIn, stateSize, shapesAt, nextIdOf, ringWordOf, ringBound, connectionsOf, assembliesOf, shapeSize}
-use Rattle.layout.specs.Setups.{testsSetup, goodSetup, goodShape, goodShapes}
-use Rattle.image.specs.Fits.{few-assemblies}
+use Rattle.layout.specs.Places.{setupIn, stateSize, nextIdOf, ringWordOf, ringBound, connectionsOf, assembliesOf}
+use Rattle.layout.specs.Setups.{shapeIn, testsSetup, goodSetup, testsShapes, goodShapes}
+use Rattle.layout.specs.Listed.{listed-rest, listed-end}
 use Rattle.image.specs.Image.{testsHead, goodHead, testsState, tested}
 
 -- ---- the setup, the head, the whole
@@ -90,15 +90,6 @@ module _ (l : List ℕ) where
   pub assemblies-in : assembliesOf (setupIn l) ≡ assembliesOf l
   assemblies-in = le-take 1 l 192 0 (omega arith)
 
-  -- what the walks answer, with the numbers that code read
-  module _ (n : ℕ) (x : Bool) where
-    pub shapes-are : n ≡ assembliesOf l → x ≡ all (rows shapeSize goodShape n (drop shapesAt (setupIn l))) → x ≡ goodShapes (setupIn l)
-    unfolding goodShapes
-    shapes-are e f = f ∙ ap (λ (k : ℕ). all (rows shapeSize goodShape k (drop shapesAt (setupIn l)))) (e ∙ sym assemblies-in)
-
-  pub assemblies-few : goodSetup (setupIn l) ≡ true → assembliesOf l ≤ 16
-  assemblies-few e = let n = assemblies-in in let f = few-assemblies (setupIn l) e in omega arith
-
 -- ---- a walk along the rows, with a test at each
 
 all-and : (b : Bool) (bs : List Bool) → all (b ∷ bs) ≡ (b && all bs)
@@ -119,29 +110,29 @@ module _ (size : ℕ) (good : List ℕ → Bool) (n : ℕ) (r : List ℕ) where
   unfolding all
   walk-ends i h = ap all (rows-end size good n r i h)
 
-  -- what was seen to be good so far, and the rest
-  pub walk-both : (i : ℕ) (b : Bool) → i < n
-      → (b && all (drop i (rows size good n r))) ≡ ((b && good (take size (drop (i * size) r))) && all (drop (i + 1) (rows size good n r)))
-  walk-both i true h = ap all (rows-rest size good n r i h) ∙ all-and (good (take size (drop (i * size) r))) (drop (i + 1) (rows size good n r))
-  walk-both i false h = refl
+-- ---- a run along the sizes: what was seen to be good so far, and the rest
 
-  pub both-ends : (i : ℕ) (b : Bool) → n ≤ i → (b && all (drop i (rows size good n r))) ≡ b
-  both-ends i true h = walk-ends i h
-  both-ends i false h = refl
+module _ (r : List ℕ) where
+  sizes-on : (i : ℕ) (b : Bool) → i < 16 → (b && all (drop i (testsShapes r))) ≡ ((b && leb (shapeIn r i .size) 512) && all (drop (i + 1) (testsShapes r)))
+  sizes-on i true h =
+      ap all (listed-rest (λ j. leb (shapeIn r j .size) 512) 16 i h) ∙ all-and (leb (shapeIn r i .size) 512) (drop (i + 1) (testsShapes r))
+  sizes-on i false h = refl
 
--- ---- the number that each row's test reads
+  sizes-end : (i : ℕ) (b : Bool) → 16 ≤ i → (b && all (drop i (testsShapes r))) ≡ b
+  unfolding all
+  sizes-end i true h = ap all (listed-end (λ j. leb (shapeIn r j .size) 512) 16 i h)
+  sizes-end i false h = refl
 
-in-row : (k size at : ℕ) (r : List ℕ) (a : ℕ) → at + k ≤ size → le k (take size (drop a r)) at ≡ le k r (a + at)
-in-row k size at r a h = le-take k (drop a r) size at h ∙ le-drop k r a at
+  pub run-begins : goodShapes r ≡ (true && all (drop 0 (testsShapes r)))
+  unfolding goodShapes
+  run-begins = refl
 
-module _ (r : List ℕ) (i : ℕ) where
-  size-in : le 2 (take shapeSize (drop (i * shapeSize) (drop shapesAt r))) 2 ≡ le 2 r (i * 5 + 112)
-  size-in = in-row 2 5 2 (drop shapesAt r) (i * 5) (omega arith) ∙ le-drop 2 r shapesAt (i * 5 + 2) ∙ ap (le 2 r) (omega arith)
+  -- a turn, with the size that code read and what it then knows
+  pub run-on : (i v : ℕ) (b x : Bool) → i < 16 → goodShapes r ≡ (b && all (drop i (testsShapes r))) → v ≡ shapeIn r i .size → x ≡ (b && leb v 512)
+      → goodShapes r ≡ (x && all (drop (i + 1) (testsShapes r)))
+  run-on i v b x h e ev ex =
+      e ∙ sizes-on i b h ∙ ap (λ (k : ℕ). (b && leb k 512) && all (drop (i + 1) (testsShapes r))) (sym ev)
+      ∙ ap (λ (y : Bool). y && all (drop (i + 1) (testsShapes r))) (sym ex)
 
-  pub shape-bad : 512 < le 2 r (i * 5 + 112) → goodShape (take shapeSize (drop (i * shapeSize) (drop shapesAt r))) ≡ false
-  unfolding goodShape
-  shape-bad h = let e = size-in in lt-leb (le 2 (take shapeSize (drop (i * shapeSize) (drop shapesAt r))) 2) 512 (omega arith)
-
-  pub shape-good : le 2 r (i * 5 + 112) ≤ 512 → goodShape (take shapeSize (drop (i * shapeSize) (drop shapesAt r))) ≡ true
-  unfolding goodShape
-  shape-good h = let e = size-in in le-leb (le 2 (take shapeSize (drop (i * shapeSize) (drop shapesAt r))) 2) 512 (omega arith)
+  pub run-ends : (i : ℕ) (b : Bool) → 16 ≤ i → goodShapes r ≡ (b && all (drop i (testsShapes r))) → b ≡ goodShapes r
+  run-ends i b h e = sym (e ∙ sizes-end i b h)

@@ -101,7 +101,7 @@ module _ (l : List ℕ) (ok : tested l ≡ true) where
       let n = length-ringIn l (is-long l ok) in
       record {
         contents = length-contentsOf ss (marksIn l) (dataIn l);
-        sized = sized-back ss (marksIn l) (dataIn l) (size-short l (shapes-good l ok)) room-for-all;
+        sized = sized-back ss (marksIn l) (dataIn l) (size-short l (few-assemblies (setupIn l) (is-sound l ok)) (shapes-good l ok)) room-for-all;
         table = rw (length-rows rowSize decConn (connectionsOf l) (tableIn l)) (few-conns l ok);
         rows = rows-fit (connectionsOf l) (tableIn l);
         gone = first-slot l ok;

@@ -2,11 +2,9 @@
 ghost use mathlib.Core.Path.{_≡_};
 ghost use mathlib.Core.Bool.{_&&_};
 ghost use Prim.Native.Nat.{ℕ, _≤_, _<_};
-ghost use lib.ListN.{length, drop};
-ghost use Rattle.cells.specs.Back.{all};
-ghost use Rattle.tables.specs.Tables.{rows};
-ghost use Rattle.layout.specs.Setups.{goodSetup, goodShape};
-ghost use Rattle.layout.specs.Places.{setupSize, stateSize, shapesAt, shapeSize};
+ghost use lib.ListN.{length};
+ghost use Rattle.layout.specs.Setups.{goodSetup, goodShapes};
+ghost use Rattle.layout.specs.Places.{setupSize, stateSize};
 ghost use Rattle.image.specs.Image.{goodHead, tested};
 
 pub const STATE_SIZE: usize = 109056;
@@ -55,19 +53,18 @@ fn head_good(s: &[u8]) -> bool
     both(both(0 < id, ring < layout::RING_BOUND), conns <= 32)
 }
 
-// The size of each of the first n shapes.
-fn shapes_good(r: &[u8], n: usize) -> bool
-    requires { ⌜ (setupSize ≤ length (now r)) × (n ≤ 16) ⌝ }
-    ensures { λ x. ⌜ x ≡ all (rows shapeSize goodShape n (drop shapesAt (now (r .entry)))) ⌝ }
+// All 16 sizes, in use or not: one run along their column.
+fn shapes_good(r: &[u8]) -> bool
+    requires { ⌜ setupSize ≤ length (now r) ⌝ }
+    ensures { λ x. ⌜ x ≡ goodShapes (now (r .entry)) ⌝ }
 {
+    let mut good = true;
     let mut i = 0;
-    while i < n {
-        if cells::u16_at(r, i * 5 + 112) > 512 {
-            return false;
-        }
+    while i < 16 {
+        good = both(good, layout::size_at(r, i) <= 512);
         i += 1;
     }
-    true
+    good
 }
 
 // The state test: answer 1 where it fails.
@@ -83,6 +80,5 @@ pub fn test_state(s: &[u8]) -> bool
     if !head_good(s) {
         return false;
     }
-    let n = cells::u8_at(s, 0) as usize;
-    shapes_good(&s[0..layout::SETUP_SIZE], n)
+    shapes_good(&s[0..layout::SETUP_SIZE])
 }

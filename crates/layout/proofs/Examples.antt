@@ -6,9 +6,10 @@ use Prim.Native.Nat.{ℕ}
 use lib.ListN.{replicate}
 use Rattle.cells.specs.Numbers.{bytesLe, le, leOf}
 use Rattle.cells.specs.Back.{all}
-use Rattle.tables.specs.Tables.{rows}
-use Rattle.layout.specs.Setups.{goodSetup, goodShape, goodShapes}
+use Rattle.layout.specs.Listed.{listed}
+use Rattle.layout.specs.Setups.{shapeIn, shapesOf, goodSetup, goodShapes}
 use Rattle.rules.specs.declared.Kind.the-variants.{Owner, InputOnly, ListenOnly}
+use Rattle.rules.specs.declared.AssemblyKind.the-variants.{Input, Output, Config}
 use Rattle.layout.specs.Rows.{kindIn, outputIn}
 
 -- a setup's region by what is tested of it: the number of assemblies, the transfer limit, the lengths of product name and EDS name, the
@@ -25,19 +26,28 @@ pub setups-tested : map goodSetup (
 unfolding goodSetup all bytesLe le leOf
 setups-tested = refl
 
--- an assembly's shape by its size
-abbrev pub sized : ℕ → List ℕ
-sized n = (255 ∷ 255 ∷ bytesLe 2 n) ++ (255 ∷ [])
+-- a setup's region with so many assemblies in use, by the sizes at the first place, the second and the last
+abbrev pub inUse : ℕ → ℕ → ℕ → ℕ → List ℕ
+inUse n first second last = (n ∷ replicate 141 255) ++ bytesLe 2 first ++ bytesLe 2 second ++ replicate 26 0 ++ bytesLe 2 last ++ replicate 18 255
 
--- a setup's region with so many assemblies in use
-abbrev pub inUse : ℕ → List ℕ → List ℕ
-inUse n shapes = (n ∷ replicate 109 255) ++ shapes
-
--- 16.4: 512 bytes, not 513, of each that is in use
-pub sizes-tested : map goodShapes (inUse 2 (sized 0 ++ sized 512) ∷ inUse 2 (sized 0 ++ sized 513) ∷ inUse 1 (sized 512 ++ sized 513) ∷ [])
-    ≡ true ∷ false ∷ true ∷ []
-unfolding goodShapes goodShape all rows bytesLe le leOf
+-- 16.4: 512 bytes, not 513, at each of the 16 places, whether it is in use or not
+pub sizes-tested : map goodShapes (
+    inUse 2 0 512 512 ∷ inUse 0 512 512 512 ∷
+    inUse 2 0 513 0 ∷ inUse 1 0 513 0 ∷ inUse 0 513 0 0 ∷ inUse 15 0 0 513 ∷ inUse 16 0 0 513 ∷ [])
+    ≡ true ∷ true ∷ false ∷ false ∷ false ∷ false ∷ false ∷ []
+unfolding goodShapes shapeIn listed all bytesLe le leOf
 sizes-tested = refl
+
+-- three columns: 16 instances, 16 sizes, 16 kinds; those of the second assembly, and of the last
+abbrev pub columns : List ℕ
+columns =
+    (2 ∷ replicate 109 0) ++ (1 ∷ 0 ∷ 2 ∷ 1 ∷ replicate 26 0) ++ (3 ∷ 0 ∷ []) ++ (4 ∷ 0 ∷ 5 ∷ 1 ∷ replicate 26 0) ++ (6 ∷ 0 ∷ [])
+    ++ (1 ∷ 2 ∷ replicate 13 0) ++ (3 ∷ 0 ∷ 0 ∷ [])
+
+pub columns-read : (shapesOf columns ≡ record { instance = 1; kind = Input; size = 4 } ∷ record { instance = 258; kind = Output; size = 261 } ∷ [])
+    × (shapeIn columns 15 ≡ record { instance = 3; kind = Config; size = 6 })
+unfolding shapeIn listed le leOf
+columns-read = (refl, refl)
 
 -- 16.7: a role is an owner's output up to 253, input-only 254, listen-only 255
 pub roles-told : map kindIn (0 ∷ 253 ∷ 254 ∷ 255 ∷ []) ≡ Owner ∷ Owner ∷ InputOnly ∷ ListenOnly ∷ []

@@ -1,4 +1,5 @@
 pub mod Places
+pub mod Listed
 pub mod Setups
 pub mod Rows
 pub mod RowLaws

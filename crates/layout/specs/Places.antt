@@ -51,7 +51,7 @@ stateSize = 109056
 abbrev pub widths : List ℕ
 widths = setupSize ∷ headSize ∷ marksSize ∷ tableSize ∷ eventsSize ∷ dataSize ∷ edsSize ∷ []
 
--- ---- what stands in them: a connection's row, an event's record, an assembly's bytes, an assembly's shape
+-- ---- what stands in them: a connection's row, an event's record, an assembly's bytes
 
 abbrev pub rowSize : ℕ
 rowSize = 69
@@ -62,11 +62,16 @@ recordSize = 32
 abbrev pub slotSize : ℕ
 slotSize = 512
 
-abbrev pub shapesAt : ℕ
-shapesAt = 110
+-- ---- the setup's columns: of each of 16 assemblies the instance in 2 bytes, then of each the size in 2, then of each the kind in 1
 
-abbrev pub shapeSize : ℕ
-shapeSize = 5
+abbrev pub instancesAt : ℕ
+instancesAt = 110
+
+abbrev pub sizesAt : ℕ
+sizesAt = 142
+
+abbrev pub kindsAt : ℕ
+kindsAt = 174
 
 -- ---- the regions
 

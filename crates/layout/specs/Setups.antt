@@ -1,5 +1,5 @@
 -- What the setup region and the EDS say. No call but setup writes them, so their bytes are read and never written back.
-use Prim.Native.Nat.{ℕ, _-_, _*_}
+use Prim.Native.Nat.{ℕ, _+_, _-_, _*_}
 use mathlib.Core.Bool.{Bool, cond}
 use mathlib.Core.List.{List, [], _∷_}
 use mathlib.Core.Option.{Option, none, some}
@@ -7,26 +7,23 @@ use lib.Dec.{eqb, leb, ltb}
 use lib.ListN.{take, drop}
 use Rattle.cells.specs.Numbers.{le}
 use Rattle.cells.specs.Back.{all}
-use Rattle.tables.specs.Tables.{rows}
 use Rattle.rules.specs.declared.AssemblyKind.{AssemblyKind}
 use Rattle.rules.specs.declared.AssemblyKind.the-variants.{Input, Output, Config}
 use Rattle.rules.specs.State.{Identity, Shape, Setup}
-use Rattle.layout.specs.Places.{setupIn, edsIn, shapesAt, shapeSize, assembliesOf}
+use Rattle.layout.specs.Places.{setupIn, edsIn, instancesAt, sizesAt, kindsAt, assembliesOf}
+use Rattle.layout.specs.Listed.{listed}
 
--- a shape, 5 bytes: instance 2 at 0, size 2 at 2, kind 1 at 4 (2 output, 3 configuration, else input)
+-- a kind: 2 is an output, 3 a configuration, any other number an input
 abbrev pub kindNamed : ℕ → AssemblyKind
 kindNamed n = cond (eqb n 2) Output (cond (eqb n 3) Config Input)
 
-unfoldable pub decShape : List ℕ → Shape
-decShape b = record { instance = le 2 b 0; kind = kindNamed (le 1 b 4); size = le 2 b 2 }
-
--- the shape at a place of a setup region, of which there are 16
-abbrev pub shapeIn : List ℕ → ℕ → Shape
-shapeIn r i = decShape (take shapeSize (drop (i * shapeSize) (drop shapesAt r)))
+-- the shape at a place of a setup region, of which there are 16: its instance, its kind and its size, each in its column
+unfoldable pub shapeIn : List ℕ → ℕ → Shape
+shapeIn r i = record { instance = le 2 r (instancesAt + i * 2); kind = kindNamed (le 1 r (kindsAt + i)); size = le 2 r (sizesAt + i * 2) }
 
 -- all that there are, in their order
 abbrev pub shapesOf : List ℕ → List Shape
-shapesOf r = rows shapeSize decShape (assembliesOf r) (drop shapesAt r)
+shapesOf r = listed (shapeIn r) (assembliesOf r)
 
 -- vendor 2 at 8, device type 2 at 10, product code 2 at 12, major 1 at 14, minor 1 at 15, serial 4 at 16, name at 46, its length 1 at 2
 abbrev pub identityOf : List ℕ → Identity
@@ -46,9 +43,9 @@ abbrev pub edsOf : ℕ → List ℕ → Option (List ℕ)
 edsOf mark e = cond (eqb mark 0) none (some (take (mark - 1) e))
 
 -- number of assemblies 1 at 0, transfer limit 1 at 1, EDS name's length 1 at 3, EDS mark 4 at 4, input-only heartbeat 4 at 20,
--- listen-only 4 at 24, least RPI 4 at 28, greatest 4 at 32, late limit 4 at 36, MAC 6 at 40, EDS name at 78, shapes from 110
-abbrev pub setupFrom : List ℕ → List ℕ → Setup
-setupFrom r e =
+-- listen-only 4 at 24, least RPI 4 at 28, greatest 4 at 32, late limit 4 at 36, MAC 6 at 40, EDS name at 78
+abbrev pub setupWith : List Shape → List ℕ → List ℕ → Setup
+setupWith shapes r e =
     record {
       identity = identityOf r;
       inputOnly = le 4 r 20;
@@ -60,22 +57,25 @@ setupFrom r e =
       mac = take 6 (drop 40 r);
       eds = edsOf (le 4 r 4) e;
       edsName = take (le 1 r 3) (drop 78 r);
-      assemblies = shapesOf r;
+      assemblies = shapes;
     }
+
+abbrev pub setupFrom : List ℕ → List ℕ → Setup
+setupFrom r e = setupWith (shapesOf r) r e
 
 unfoldable pub setupOf : List ℕ → Setup
 setupOf l = setupFrom (setupIn l) (edsIn l)
 
 -- what the state test asks of it: at most 16 assemblies, a transfer limit of at least 1, names of at most 32 bytes, an EDS of at
--- most 65,535 bytes; and no assembly of more than 512 bytes
+-- most 65,535 bytes; and at none of the 16 places, in use or not, a size of more than 512 bytes
 abbrev pub testsSetup : List ℕ → List Bool
 testsSetup r = leb (assembliesOf r) 16 ∷ ltb 0 (le 1 r 1) ∷ leb (le 1 r 2) 32 ∷ leb (le 1 r 3) 32 ∷ leb (le 4 r 4) 65536 ∷ []
 
 unfoldable pub goodSetup : List ℕ → Bool
 goodSetup r = all (testsSetup r)
 
-unfoldable pub goodShape : List ℕ → Bool
-goodShape b = leb (le 2 b 2) 512
+abbrev pub testsShapes : List ℕ → List Bool
+testsShapes r = listed (λ i. leb (shapeIn r i .size) 512) 16
 
 unfoldable pub goodShapes : List ℕ → Bool
-goodShapes r = all (rows shapeSize goodShape (assembliesOf r) (drop shapesAt r))
+goodShapes r = all (testsShapes r)

@@ -51,7 +51,7 @@ pub const EDS: usize = 43520;
 // What the ring's word is below.
 pub const RING_BOUND: u32 = 2099200;
 
-// A connection's row, an event's record, an assembly's bytes; the first shape's numbers, and how far the next one is.
+// A connection's row, an event's record, an assembly's bytes; the setup's columns of instances, sizes and kinds.
 pub const ROW: usize = 69;
 
 pub const RECORD: usize = 32;
@@ -60,11 +60,9 @@ pub const SLOT: usize = 512;
 
 pub const INSTANCES: usize = 110;
 
-pub const SIZES: usize = 112;
+pub const SIZES: usize = 142;
 
-pub const KINDS: usize = 114;
-
-pub const SHAPE: usize = 5;
+pub const KINDS: usize = 174;
 
 // Where a search along the rows, or along the shapes, found the first that it looks for.
 pub enum Found {
@@ -356,21 +354,21 @@ pub fn instance_at(r: &[u8], i: usize) -> u16
     requires { ⌜ (i < 16) × (setupSize ≤ length (now r)) ⌝ }
     ensures { λ x. ⌜ x ≡ shapeIn (now (r .entry)) i .instance ⌝ }
 {
-    cells::u16_at(r, i * SHAPE + INSTANCES)
+    cells::u16_at(r, INSTANCES + i * 2)
 }
 
 pub fn size_at(r: &[u8], i: usize) -> u16
     requires { ⌜ (i < 16) × (setupSize ≤ length (now r)) ⌝ }
     ensures { λ x. ⌜ x ≡ shapeIn (now (r .entry)) i .size ⌝ }
 {
-    cells::u16_at(r, i * SHAPE + SIZES)
+    cells::u16_at(r, SIZES + i * 2)
 }
 
 pub fn kind_at(r: &[u8], i: usize) -> AssemblyKind
     requires { ⌜ (i < 16) × (setupSize ≤ length (now r)) ⌝ }
     ensures { λ x. ⌜ x ≡ shapeIn (now (r .entry)) i .kind ⌝ }
 {
-    kind_named(cells::u8_at(r, i * SHAPE + KINDS))
+    kind_named(cells::u8_at(r, KINDS + i))
 }
 
 // ---- the ring's word and the marks, in the whole state

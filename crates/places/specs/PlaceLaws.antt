@@ -5,17 +5,16 @@ use mathlib.Core.List.{List}
 use mathlib.Core.Path.{_≡_, refl, ap, sym, _∙_}
 use native.Mathlib.Omega.{arith}
 use lib.Dec.{eqb}
-use lib.ListN.{drop}
 use borrow.Author.Tests.{ne-eqb}
-use Rattle.tables.specs.Tables.{rows, length-rows}
 use Rattle.rules.specs.Lists.{place}
 use Rattle.rules.specs.declared.AssemblyKind.{AssemblyKind}
 use Rattle.rules.specs.declared.AssemblyKind.the-variants.{Input, Output, Config}
 use Rattle.rules.specs.State.{Shape, noShape}
 use Rattle.rules.specs.Checks.{isAt, placeOf}
 use Rattle.rules.specs.Host.{kindTest}
-use Rattle.layout.specs.Places.{setupIn, shapesAt, assembliesOf, shapeSize}
-use Rattle.layout.specs.Setups.{decShape, setupOf, shapesOf}
+use Rattle.layout.specs.Places.{setupIn, assembliesOf}
+use Rattle.layout.specs.Setups.{setupOf, shapesOf}
+use Rattle.layout.specs.SetupLaws.{length-shapes}
 use Rattle.image.specs.TestLaws.{assemblies-in}
 use Rattle.layout.specs.Searched.{placeIn}
 use Rattle.layout.specs.declared.Found.{Found}
@@ -57,7 +56,7 @@ pub found-in : (s : List ℕ) (p : Shape → Bool) (x : Found) → placeIn x ≡
     → (i : ℕ) → x ≡ At i → i < assembliesOf s
 found-in s p x e i q =
     let a = assemblies-in s in
-    let m = length-rows shapeSize decShape (assembliesOf (setupIn s)) (drop shapesAt (setupIn s)) in
+    let m = length-shapes (setupIn s) in
     let h = place-in p noShape (shapesOf (setupIn s)) i (sym e ∙ ap placeIn q) in
     omega arith
 

@@ -1,18 +1,18 @@
 -- What is told of a connection's assemblies, from the setup's region.
-use Prim.Native.Nat.{ℕ, _*_, _≤_, _<_}
+use Prim.Native.Nat.{ℕ, _≤_, _<_}
 use mathlib.Core.Bool.{cond}
 use mathlib.Core.List.{List, []}
 use mathlib.Core.Path.{_≡_, refl, ap, sym, _∙_}
 use native.Mathlib.Omega.{arith}
-use lib.ListN.{length, getD, drop, List·getD-eq-default}
-use Rattle.tables.specs.Tables.{rows, length-rows, row-at}
+use lib.ListN.{length, getD, List·getD-eq-default}
 use Rattle.rules.specs.State.{Setup, Shape, noShape, shapeAt, isOwner}
 use Rattle.rules.specs.Events.{infoOf}
 use Rattle.rules.specs.declared.Kind.{Kind}
 use Rattle.rules.specs.declared.Info.{Info}
 use Rattle.rules.specs.declared.Fixed.{Fixed}
-use Rattle.layout.specs.Places.{setupIn, edsIn, shapesAt, assembliesOf, shapeSize}
-use Rattle.layout.specs.Setups.{decShape, shapeIn, setupFrom, setupOf, shapesOf}
+use Rattle.layout.specs.Places.{setupIn, edsIn, assembliesOf}
+use Rattle.layout.specs.Setups.{shapeIn, setupFrom, setupOf, shapesOf}
+use Rattle.layout.specs.SetupLaws.{length-shapes, shape-of}
 
 -- the shape at a place of the setup's list
 unfoldable pub shapeOf : List ℕ → ℕ → Shape
@@ -24,11 +24,11 @@ ifOwner k n = cond (isOwner k) n 0
 module _ (r : List ℕ) (i n : ℕ) (en : n ≡ assembliesOf r) where
   pub shape-within : i < n → shapeIn r i ≡ shapeOf r i
   unfolding shapeOf
-  shape-within p = sym (row-at shapeSize decShape (assembliesOf r) (drop shapesAt r) i noShape (omega arith))
+  shape-within p = sym (shape-of r i noShape (omega arith))
 
   pub shape-past : n ≤ i → noShape ≡ shapeOf r i
   unfolding shapeOf
-  shape-past p = sym (List·getD-eq-default (shapesOf r) noShape {n = i} (let e = length-rows shapeSize decShape (assembliesOf r) (drop shapesAt r) in omega arith))
+  shape-past p = sym (List·getD-eq-default (shapesOf r) noShape {n = i} (let e = length-shapes r in omega arith))
 
 pub told-is : (r : List ℕ) (f : Fixed) (a b c d : ℕ) → a ≡ shapeOf r (f .input) .instance → b ≡ shapeOf r (f .input) .size
     → c ≡ ifOwner (f .kind) (shapeOf r (f .output) .instance) → d ≡ ifOwner (f .kind) (shapeOf r (f .output) .size)

@@ -5,8 +5,7 @@ use mathlib.Core.List.{List, []}
 use mathlib.Core.Option.{Option, none, some}
 use mathlib.Core.Path.{_≡_, refl, ap, sym, _∙_}
 use native.Mathlib.Omega.{arith}
-use lib.ListN.{length, drop}
-use Rattle.tables.specs.Tables.{length-rows}
+use lib.ListN.{length}
 use Rattle.tables.specs.Ring.{by-cases}
 use Rattle.wire_rules.specs.declared.ConnectionPath.{ConnectionPath}
 use Rattle.rules.specs.declared.AssemblyKind.{AssemblyKind}
@@ -15,8 +14,9 @@ use Rattle.rules.specs.Lists.{isSome}
 use Rattle.rules_laws.specs.ListLaws.{clash}
 use Rattle.rules_laws.specs.CheckLaws.{must-none, then-none}
 use Rattle.rules.specs.Checks as checks
-use Rattle.layout.specs.Setups.{decShape, setupFrom}
-use Rattle.layout.specs.Places.{shapesAt, assembliesOf, shapeSize}
+use Rattle.layout.specs.Setups.{setupFrom}
+use Rattle.layout.specs.SetupLaws.{length-shapes}
+use Rattle.layout.specs.Places.{assembliesOf}
 use Rattle.searches.specs.Searches.{place-in}
 use Rattle.roles.specs.declared.Roles.{Roles}
 use Rattle.roles.specs.Roles.{placeIn, rolesIn}
@@ -64,7 +64,7 @@ pub record Placed (n : ℕ) (x : Roles) : Type 0 where
   pub config : (i : ℕ) → placeIn (x .config) ≡ some i → i < n
 
 assemblies-counted : (r : List ℕ) → length (setupFrom r [] .assemblies) ≡ assembliesOf r
-assemblies-counted r = length-rows shapeSize decShape (assembliesOf r) (drop shapesAt r)
+assemblies-counted r = length-shapes r
 
 pub placed : (r : List ℕ) (p : ConnectionPath) (x : Roles) → none ≡ checks.pointsCheck (setupFrom r []) p
     → rolesIn x ≡ checks.rolesOf (setupFrom r []) p → Placed (assembliesOf r) x

@@ -6,9 +6,7 @@ use mathlib.Core.Option.{Option, none, some}
 use mathlib.Core.Path.{_≡_, refl, ap, sym, _∙_}
 use native.Mathlib.Omega.{arith}
 use lib.Dec.{eqb}
-use lib.ListN.{drop}
 use borrow.Author.Tests.{eq-eqb, ne-eqb}
-use Rattle.tables.specs.Tables.{rows, length-rows}
 use Rattle.wire_rules.specs.declared.ConnectionPath.{ConnectionPath}
 use Rattle.rules.specs.declared.Kind.{Kind}
 use Rattle.rules.specs.declared.Kind.the-variants.{Owner, InputOnly, ListenOnly}
@@ -20,11 +18,12 @@ use Rattle.rules.specs.State.{Shape, Setup, noShape, isInput, isOutput, isOwner
 use Rattle.rules.specs.Lists.{place, isSome}
 use Rattle.rules.specs.Host.{kindTest}
 use Rattle.rules.specs.Checks as checks
-use Rattle.layout.specs.Setups.{decShape, setupFrom, shapesOf}
+use Rattle.layout.specs.Setups.{setupFrom, shapesOf}
+use Rattle.layout.specs.SetupLaws.{length-shapes}
 use Rattle.layout.specs.declared.Found.{Found}
 use Rattle.layout.specs.declared.Found.the-variants.{At, Nowhere}
 use Rattle.layout.specs.Searched as ends
-use Rattle.layout.specs.Places.{shapesAt, assembliesOf, shapeSize}
+use Rattle.layout.specs.Places.{assembliesOf}
 use Rattle.searches.specs.Searches.{place-in}
 use Rattle.checking.specs.SaysLaws.{must-yes, must-no, then-on, then-no}
 use Rattle.roles.specs.declared.Roles.{Roles}
@@ -95,7 +94,7 @@ module _ (r : List ℕ) (kind point : ℕ) where
     pub place-small : (i : ℕ) → f ≡ At i → i < assembliesOf r
     place-small i h =
         let a = place-in (checks.isAt (kindTest kind) point) noShape shapes i (sym (found i h)) in
-        let n = length-rows shapeSize decShape (assembliesOf r) (drop shapesAt r) in omega arith
+        let n = length-shapes r in omega arith
 
 -- ---- the output: for an owner that of its point
 

@@ -6,9 +6,8 @@ use mathlib.Core.Option.{Option, none, some}
 use mathlib.Core.Path.{_≡_, ap, sym, _∙_}
 use native.Mathlib.Omega.{arith}
 use lib.Dec.{eqb}
-use lib.ListN.{drop, List·getD-eq-default}
+use lib.ListN.{List·getD-eq-default}
 use borrow.Author.Tests.{eq-eqb, ne-eqb}
-use Rattle.tables.specs.Tables.{rows, length-rows, row-at}
 use Rattle.wire_rules.specs.declared.NetParams.{NetParams}
 use Rattle.wire_rules.specs.declared.ForwardOpen.{ForwardOpen}
 use Rattle.wire_rules.specs.declared.ConnectionPath.{ConnectionPath}
@@ -18,24 +17,24 @@ use Rattle.rules.specs.declared.Stores.{Stores}
 use Rattle.rules.specs.declared.Stores.the-variants.{Nothing, Into}
 use Rattle.rules.specs.State.{Shape, noShape, Setup, shapeAt, isOwner}
 use Rattle.rules.specs.Checks as checks
-use Rattle.layout.specs.Setups.{decShape, shapeIn, setupFrom, goodShapes, shapesOf}
-use Rattle.layout.specs.Places.{shapesAt, assembliesOf, shapeSize}
-use Rattle.image.specs.Fits.{shape-short}
+use Rattle.layout.specs.Setups.{shapeIn, setupFrom, goodShapes, shapesOf}
+use Rattle.layout.specs.SetupLaws.{length-shapes, shape-of, shape-short}
+use Rattle.layout.specs.Places.{assembliesOf}
 use Rattle.checking.specs.SaysLaws.{must-yes, must-no}
 use Rattle.roles.specs.Roles.{placeIn}
 use Rattle.roles.specs.RoleLaws.{if-is, if-not}
 
 -- a place of the list, and one past it
 module _ (r : List ℕ) (i n : ℕ) (en : n ≡ assembliesOf r) where
-  pub size-below : i < n → goodShapes r ≡ true → (x : ℕ) → x ≡ shapeIn r i .size → (x ≡ shapeAt (setupFrom r []) i .size) × (x ≤ 512)
-  size-below h ok x e =
+  pub size-below : i < n → assembliesOf r ≤ 16 → goodShapes r ≡ true → (x : ℕ) → x ≡ shapeIn r i .size → (x ≡ shapeAt (setupFrom r []) i .size) × (x ≤ 512)
+  size-below h few ok x e =
       let g : i < assembliesOf r = omega arith in
-      let s : shapeIn r i .size ≤ 512 = shape-short r ok i g in
-      (e ∙ ap (λ (a : Shape). a .size) (sym (row-at shapeSize decShape (assembliesOf r) (drop shapesAt r) i noShape g)), omega arith)
+      let s : shapeIn r i .size ≤ 512 = shape-short r ok i (omega arith) in
+      (e ∙ ap (λ (a : Shape). a .size) (sym (shape-of r i noShape g)), omega arith)
 
   pub size-past : n ≤ i → (0 ≡ shapeAt (setupFrom r []) i .size) × (0 ≤ 512)
   size-past h =
-      let e = length-rows shapeSize decShape (assembliesOf r) (drop shapesAt r) in
+      let e = length-shapes r in
       (ap (λ (a : Shape). a .size) (sym (List·getD-eq-default (shapesOf r) noShape {n = i} (omega arith))), omega arith)
 
 -- check 5

@@ -22,24 +22,36 @@ pub later-zero : (o : Option ℕ) → later 0 o ≡ o
 later-zero none = refl
 later-zero (some j) = ap some (omega arith)
 
--- ---- a search along the rows: the place in the rest, so many further on
+-- ---- a search along a list: the place in the rest, so many further on
+
+module _ {A : Type 0} (p : A → Bool) (xs : List A) (i : ℕ) where
+  at-one : (x : A) (b : Bool) → drop i xs ≡ x ∷ drop (i + 1) xs → p x ≡ b
+      → later i (place p (drop i xs)) ≡ later i (cond b (some 0) (maybe none (λ j. some (suc j)) (place p (drop (i + 1) xs))))
+  at-one x b h e =
+      ap (λ (z : List A). later i (place p z)) h
+      ∙ ap (λ (y : Bool). later i (cond y (some 0) (maybe none (λ j. some (suc j)) (place p (drop (i + 1) xs))))) e
+
+  pub list-hit : (x : A) → drop i xs ≡ x ∷ drop (i + 1) xs → p x ≡ true → later i (place p (drop i xs)) ≡ some i
+  list-hit x h e = at-one x true h e ∙ ap some (omega arith)
+
+  pub list-miss : (x : A) → drop i xs ≡ x ∷ drop (i + 1) xs → p x ≡ false → later i (place p (drop i xs)) ≡ later (i + 1) (place p (drop (i + 1) xs))
+  list-miss x h e = at-one x false h e ∙ later-suc i (place p (drop (i + 1) xs))
+
+  pub list-ends : drop i xs ≡ [] → later i (place p (drop i xs)) ≡ none
+  list-ends h = ap (λ (z : List A). later i (place p z)) h
+
+-- ---- the same along rows
 
 module _ {A : Type 0} (size : ℕ) (dec : List ℕ → A) (p : A → Bool) (n : ℕ) (r : List ℕ) where
-  at-row : (i : ℕ) → i < n → (b : Bool) → p (dec (take size (drop (i * size) r))) ≡ b
-      → later i (place p (drop i (rows size dec n r))) ≡ later i (cond b (some 0) (maybe none (λ j. some (suc j)) (place p (drop (i + 1) (rows size dec n r)))))
-  at-row i h b e =
-      ap (λ (z : List A). later i (place p z)) (rows-rest size dec n r i h)
-      ∙ ap (λ (x : Bool). later i (cond x (some 0) (maybe none (λ j. some (suc j)) (place p (drop (i + 1) (rows size dec n r)))))) e
-
   pub search-hit : (i : ℕ) → i < n → p (dec (take size (drop (i * size) r))) ≡ true → later i (place p (drop i (rows size dec n r))) ≡ some i
-  search-hit i h e = at-row i h true e ∙ ap some (omega arith)
+  search-hit i h e = list-hit p (rows size dec n r) i (dec (take size (drop (i * size) r))) (rows-rest size dec n r i h) e
 
   pub search-miss : (i : ℕ) → i < n → p (dec (take size (drop (i * size) r))) ≡ false
       → later i (place p (drop i (rows size dec n r))) ≡ later (i + 1) (place p (drop (i + 1) (rows size dec n r)))
-  search-miss i h e = at-row i h false e ∙ later-suc i (place p (drop (i + 1) (rows size dec n r)))
+  search-miss i h e = list-miss p (rows size dec n r) i (dec (take size (drop (i * size) r))) (rows-rest size dec n r i h) e
 
   pub search-ends : (i : ℕ) → n ≤ i → later i (place p (drop i (rows size dec n r))) ≡ none
-  search-ends i h = ap (λ (z : List A). later i (place p z)) (rows-end size dec n r i h)
+  search-ends i h = list-ends p (rows size dec n r) i (rows-end size dec n r i h)
 
 -- ---- whether any row passes, and the first that does
 

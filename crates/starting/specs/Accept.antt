@@ -16,9 +16,9 @@ use Rattle.image.specs.TestLaws.{setup-passes}
 use Rattle.rules.specs.Lists.{any}
 use Rattle.rules.specs.State.{Shape}
 use Rattle.rules.specs.Setup.{shapeOk, distinct, assembliesOk, nameOk, edsOk, transferOk, setupOk}
-use Rattle.layout.specs.Setups.{decShape, testsSetup, goodSetup, shapesOf}
-use Rattle.layout.specs.Places.{shapesAt, assembliesOf, shapeSize}
-use Rattle.starting.specs.Block.{kindGiven, regionOf, edsMark, setupGiven, testsBlock, accepted}
+use Rattle.layout.specs.Setups.{testsSetup, goodSetup}
+use Rattle.layout.specs.Places.{assembliesOf}
+use Rattle.starting.specs.Block.{shapesAt, shapeSize, decShape, shapesGiven, kindGiven, markedBlock, edsMark, setupGiven, testsBlock, accepted}
 use Rattle.starting.specs.Given.{flag-bit, absent, short-eds, few, short-name, short-eds-name, some-transfer, kinds-ok, shapes-ok, no-eds, some-eds}
 use Rattle.starting.specs.Shapes.{shapeGiven, instancesIn}
 
@@ -84,18 +84,18 @@ shapes-joined (suc n) x k s =
     (both (kindGiven (take 5 x)) (shapeOk (decShape (take 5 x))) (h .0) (t .0))
     (shapes-joined n (drop 5 x) (h .1) (t .1))
 
--- ---- the block's bytes in the region
+-- ---- the block's bytes beside the mark
 
 module _ (block eds : List ℕ) where
   abbrev r : List ℕ
-  r = regionOf block eds
+  r = markedBlock block eds
 
-  low-same : (k : ℕ) → k + 1 ≤ 4 → le 1 (regionOf block eds) k ≡ le 1 block k
-  unfolding regionOf
+  pub low-same : (k : ℕ) → k + 1 ≤ 4 → le 1 (markedBlock block eds) k ≡ le 1 block k
+  unfolding markedBlock
   low-same k h = le-put-before 1 4 block k 4 (edsMark (le 4 block 4) eds) h
 
-  rest-same : (k : ℕ) → 8 ≤ k → drop k (regionOf block eds) ≡ drop k block
-  unfolding regionOf
+  rest-same : (k : ℕ) → 8 ≤ k → drop k (markedBlock block eds) ≡ drop k block
+  unfolding markedBlock
   rest-same k h = drop-put 4 block 4 (edsMark (le 4 block 4) eds) k h
 
   -- ---- one test fails
@@ -135,9 +135,7 @@ module _ (block eds : List ℕ) where
       refused (all (rows 5 shapeGiven n (drop shapesAt block)))
       (λ ok.
       ap (λ (k : ℕ). all (rows 5 shapeGiven k (drop shapesAt block))) e ∙
-      shapes-joined (assembliesOf block) (drop shapesAt block) (kinds-ok block eds ok)
-      (ap₂ (λ (n : ℕ) (x : List ℕ). not (any (λ a. not (shapeOk a)) (rows shapeSize decShape n x))) (sym (low-same 0 (omega arith))) (sym (rest-same shapesAt (omega arith)))
-      ∙ shapes-ok block eds ok))
+      shapes-joined (assembliesOf block) (drop shapesAt block) (kinds-ok block eds ok) (shapes-ok block eds ok))
 
 -- ---- all but the last hold
 
@@ -158,14 +156,14 @@ unfolding goodSetup
 few-given block g = leb-true (assembliesOf block) 16 (all-at (testsSetup block) g 0)
 
 module _ (block eds : List ℕ) (long : length block ≡ 192) (f : le 4 block 4 ≤ 1) (x : edsFits (le 4 block 4) (length eds) ≡ true) (g : goodSetup block ≡ true) where
-  assemblies-given : setupGiven block eds .assemblies ≡ shapesOf block
+  assemblies-given : setupGiven block eds .assemblies ≡ shapesGiven block
   unfolding setupGiven
-  assemblies-given = ap₂ (rows shapeSize decShape) (low-same block eds 0 (omega arith)) (rest-same block eds shapesAt (omega arith))
+  assemblies-given = refl
 
   assemblies-told : all (rows 5 shapeGiven (assembliesOf block) (drop shapesAt block)) ≡ true → assembliesOk (setupGiven block eds .assemblies) ≡ distinct (instancesIn (assembliesOf block) block)
   unfolding instancesIn
   assemblies-told y =
-      let xs : List Shape = shapesOf block in
+      let xs : List Shape = shapesGiven block in
       let n = length-rows shapeSize decShape (assembliesOf block) (drop shapesAt block) in
       let h = few-given block g in
       ap assembliesOk assemblies-given

@@ -16,9 +16,9 @@ use Rattle.tables.specs.Ring.{by-cases}
 use Rattle.rules.specs.Lists.{any}
 use Rattle.rules.specs.State.{Shape}
 use Rattle.rules.specs.Setup.{shapeOk, distinct, assembliesOk, nameOk, edsOk, transferOk, setupOk}
-use Rattle.layout.specs.Setups.{decShape, edsOf, shapesOf}
-use Rattle.layout.specs.Places.{shapesAt, assembliesOf, shapeSize}
-use Rattle.starting.specs.Block.{edsMark, kindGiven, regionOf, setupGiven, testsBlock, accepted}
+use Rattle.layout.specs.Setups.{edsOf}
+use Rattle.layout.specs.Places.{assembliesOf}
+use Rattle.starting.specs.Block.{shapesAt, shapeSize, decShape, shapesGiven, edsMark, kindGiven, markedBlock, setupGiven, testsBlock, accepted}
 
 -- ---- a chain of tests, one by one
 
@@ -57,14 +57,14 @@ too-long n xs a b c =
 
 module _ (block eds : List ℕ) (long : length block ≡ 192) where
   -- the EDS's mark, and an EDS that is given
-  pub mark-of : le 4 (regionOf block eds) 4 ≡ edsMark (le 4 block 4) eds
-  unfolding regionOf
+  pub mark-of : le 4 (markedBlock block eds) 4 ≡ edsMark (le 4 block 4) eds
+  unfolding markedBlock
   mark-of = le-put-same 3 block 4 (edsMark (le 4 block 4) eds) (omega arith)
 
-  pub no-mark : eqb (le 4 block 4) 0 ≡ true → le 4 (regionOf block eds) 4 ≡ 0
+  pub no-mark : eqb (le 4 block 4) 0 ≡ true → le 4 (markedBlock block eds) 4 ≡ 0
   no-mark e = mark-of ∙ ap (λ (b : Bool). cond b 0 (length eds + 1)) e
 
-  pub some-mark : eqb (le 4 block 4) 0 ≡ false → le 4 (regionOf block eds) 4 ≡ length eds + 1
+  pub some-mark : eqb (le 4 block 4) 0 ≡ false → le 4 (markedBlock block eds) 4 ≡ length eds + 1
   some-mark e = mark-of ∙ ap (λ (b : Bool). cond b 0 (length eds + 1)) e
 
   pub no-eds : eqb (le 4 block 4) 0 ≡ true → setupGiven block eds .eds ≡ none
@@ -80,7 +80,7 @@ module _ (block eds : List ℕ) (long : length block ≡ 192) where
 
 module _ (block eds : List ℕ) (ok : accepted block eds ≡ true) where
   abbrev r : List ℕ
-  r = regionOf block eds
+  r = markedBlock block eds
 
   pub long-block : length block ≡ 192
   unfolding accepted
@@ -102,9 +102,9 @@ module _ (block eds : List ℕ) (ok : accepted block eds ≡ true) where
   unfolding accepted
   sizes-ok = all-at (testsBlock block eds) ok 4
 
-  pub length-region : length (regionOf block eds) ≡ 192
-  unfolding regionOf
-  length-region = length-put 4 block 4 (edsMark (le 4 block 4) eds) ∙ long-block
+  pub length-marked : length (markedBlock block eds) ≡ 192
+  unfolding markedBlock
+  length-marked = length-put 4 block 4 (edsMark (le 4 block 4) eds) ∙ long-block
 
   chain : Five (assembliesOk (setupGiven block eds .assemblies)) (nameOk (setupGiven block eds .identity .name)) (nameOk (setupGiven block eds .edsName)) (edsOk (setupGiven block eds .eds)) (transferOk (setupGiven block eds .transferLimit))
   unfolding setupOk
@@ -112,41 +112,41 @@ module _ (block eds : List ℕ) (ok : accepted block eds ≡ true) where
       five-of (assembliesOk (setupGiven block eds .assemblies)) (nameOk (setupGiven block eds .identity .name)) (nameOk (setupGiven block eds .edsName))
       (edsOk (setupGiven block eds .eds)) (transferOk (setupGiven block eds .transferLimit)) sizes-ok
 
-  assemblies-chain : (leb (length (shapesOf (regionOf block eds))) 16 ≡ true)
-      × (not (any (λ a. not (shapeOk a)) (shapesOf (regionOf block eds))) ≡ true)
+  assemblies-chain : (leb (length (shapesGiven block)) 16 ≡ true)
+      × (not (any (λ a. not (shapeOk a)) (shapesGiven block)) ≡ true)
   unfolding setupGiven
   assemblies-chain =
-      let xs : List Shape = shapesOf r in
+      let xs : List Shape = shapesGiven block in
       two-of (leb (length xs) 16) (not (any (λ a. not (shapeOk a)) xs)) (distinct (map (λ a. a .instance) xs)) (chain .one)
 
-  pub few : le 1 (regionOf block eds) 0 ≤ 16
+  pub few : assembliesOf block ≤ 16
   few =
-      let xs : List Shape = shapesOf r in
-      let n = length-rows shapeSize decShape (assembliesOf r) (drop shapesAt r) in
+      let xs : List Shape = shapesGiven block in
+      let n = length-rows shapeSize decShape (assembliesOf block) (drop shapesAt block) in
       let h : length xs ≤ 16 = leb-true (length xs) 16 (assemblies-chain .0) in
       omega arith
 
-  pub shapes-ok : not (any (λ a. not (shapeOk a)) (shapesOf (regionOf block eds))) ≡ true
+  pub shapes-ok : not (any (λ a. not (shapeOk a)) (shapesGiven block)) ≡ true
   shapes-ok = assemblies-chain .1
 
   -- a name of at most 32 bytes that are all there
-  short : (n k : ℕ) → k + 33 ≤ 192 → length (take n (drop k (regionOf block eds))) ≤ 32 → n ≤ 32
+  short : (n k : ℕ) → k + 33 ≤ 192 → length (take n (drop k (markedBlock block eds))) ≤ 32 → n ≤ 32
   short n k h p =
-      let l = length-region in
+      let l = length-marked in
       let d : length (drop k r) ≡ length r - k = length-drop k r in
       by-cases (leb n 32)
       (λ e. leb-true n 32 e)
       (λ e. let q = leb-false n 32 e in absurd (too-long n (drop k r) (omega arith) (omega arith) p))
 
-  pub short-name : le 1 (regionOf block eds) 2 ≤ 32
+  pub short-name : le 1 (markedBlock block eds) 2 ≤ 32
   unfolding setupGiven
   short-name = short (le 1 r 2) 46 (omega arith) (leb-true (length (take (le 1 r 2) (drop 46 r))) 32 (chain .two))
 
-  pub short-eds-name : le 1 (regionOf block eds) 3 ≤ 32
+  pub short-eds-name : le 1 (markedBlock block eds) 3 ≤ 32
   unfolding setupGiven
   short-eds-name = short (le 1 r 3) 78 (omega arith) (leb-true (length (take (le 1 r 3) (drop 78 r))) 32 (chain .three))
 
-  pub some-transfer : 0 < le 1 (regionOf block eds) 1
+  pub some-transfer : 0 < le 1 (markedBlock block eds) 1
   unfolding setupGiven
   some-transfer = leb-true 1 (le 1 r 1) (first-of (leb 1 (le 1 r 1)) (leb (le 1 r 1) 255) (chain .five))
 
@@ -160,7 +160,7 @@ module _ (block eds : List ℕ) (ok : accepted block eds ≡ true) where
       (λ e. let z = absent e in omega arith)
       (λ e. leb-true (length eds) 65535 (ap edsOk (sym (some-eds block eds long-block e)) ∙ chain .four))
 
-  pub small-mark : le 4 (regionOf block eds) 4 ≤ 65536
+  pub small-mark : le 4 (markedBlock block eds) 4 ≤ 65536
   small-mark =
       let s = short-eds in
       by-cases (eqb (le 4 block 4) 0)
@@ -168,7 +168,7 @@ module _ (block eds : List ℕ) (ok : accepted block eds ≡ true) where
       (λ e. let m = some-mark block eds long-block e in omega arith)
 
   -- what stands behind the EDS is not of it
-  pub eds-same : (z : List ℕ) → edsOf (le 4 (regionOf block eds) 4) (eds ++ z) ≡ edsOf (le 4 (regionOf block eds) 4) eds
+  pub eds-same : (z : List ℕ) → edsOf (le 4 (markedBlock block eds) 4) (eds ++ z) ≡ edsOf (le 4 (markedBlock block eds) 4) eds
   eds-same z =
       by-cases (eqb (le 4 block 4) 0)
       (λ e. let m = no-mark block eds long-block e in

@@ -1,7 +1,8 @@
 pub mod Block
 pub mod Given
+pub mod Shapes
+pub mod Columns
 pub mod Fresh
 pub mod Begin
-pub mod Shapes
 pub mod Accept
 pub mod Calls

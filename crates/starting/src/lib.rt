@@ -1,14 +1,16 @@
 // Setup: what the host's block and EDS say, whether that is accepted, and the state's bytes that it leaves.
 pub mod checks;
+pub mod columns;
 pub mod shapes;
 
+use crate::columns::put_shapes;
 ghost use mathlib.Core.Path.{_≡_};
 ghost use mathlib.Core.Bool.{cond};
 ghost use Prim.Native.Nat.{ℕ, _+_, _≤_};
 ghost use lib.Dec.{eqb};
 ghost use lib.ListN.{length};
 ghost use Rattle.rules.specs.Setup.{firstId};
-ghost use Rattle.layout.specs.Places.{stateSize};
+ghost use Rattle.layout.specs.Places.{stateSize, assembliesOf};
 ghost use Rattle.starting.specs.Block.{started};
 
 // The EDS mark: 0 for no EDS, else its length and one.
@@ -34,15 +36,17 @@ fn first_id(seed: u32) -> u32
 
 // The fresh state, written over whatever the bytes were.
 pub fn begin(s: &mut [u8], block: &[u8], eds: &[u8], seed: u32)
-    requires { ⌜ (length (now s) ≡ stateSize) × (length (now block) ≡ 192) × (length (now eds) ≤ 65535) ⌝ }
+    requires { ⌜ (length (now s) ≡ stateSize) × (length (now block) ≡ 192) × (assembliesOf (now block) ≤ 16) × (length (now eds) ≤ 65535) ⌝ }
     ensures { λ _. ⌜ now (s .exit) ≡ started (now (block .entry)) (now (eds .entry)) seed ⌝ }
 {
     let mark = eds_mark(cells::u32_at(block, 4), eds.len());
     let id = first_id(seed);
+    let assemblies = cells::u8_at(block, 0) as usize;
     let n = s.len();
     cells::zero(s, 0, n);
-    copies::copy_in(s, 0, block);
+    copies::copy_in(s, 0, &block[0..110]);
     cells::put_u32(s, 4, mark);
+    put_shapes(s, block, assemblies);
     cells::put_u32(s, layout::NEXT_ID, id);
     copies::copy_in(s, layout::EDS, eds);
 }

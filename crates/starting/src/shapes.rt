@@ -7,9 +7,23 @@ ghost use Rattle.cells.specs.Back.{all};
 ghost use Rattle.tables.specs.Tables.{rows};
 ghost use Rattle.rules.specs.Lists.{any};
 ghost use Rattle.rules.specs.Setup.{distinct};
-ghost use Rattle.layout.specs.Setups.{shapeIn};
-ghost use Rattle.layout.specs.Places.{setupSize, shapesAt, shapeSize};
+ghost use Rattle.layout.specs.Places.{setupSize};
+ghost use Rattle.starting.specs.Block.{shapesAt, shapeSize, givenIn};
 ghost use Rattle.starting.specs.Shapes.{shapeGiven, instancesIn};
+
+fn instance_at(r: &[u8], i: usize) -> u16
+    requires { ⌜ (i < 16) × (setupSize ≤ length (now r)) ⌝ }
+    ensures { λ x. ⌜ x ≡ givenIn (now (r .entry)) i .instance ⌝ }
+{
+    cells::u16_at(r, i * 5 + 110)
+}
+
+fn size_at(r: &[u8], i: usize) -> u16
+    requires { ⌜ (i < 16) × (setupSize ≤ length (now r)) ⌝ }
+    ensures { λ x. ⌜ x ≡ givenIn (now (r .entry)) i .size ⌝ }
+{
+    cells::u16_at(r, i * 5 + 112)
+}
 
 fn shape_given(r: &[u8], i: usize) -> bool
     requires { ⌜ (i < 16) × (setupSize ≤ length (now r)) ⌝ }
@@ -22,11 +36,11 @@ fn shape_given(r: &[u8], i: usize) -> bool
     if k > 3 {
         return false;
     }
-    let n = layout::instance_at(r, i);
+    let n = instance_at(r, i);
     if n < 1 {
         return false;
     }
-    layout::size_at(r, i) <= 512
+    size_at(r, i) <= 512
 }
 
 pub fn shapes_given(r: &[u8], n: usize) -> bool
@@ -50,7 +64,7 @@ fn again(r: &[u8], x: u16, j: usize, n: usize) -> bool
 {
     let mut i = j;
     while i < n {
-        if x == layout::instance_at(r, i) {
+        if x == instance_at(r, i) {
             return true;
         }
         i += 1;
@@ -64,7 +78,7 @@ pub fn once_each(r: &[u8], n: usize) -> bool
 {
     let mut i = 0;
     while i < n {
-        if again(r, layout::instance_at(r, i), i + 1, n) {
+        if again(r, instance_at(r, i), i + 1, n) {
             return false;
         }
         i += 1;

@@ -4,7 +4,7 @@ use crate::block::{self, MOST_ASSEMBLIES, MOST_NAME};
 use crate::call::{MAX_CONNECTIONS, MAX_EVENTS, RECORD};
 use crate::places::{
     CONNECTIONS, DATA, EDS, EVENTS, INSTANCES, KINDS, LATE, MARKS, MAX_LATE, NEXT_ID, PRODUCED, RING, RING_BOUND, ROW,
-    SHAPE, SIZES, SLOT, STATE_SIZE, TABLE,
+    SIZES, SLOT, STATE_SIZE, TABLE,
 };
 use crate::seen::{AssemblySeen, ConnSeen, Seen, UploadSeen};
 
@@ -50,17 +50,17 @@ fn put(s: &mut [u8], at: usize, bytes: &[u8]) {
     s[at..at + bytes.len()].copy_from_slice(bytes);
 }
 
-// an assembly's shape, by its place in the setup's list
+// an assembly's shape, by its place in the setup's list: its three numbers, each in its column
 fn instance(place: usize) -> usize {
-    INSTANCES + SHAPE * place
+    INSTANCES + 2 * place
 }
 
 fn size(place: usize) -> usize {
-    SIZES + SHAPE * place
+    SIZES + 2 * place
 }
 
 fn kind(place: usize) -> usize {
-    KINDS + SHAPE * place
+    KINDS + place
 }
 
 fn assemblies(s: &[u8]) -> usize {

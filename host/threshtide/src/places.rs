@@ -16,11 +16,10 @@ pub const DATA: usize = 35328;
 pub const EDS: usize = 43520;
 /// What the ring's word is below.
 pub const RING_BOUND: u32 = 2099200;
-/// A connection's row, an event's record, an assembly's bytes; the first shape's numbers, and how far the next one is.
+/// A connection's row, an event's record, an assembly's bytes; the setup's columns of instances, sizes and kinds.
 pub const ROW: usize = 69;
 pub const RECORD: usize = 32;
 pub const SLOT: usize = 512;
 pub const INSTANCES: usize = 110;
-pub const SIZES: usize = 112;
-pub const KINDS: usize = 114;
-pub const SHAPE: usize = 5;
+pub const SIZES: usize = 142;
+pub const KINDS: usize = 174;

@@ -4,9 +4,9 @@ use mathlib.Core.Path.{_≡_, sym, _∙_}
 use lib.ListN.{drop}
 use borrow.Author.Tests.{eq-eqb, ne-eqb}
 use Rattle.rules.specs.Lists.{place}
-use Rattle.layout.specs.Setups.{decShape, shapesOf}
-use Rattle.layout.specs.Places.{shapesAt, assembliesOf}
-use Rattle.searches.specs.Searches.{later, later-zero, search-hit, search-miss, search-ends}
+use Rattle.layout.specs.Setups.{shapeIn, shapesOf}
+use Rattle.layout.specs.SetupLaws.{shapes-rest, shapes-end}
+use Rattle.searches.specs.Searches.{later, later-zero, list-hit, list-miss, list-ends}
 use Rattle.assembly_object.specs.Instances.{hasInstance}
 use borrow.Author.Needs.{needs}
 use native.Mathlib.Omega.{arith}
@@ -43,7 +43,7 @@ returns c =
     let a = at-entry .args in
     let w = at-loop .loop in
     let e = at-u8-at .u8-at .ensures in
-    sym (w .inv .1 ∙ search-hit 5 decShape (hasInstance (a .instance)) (assembliesOf (a .r .now)) (drop shapesAt (a .r .now)) (w .i) (omega arith)
+    sym (w .inv .1 ∙ list-hit (hasInstance (a .instance)) (shapesOf (a .r .now)) (w .i) (shapeIn (a .r .now) (w .i)) (shapes-rest (a .r .now) (w .i) (omega arith))
     (eq-eqb _ _ (sym (at-instance-at .instance-at .ensures) ∙ c .if1 .taken)))
 
 add-i : tie.Need-add-i Inv-loop μ-loop
@@ -62,12 +62,12 @@ loop-again c =
     let w = at-loop .loop in
     let e = at-u8-at .u8-at .ensures in (
       omega arith,
-      w .inv .1 ∙ search-miss 5 decShape (hasInstance (a .instance)) (assembliesOf (a .r .now)) (drop shapesAt (a .r .now)) (w .i) (omega arith)
+      w .inv .1 ∙ list-miss (hasInstance (a .instance)) (shapesOf (a .r .now)) (w .i) (shapeIn (a .r .now) (w .i)) (shapes-rest (a .r .now) (w .i) (omega arith))
           (ne-eqb _ _ (λ q. c .if1 .left (at-instance-at .instance-at .ensures ∙ q))),
     )
 
 returns-2 : tie.Need-returns-2 Inv-loop μ-loop
-returns-2 c = let a = c .before .before .before .before .args in let w = c .before .loop in let e = c .before .before .u8-at .ensures in sym (w .inv .1 ∙ search-ends 5 decShape (hasInstance (a .instance)) (assembliesOf (a .r .now)) (drop shapesAt (a .r .now)) (w .i) (omega arith))
+returns-2 c = let a = c .before .before .before .before .args in let w = c .before .loop in let e = c .before .before .u8-at .ensures in sym (w .inv .1 ∙ list-ends (hasInstance (a .instance)) (shapesOf (a .r .now)) (w .i) (shapes-end (a .r .now) (w .i) (omega arith)))
 
 pub find-spec : {M : Type 1} → statement M
 find-spec =

@@ -1,39 +1,30 @@
+-- The sizes so far and the rest are the whole test.
 use native.Mathlib.Omega.{arith}
-use mathlib.Core.Path.{_≡_, refl, sym, _∙_}
+use mathlib.Core.Path.{_≡_}
+use mathlib.Core.Bool.{_&&_}
 use Prim.Native.Nat.{_≤_, _-_}
 use lib.ListN.{drop}
 use Rattle.cells.specs.Back.{all}
-use Rattle.tables.specs.Tables.{rows}
-use Rattle.layout.specs.Setups.{goodShape}
-use Rattle.layout.specs.Places.{shapesAt, shapeSize}
-use Rattle.image.specs.TestLaws.{walk-stops, walk-on, walk-ends, shape-bad, shape-good}
+use Rattle.layout.specs.Setups.{testsShapes, goodShapes}
+use Rattle.image.specs.TestLaws.{run-begins, run-on, run-ends}
+use borrow.Author.Needs.{needs}
 use Rattle.image.proofs.shapes_good.Statement.{statement}
 use Rattle.image.proofs.shapes_good.Tie as tie
 
 abbrev Inv-loop : tie.InvT-loop
-Inv-loop r n i₀ i = (i ≤ n) × (all (rows shapeSize goodShape n (drop shapesAt r)) ≡ all (drop i (rows shapeSize goodShape n (drop shapesAt r))))
+Inv-loop r good₀ i₀ good i = (i ≤ 16) × (goodShapes r ≡ (good && all (drop i (testsShapes r))))
 
 abbrev μ-loop : tie.MeasureT-loop
-μ-loop r n i₀ i = n - i
+μ-loop r good₀ i₀ good i = 16 - i
 
 loop-holds : tie.Need-loop-holds Inv-loop μ-loop
-loop-holds c = (omega arith, refl)
+loop-holds c = let a = c .before .args in (omega arith, run-begins (a .r .now))
 
-mul-u16-at : tie.Need-mul-u16-at Inv-loop μ-loop
-mul-u16-at c = omega arith
+size-at-requires : tie.Need-size-at-requires Inv-loop μ-loop
+size-at-requires c κs = let p = c .before .before .before .pre in (omega arith, p)
 
-add-u16-at : tie.Need-add-u16-at Inv-loop μ-loop
-add-u16-at c = omega arith
-
-u16-at-requires : tie.Need-u16-at-requires Inv-loop μ-loop
-u16-at-requires c κs = omega arith
-
-returns : tie.Need-returns Inv-loop μ-loop
-returns c =
-    let w = c .before .before .before .loop in
-    let a = c .before .before .before .before .before .args in
-    let e = c .before .u16-at .ensures in
-    sym (w .inv .1 ∙ walk-stops 5 goodShape (a .n) (drop shapesAt (a .r .now)) (w .i) (omega arith) (shape-bad (a .r .now) (w .i) (omega arith)))
+both-requires : tie.Need-both-requires Inv-loop μ-loop
+both-requires c κs = search needs
 
 add-i : tie.Need-add-i Inv-loop μ-loop
 add-i c = omega arith
@@ -43,16 +34,17 @@ loop-less c = omega arith
 
 loop-again : tie.Need-loop-again Inv-loop μ-loop
 loop-again c =
-    let w = c .before .before .before .loop in
-    let a = c .before .before .before .before .before .args in
-    let e = c .before .u16-at .ensures in
-    (omega arith, w .inv .1 ∙ walk-on 5 goodShape (a .n) (drop shapesAt (a .r .now)) (w .i) (omega arith) (shape-good (a .r .now) (w .i) (omega arith)))
+    let at-size = c .before in
+    let at-loop = at-size .before .before in
+    let a = at-loop .before .before .args in
+    let w = at-loop .loop in
+    (omega arith, run-on (a .r .now) (w .i) _ (w .good) _ (omega arith) (w .inv .1) (at-size .size-at .ensures) (c .both .ensures))
 
-returns-2 : tie.Need-returns-2 Inv-loop μ-loop
-returns-2 c =
+returns : tie.Need-returns Inv-loop μ-loop
+returns c =
     let w = c .before .loop in
     let a = c .before .before .before .args in
-    sym (w .inv .1 ∙ walk-ends 5 goodShape (a .n) (drop shapesAt (a .r .now)) (w .i) (omega arith))
+    run-ends (a .r .now) (w .i) (w .good) (omega arith) (w .inv .1)
 
 pub shapes-good-spec : {M : Type 1} → statement M
 shapes-good-spec =
@@ -61,11 +53,9 @@ shapes-good-spec =
     Inv-loop
     μ-loop
     loop-holds
-    mul-u16-at
-    add-u16-at
-    u16-at-requires
-    returns
+    size-at-requires
+    both-requires
     add-i
     loop-less
     loop-again
-    returns-2)
+    returns)

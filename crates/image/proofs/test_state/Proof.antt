@@ -1,9 +1,7 @@
 -- The state test, one test after the other; each refusal is one law, and the last test's answer is the whole test's.
-use native.Mathlib.Omega.{arith}
 use mathlib.Core.Path.{sym, _∙_}
-use lib.ListN.{length-take, length-drop}
 use borrow.Author.Tests.{not-true, not-false}
-use Rattle.image.specs.TestLaws.{state-fails0, state-fails1, state-fails2, state-last, shapes-are, assemblies-few}
+use Rattle.image.specs.TestLaws.{state-fails0, state-fails1, state-fails2, state-last}
 use borrow.Author.Needs.{needs}
 use Rattle.image.proofs.test_state.Statement.{statement}
 use Rattle.image.proofs.test_state.Tie as tie
@@ -39,12 +37,6 @@ returns-3 c =
     let at-entry = at-setup .before .before .before .before in
     state-fails2 (at-entry .args .s .now) (sym (at-head .head-good .ensures) ∙ not-true (at-head .head-good .result) (c .if3 .taken))
 
-u8-at-requires : tie.Need-u8-at-requires
-u8-at-requires c κs = search needs
-
-cast-n : tie.Need-cast-n
-cast-n c = search needs
-
 sub-shapes-good : tie.Need-sub-shapes-good
 sub-shapes-good c = search needs
 
@@ -55,19 +47,11 @@ part-shapes-good-end : tie.Need-part-shapes-good-end
 part-shapes-good-end c = search needs
 
 shapes-good-requires : tie.Need-shapes-good-requires
-shapes-good-requires c κs =
-    let at-count = c .before in
-    let at-if2 = at-count .before .before .before in
-    let at-setup = at-if2 .before in
-    let at-entry = at-setup .before .before .before .before in
-    let h = assemblies-few (at-entry .args .s .now) (sym (at-setup .setup-good .ensures) ∙ not-false (at-setup .setup-good .result) (at-if2 .if2 .left)) in
-    let e = at-count .u8-at .ensures in
-    (simp (length-take, length-drop) (omega arith), omega arith)
+shapes-good-requires c κs = search needs
 
 returns-4 : tie.Need-returns-4
 returns-4 c =
-    let at-count = c .before .before in
-    let at-if3 = at-count .before in
+    let at-if3 = c .before .before in
     let at-head = at-if3 .before in
     let at-if2 = at-head .before in
     let at-setup = at-if2 .before in
@@ -77,7 +61,7 @@ returns-4 c =
     state-last l (at-if1 .if1 .left)
     (sym (at-setup .setup-good .ensures) ∙ not-false (at-setup .setup-good .result) (at-if2 .if2 .left))
     (sym (at-head .head-good .ensures) ∙ not-false (at-head .head-good .result) (at-if3 .if3 .left))
-    (c .shapes-good .result) (shapes-are l (at-count .u8-at .result) (c .shapes-good .result) (at-count .u8-at .ensures) (c .shapes-good .ensures))
+    (c .shapes-good .result) (c .shapes-good .ensures)
 
 pub test-state-spec : {M : Type 1} → statement M
 test-state-spec =
@@ -91,8 +75,6 @@ test-state-spec =
     returns-2
     head-good-requires
     returns-3
-    u8-at-requires
-    cast-n
     sub-shapes-good
     part-shapes-good-start
     part-shapes-good-end

@@ -1,7 +1,4 @@
-use native.Mathlib.Omega.{arith}
-use mathlib.Core.Path.{sym, _∙_}
-use Rattle.layout.specs.Setups.{decShape}
-use Rattle.layout.specs.SetupLaws.{shape-number}
+use Rattle.layout.specs.Setups.{shapeIn}
 use borrow.Author.Needs.{needs}
 use Rattle.layout.proofs.instance_at.Statement.{statement}
 use Rattle.layout.proofs.instance_at.Tie as tie
@@ -16,8 +13,8 @@ u16-at-requires : tie.Need-u16-at-requires
 u16-at-requires c κs = search needs
 
 returns : tie.Need-returns
-unfolding decShape
-returns c = let a = c .before .before .args in c .u16-at .ensures ∙ sym (shape-number 2 0 (a .r .now) (a .i) (omega arith))
+unfolding shapeIn
+returns c = c .u16-at .ensures
 
 pub instance-at-spec : {M : Type 1} → statement M
 instance-at-spec = tie.close (tie.spec mul-u16-at add-u16-at u16-at-requires returns)

@@ -1,13 +1,8 @@
-use native.Mathlib.Omega.{arith}
-use mathlib.Core.Path.{ap, sym, _∙_}
-use Rattle.layout.specs.Setups.{decShape, kindNamed}
-use Rattle.layout.specs.SetupLaws.{shape-number}
+use mathlib.Core.Path.{ap, _∙_}
+use Rattle.layout.specs.Setups.{shapeIn, kindNamed}
 use borrow.Author.Needs.{needs}
 use Rattle.layout.proofs.kind_at.Statement.{statement}
 use Rattle.layout.proofs.kind_at.Tie as tie
-
-mul-u8-at : tie.Need-mul-u8-at
-mul-u8-at c = search needs
 
 add-u8-at : tie.Need-add-u8-at
 add-u8-at c = search needs
@@ -19,8 +14,8 @@ kind-named-requires : tie.Need-kind-named-requires
 kind-named-requires c κs = search needs
 
 returns : tie.Need-returns
-unfolding decShape
-returns c = let a = c .before .before .before .args in c .kind-named .ensures ∙ ap kindNamed (c .before .u8-at .ensures ∙ sym (shape-number 1 4 (a .r .now) (a .i) (omega arith)))
+unfolding shapeIn
+returns c = c .kind-named .ensures ∙ ap kindNamed (c .before .u8-at .ensures)
 
 pub kind-at-spec : {M : Type 1} → statement M
-kind-at-spec = tie.close (tie.spec mul-u8-at add-u8-at u8-at-requires kind-named-requires returns)
+kind-at-spec = tie.close (tie.spec add-u8-at u8-at-requires kind-named-requires returns)

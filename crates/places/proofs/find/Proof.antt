@@ -6,9 +6,9 @@ use lib.ListN.{drop}
 use Rattle.rules.specs.Lists.{place}
 use Rattle.rules.specs.Checks.{isAt}
 use Rattle.rules.specs.Host.{kindTest}
-use Rattle.layout.specs.Setups.{decShape, shapesOf}
-use Rattle.layout.specs.Places.{shapesAt, assembliesOf}
-use Rattle.searches.specs.Searches.{later, later-zero, search-hit, search-miss, search-ends}
+use Rattle.layout.specs.Setups.{shapeIn, shapesOf}
+use Rattle.layout.specs.SetupLaws.{shapes-rest, shapes-end}
+use Rattle.searches.specs.Searches.{later, later-zero, list-hit, list-miss, list-ends}
 use Rattle.places.proofs.find.Statement.{statement}
 use Rattle.places.proofs.find.Tie as tie
 
@@ -33,7 +33,7 @@ is-at-requires c κs = let e = c .before .before .u8-at .ensures in let p = c .b
 returns : tie.Need-returns Inv-loop μ-loop
 returns c =
     let a = c .before .before .before .before .before .before .args in let w = c .before .before .before .loop in let e = c .before .before .before .before .u8-at .ensures in
-    sym (w .inv .1 ∙ search-hit 5 decShape (isAt (kindTest (a .kind)) (a .instance)) (assembliesOf (a .r .now)) (drop shapesAt (a .r .now)) (w .i) (omega arith) (sym (c .before .is-at .ensures) ∙ c .if1 .taken))
+    sym (w .inv .1 ∙ list-hit (isAt (kindTest (a .kind)) (a .instance)) (shapesOf (a .r .now)) (w .i) (shapeIn (a .r .now) (w .i)) (shapes-rest (a .r .now) (w .i) (omega arith)) (sym (c .before .is-at .ensures) ∙ c .if1 .taken))
 
 add-i : tie.Need-add-i Inv-loop μ-loop
 add-i c = omega arith
@@ -44,12 +44,12 @@ loop-less c = omega arith
 loop-again : tie.Need-loop-again Inv-loop μ-loop
 loop-again c =
     let a = c .before .before .before .before .before .before .args in let w = c .before .before .before .loop in let e = c .before .before .before .before .u8-at .ensures in
-    (omega arith, w .inv .1 ∙ search-miss 5 decShape (isAt (kindTest (a .kind)) (a .instance)) (assembliesOf (a .r .now)) (drop shapesAt (a .r .now)) (w .i) (omega arith) (sym (c .before .is-at .ensures) ∙ c .if1 .left))
+    (omega arith, w .inv .1 ∙ list-miss (isAt (kindTest (a .kind)) (a .instance)) (shapesOf (a .r .now)) (w .i) (shapeIn (a .r .now) (w .i)) (shapes-rest (a .r .now) (w .i) (omega arith)) (sym (c .before .is-at .ensures) ∙ c .if1 .left))
 
 returns-2 : tie.Need-returns-2 Inv-loop μ-loop
 returns-2 c =
     let a = c .before .before .before .before .args in let w = c .before .loop in let e = c .before .before .u8-at .ensures in
-    sym (w .inv .1 ∙ search-ends 5 decShape (isAt (kindTest (a .kind)) (a .instance)) (assembliesOf (a .r .now)) (drop shapesAt (a .r .now)) (w .i) (omega arith))
+    sym (w .inv .1 ∙ list-ends (isAt (kindTest (a .kind)) (a .instance)) (shapesOf (a .r .now)) (w .i) (shapes-end (a .r .now) (w .i) (omega arith)))
 
 pub find-spec : {M : Type 1} → statement M
 find-spec =

@@ -3,7 +3,7 @@ use Prim.Native.Nat.{ℕ}
 use mathlib.Core.List.{List}
 use mathlib.Core.Path.{ap, sym, _∙_}
 use borrow.Author.Tests.{not-true, not-false}
-use Rattle.starting.specs.Given.{long-block, short-eds}
+use Rattle.starting.specs.Given.{long-block, few, short-eds}
 use Rattle.starting.specs.Calls.{other-size, bad-setup, set-up}
 use borrow.Author.Needs.{needs}
 use Rattle.adapter.proofs.start.threshtide_setup.Statement.{statement}
@@ -25,7 +25,7 @@ begin-requires : tie.Need-begin-requires
 begin-requires c κs =
     let a = c .before .before .before .before .before .before .before .args in
     let ok = sym (c .before .before .accept .ensures) ∙ not-false (c .before .before .accept .result) (c .before .if2 .left) in
-    (omega arith, long-block (a .block .now) (a .eds .now) ok, short-eds (a .block .now) (a .eds .now) ok)
+    (omega arith, long-block (a .block .now) (a .eds .now) ok, few (a .block .now) (a .eds .now) ok, short-eds (a .block .now) (a .eds .now) ok)
 
 same-length : tie.Need-same-length
 same-length c = search needs

@@ -5,7 +5,7 @@ use lib.ListN.{drop}
 use borrow.Author.Tests.{not-true, not-false}
 use Rattle.cells.specs.Back.{all}
 use Rattle.tables.specs.Tables.{rows}
-use Rattle.layout.specs.Places.{shapesAt}
+use Rattle.starting.specs.Block.{shapesAt}
 use Rattle.image.specs.TestLaws.{walk-stops, walk-on, walk-ends}
 use Rattle.starting.specs.Shapes.{shapeGiven}
 use Rattle.starting.proofs.shapes.shapes_given.Statement.{statement}
