@@ -2,7 +2,7 @@
 use application::answers;
 ghost use mathlib.Core.Path.{_≡_};
 ghost use Rattle.rules.specs.Host.{setInputCall, outputCall, assemblyAnswer, nextEventCall, connectionsAnswer, statsAnswer};
-ghost use Rattle.layout.specs.Places.{stateSize};
+ghost use Rattle.state_rules.specs.Places.{stateSize};
 ghost use Rattle.image.specs.Lift.{lifted, liftedOut, liftedRead};
 
 // How many bytes a host has to lend as the state.

@@ -7,10 +7,10 @@ use native.Mathlib.Omega.{arith}
 use lib.ListN.{length, take, drop}
 use Rattle.cells.specs.Back.{Bytes}
 use Rattle.rules.specs.State.{Shape, shapeAt, contentAt}
-use Rattle.layout.specs.Setups.{shapeIn}
-use Rattle.layout.specs.Places.{dataFrom, markAt, assembliesOf}
-use Rattle.layout.specs.Bits.{runIn}
-use Rattle.image.specs.Image.{view, tested}
+use Rattle.state_rules.specs.Setups.{shapeIn}
+use Rattle.state_rules.specs.Places.{dataFrom, markAt, assembliesOf}
+use Rattle.state_rules.specs.Bits.{runIn}
+use Rattle.state_rules.specs.Image.{view, tested}
 use Rattle.image.specs.Holds.{Holds, holds-tested, slotted-tested, assemblies-held, shape-held, run-held, bytes-held}
 
 module _ (s : List ℕ) (t : tested s ≡ true) (b : Bytes s) (i : ℕ) (p : i < assembliesOf s) where

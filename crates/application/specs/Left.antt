@@ -16,7 +16,7 @@ use Rattle.rules.specs.Events.{oldestGone}
 use Rattle.rules.specs.Checks.{placeOf}
 use Rattle.rules.specs.Host.{filled, setInputAt, inputSet, setInputAnswer, setInputEffect, setInputCall, read, outputRead, outputAnswer, outputEffect, outputCall, nextEventEffect, nextEventAnswer, nextEventCall}
 use Rattle.rules.specs.State.{isInput, isOutput}
-use Rattle.image.specs.Image.{view, tested}
+use Rattle.state_rules.specs.Image.{view, tested}
 use Rattle.image.specs.Fits.{Suits}
 use Rattle.image.specs.ViewLaws.{suits-view}
 use Rattle.image.specs.Passes.{tested-store}

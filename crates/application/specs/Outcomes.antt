@@ -4,7 +4,7 @@ use mathlib.Core.Bool.{true}
 use mathlib.Core.List.{List}
 use mathlib.Core.Path.{_≡_}
 use Rattle.rules.specs.Answers.{No, noNumber}
-use Rattle.image.specs.Image.{tested}
+use Rattle.state_rules.specs.Image.{tested}
 use Rattle.image.specs.Holds.{Ready, Slotted}
 use Rattle.application.specs.declared.answers.Outcome.{Outcome}
 use Rattle.application.specs.declared.answers.Outcome.the-variants.{Done, Wrote, NoAssembly, TooLong, NoRoom, NothingThere}

@@ -9,7 +9,7 @@ use borrow.Author.Tests.{le-leb, lt-leb}
 use Rattle.cells.specs.Back.{Bytes}
 use Rattle.rules.specs.State.{State}
 use Rattle.rules.specs.Answers.{Answer, Done, Wrote, Refused, No, NoRoom, noNumber, answerNumber, answerBytes, fitting}
-use Rattle.image.specs.Image.{view, store, tested}
+use Rattle.state_rules.specs.Image.{view, store, tested}
 use Rattle.image.specs.ViewLaws.{store-view}
 use Rattle.image.specs.Holds.{ready-tested, slotted-tested}
 use Rattle.application.specs.Outcomes.{Passed}

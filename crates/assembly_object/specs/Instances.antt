@@ -13,10 +13,10 @@ use Rattle.rules.specs.State.{Shape}
 use Rattle.wire_rules.specs.declared.FirstAttribute.{FirstAttribute}
 use Rattle.rules.specs.Attributes.{Attributes, single}
 use Rattle.rules.specs.Objects.{largestInstance, assemblyClass, assemblyPlace, assemblyObject, assembly}
-use Rattle.layout.specs.Places.{setupIn}
-use Rattle.layout.specs.Listed.{listed, listed-rest, listed-end}
-use Rattle.layout.specs.Setups.{shapeIn, setupFrom, setupOf, shapesOf}
-use Rattle.image.specs.Image.{view}
+use Rattle.state_rules.specs.Places.{setupIn}
+use Rattle.state_rules.specs.Listed.{listed, listed-rest, listed-end}
+use Rattle.state_rules.specs.Setups.{shapeIn, setupFrom, setupOf, shapesOf}
+use Rattle.state_rules.specs.Image.{view}
 use Rattle.layout.specs.Searched.{placeIn}
 use Rattle.layout.specs.declared.Found.{Found}
 use Rattle.attributes.specs.declared.Given.{Given}

@@ -12,11 +12,11 @@ ghost use Rattle.rules.specs.Lists.{place};
 ghost use Rattle.rules.specs.State.{contentAt};
 ghost use Rattle.rules.specs.Attributes.{valueOf, single};
 ghost use Rattle.rules.specs.Objects.{largestInstance, assemblyClass, assemblyAttributes, assembly};
-ghost use Rattle.layout.specs.Setups.{shapeIn, setupFrom, shapesOf};
-ghost use Rattle.image.specs.Image.{view};
+ghost use Rattle.state_rules.specs.Setups.{shapeIn, setupFrom, shapesOf};
+ghost use Rattle.state_rules.specs.Image.{view};
 ghost use Rattle.application.specs.Outcomes.{Passed};
 ghost use Rattle.layout.specs.Searched.{placeIn};
-ghost use Rattle.layout.specs.Places.{setupSize, assembliesOf};
+ghost use Rattle.state_rules.specs.Places.{setupSize, assembliesOf};
 ghost use Rattle.attributes.specs.Told.{told};
 ghost use Rattle.assembly_object.specs.Instances.{hasInstance};
 

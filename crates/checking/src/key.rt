@@ -10,8 +10,8 @@ ghost use lib.Dec.{ltb};
 ghost use lib.ListN.{length};
 ghost use Rattle.wire_rules.specs.Transport.{compatibleBit};
 ghost use Rattle.rules.specs.Checks.{anyOr, revisionOk, keyStop, keyCheck};
-ghost use Rattle.layout.specs.Setups.{identityOf};
-ghost use Rattle.layout.specs.Places.{setupSize};
+ghost use Rattle.state_rules.specs.Setups.{identityOf};
+ghost use Rattle.state_rules.specs.Places.{setupSize};
 ghost use Rattle.checking.specs.Says.{stopIn};
 
 fn any_or(ours: u16, asked: u16) -> bool

@@ -12,8 +12,8 @@ ghost use lib.Dec.{leb};
 ghost use lib.ListN.{length};
 ghost use Rattle.rules.specs.declared.Stop.the-variants.{PathBarred};
 ghost use Rattle.rules.specs.Checks.{must, transportCheck, rpiCheck, isPoint, isMulticast, typeCheck};
-ghost use Rattle.layout.specs.Setups.{setupFrom};
-ghost use Rattle.layout.specs.Places.{setupSize};
+ghost use Rattle.state_rules.specs.Setups.{setupFrom};
+ghost use Rattle.state_rules.specs.Places.{setupSize};
 ghost use Rattle.checking.specs.Says.{stopIn};
 
 // Check 1.

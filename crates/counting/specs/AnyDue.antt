@@ -14,8 +14,8 @@ use Rattle.rules.specs.Producing.{dueBy, due}
 use Rattle.rules.specs.declared.Conn.{Conn}
 use Rattle.rules.specs.declared.Due.{Due}
 use Rattle.rules.specs.declared.Due.the-variants.{Never, At}
-use Rattle.layout.specs.Places.{rowSize}
-use Rattle.layout.specs.Rows.{ofDue, rowAt, decSent, decConn, connsIn}
+use Rattle.state_rules.specs.Places.{rowSize}
+use Rattle.state_rules.specs.Rows.{ofDue, rowAt, decSent, decConn, connsIn}
 
 reached-by : (v t : ℕ) (d : Due) → v ≤ 18446744073709551615 → t < 9223372036854775808 → (v + 1) % 18446744073709551616 ≡ ofDue d → leb v t ≡ dueBy t d
 reached-by v t Never hv ht e = lt-leb v t (omega arith)

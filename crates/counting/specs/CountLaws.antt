@@ -18,9 +18,9 @@ use Rattle.rules.specs.Producing.{dueBy, due, lateBy, lateLimit, delays, greate
 use Rattle.rules.specs.declared.Conn.{Conn}
 use Rattle.rules.specs.declared.Due.{Due}
 use Rattle.rules.specs.declared.Due.the-variants.{Never, At}
-use Rattle.layout.specs.Places.{tableIn, stateSize, connectionsOf, maxLateOf}
-use Rattle.layout.specs.Setups.{setupOf}
-use Rattle.layout.specs.Rows.{decFixed, decSent, rowAt}
+use Rattle.state_rules.specs.Places.{tableIn, stateSize, connectionsOf, maxLateOf}
+use Rattle.state_rules.specs.Setups.{setupOf}
+use Rattle.state_rules.specs.Rows.{decFixed, decSent, rowAt}
 use Rattle.image.specs.Holds.{Holds, conns-held, setup-held, maxLate-held}
 use Rattle.image.specs.Updates.{noConn}
 use Rattle.packets.specs.Steps.{Data}

@@ -8,8 +8,8 @@ ghost use Rattle.cells.specs.Numbers.{le};
 ghost use Rattle.cells.specs.Records.{ofBool};
 ghost use Rattle.rules.specs.Lists.{any};
 ghost use Rattle.rules.specs.Producing.{due};
-ghost use Rattle.layout.specs.Places.{tableSize, connectionsOf};
-ghost use Rattle.layout.specs.Rows.{connsIn};
+ghost use Rattle.state_rules.specs.Places.{tableSize, connectionsOf};
+ghost use Rattle.state_rules.specs.Rows.{connsIn};
 ghost use Rattle.image.specs.Holds.{Ready, Slotted};
 ghost use Rattle.counting.specs.Tallies.{limitOf, added, Tallies, Totals};
 

@@ -10,8 +10,8 @@ use Rattle.cells.specs.Numbers.{put, bytesLe}
 use Rattle.cells.specs.Records.{encFields, putFields-eq, puts, done, step}
 use Rattle.rules.specs.Answers.{Wrote, NoRoom}
 use Rattle.rules.specs.Host.{statsBytes, statsAnswer}
-use Rattle.layout.specs.Places.{producedOf, lateOf, maxLateOf}
-use Rattle.image.specs.Image.{view, tested}
+use Rattle.state_rules.specs.Places.{producedOf, lateOf, maxLateOf}
+use Rattle.state_rules.specs.Image.{view, tested}
 use Rattle.image.specs.Lift.{liftedRead}
 use Rattle.application.specs.Ways.{fits-in, fits-not, read-wrote, read-no}
 

@@ -17,8 +17,8 @@ use Rattle.rules.specs.Answers.{Wrote, Refused, NothingThere, fitting, answerNu
 use Rattle.rules.specs.declared.Due.{Due}
 use Rattle.rules.specs.declared.Due.the-variants.{Never, At}
 use Rattle.rules.specs.Removal.{dueOr, deadlineOf, leastOf, deadline, deadlineAnswer}
-use Rattle.layout.specs.Places.{tableIn, rowSize, connectionsOf}
-use Rattle.layout.specs.Rows.{ofDue, decHeard, decSent, decConn, connAt, connsIn}
+use Rattle.state_rules.specs.Places.{tableIn, rowSize, connectionsOf}
+use Rattle.state_rules.specs.Rows.{ofDue, decHeard, decSent, decConn, connAt, connsIn}
 use Rattle.image.specs.Holds.{Holds, conns-held, table-held}
 use Rattle.deadlines.specs.Reading.{Answered, Answers}
 

@@ -4,8 +4,8 @@ ghost use mathlib.Core.Option.{some};
 ghost use Prim.Native.Nat.{ℕ, _+_, _*_, _≤_, _<_, min};
 ghost use lib.ListN.{length};
 ghost use Rattle.rules.specs.Removal.{deadlineOf, deadline, deadlineAnswer};
-ghost use Rattle.layout.specs.Rows.{connAt, connsIn};
-ghost use Rattle.layout.specs.Places.{tableSize};
+ghost use Rattle.state_rules.specs.Rows.{connAt, connsIn};
+ghost use Rattle.state_rules.specs.Places.{tableSize};
 ghost use Rattle.image.specs.Holds.{Ready};
 ghost use Rattle.deadlines.specs.Reading.{Answers};
 

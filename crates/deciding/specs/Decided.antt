@@ -20,8 +20,8 @@ use Rattle.rules.specs.declared.Verdict.the-variants.{Stopped, Planned}
 use Rattle.rules.specs.Lists.{maybe}
 use Rattle.rules.specs.State.{Setup}
 use Rattle.rules.specs.Checks.{Roles, must, firstStop, pathCheck, pathIn, keyCheck, pointsCheck, rolesOf, configCheck, rpiCheck, typeCheck, otSizeCheck, toSizeCheck, triadCheck, ownerCheck, streamCheck, roomCheck, storesInto}
-use Rattle.layout.specs.Setups.{goodShapes}
-use Rattle.layout.specs.Places.{setupSize, tableSize, assembliesOf}
+use Rattle.state_rules.specs.Setups.{goodShapes}
+use Rattle.state_rules.specs.Places.{setupSize, tableSize, assembliesOf}
 use Rattle.streams.specs.Joining.{streamStop}
 
 -- what the decision asks of the setup's region, and of the table's with n rows in use

@@ -19,10 +19,10 @@ use Rattle.rules.specs.declared.Verdict.the-variants.{Stopped, Planned}
 use Rattle.rules.specs.State.{Setup, fixeds}
 use Rattle.rules.specs.Lists.{maybe}
 use Rattle.rules.specs.Checks.{Roles, firstStop, transportCheck, pathCheck, pathIn, keyCheck, kindOf, placeOf, pointsCheck, rolesOf, configStop, configCheck, rpiCheck, typeCheck, otSizeCheck, toSizeCheck, triadCheck, ownerCheck, streamOf, streamCheck, roomCheck, storesInto, planOf, verdict}
-use Rattle.layout.specs.Places.{setupIn, tableIn, edsIn, rowSize, connectionsOf}
-use Rattle.layout.specs.Rows.{decFixed, connsIn, fixedsIn}
-use Rattle.layout.specs.Setups.{identityOf, setupFrom, setupOf}
-use Rattle.image.specs.Image.{view, tested}
+use Rattle.state_rules.specs.Places.{setupIn, tableIn, edsIn, rowSize, connectionsOf}
+use Rattle.state_rules.specs.Rows.{decFixed, connsIn, fixedsIn}
+use Rattle.state_rules.specs.Setups.{identityOf, setupFrom, setupOf}
+use Rattle.state_rules.specs.Image.{view, tested}
 use Rattle.image.specs.Fits.{few-assemblies, is-long, is-sound, few-conns, shapes-good}
 use Rattle.image.specs.StoreLaws.{length-setupIn, length-tableIn}
 use Rattle.deciding.specs.Decided.{Regions}

@@ -24,7 +24,7 @@ use Rattle.ids.specs.declared.Triad.{Triad}
 use Rattle.wire_rules.specs.declared.CloseAnswer.{CloseAnswer}
 use Rattle.wire_rules.specs.declared.CloseAnswer.the-variants.{Close, NoClose}
 use Rattle.wire_rules.specs.Opens.{closeOf}
-use Rattle.image.specs.Image.{view, store, tested}
+use Rattle.state_rules.specs.Image.{view, store, tested}
 use Rattle.image.specs.RowsFit.{RowsFit, fits-change, fits-keep}
 use Rattle.image.specs.Fits.{Suits}
 use Rattle.image.specs.Updates.{noConn}

@@ -24,9 +24,9 @@ use Rattle.rules.specs.Answers.{No, BadTime, NotParsed, NoRoom, NothingThere, n
 use Rattle.rules.specs.Removal.{connTriad, closed, closeFor, closeBy, closeAnswer, closeEffect, closeCall, expireEffect, expireAnswer, expireCall}
 use Rattle.rules.specs.declared.Conn.{Conn}
 use Rattle.ids.specs.declared.Triad.{Triad}
-use Rattle.layout.specs.Places.{tableIn, connectionsOf}
-use Rattle.layout.specs.Rows.{connsIn}
-use Rattle.image.specs.Image.{view, store, tested}
+use Rattle.state_rules.specs.Places.{tableIn, connectionsOf}
+use Rattle.state_rules.specs.Rows.{connsIn}
+use Rattle.state_rules.specs.Image.{view, store, tested}
 use Rattle.image.specs.Updates.{noConn}
 use Rattle.image.specs.Holds.{Held, held-tested}
 use Rattle.image.specs.Lift.{lifted, liftedOut, lifted-done, lifted-kept, out-done, out-kept}

@@ -8,10 +8,10 @@ use lib.ListN.{length}
 use Rattle.rules.specs.Lists.{repeat, any}
 use Rattle.rules.specs.State.{State, withFault}
 use Rattle.rules.specs.Removal.{expired, expiredFirst, expireEffect}
-use Rattle.layout.specs.Places.{tableIn, connectionsOf}
-use Rattle.layout.specs.Rows.{connsIn}
+use Rattle.state_rules.specs.Places.{tableIn, connectionsOf}
+use Rattle.state_rules.specs.Rows.{connsIn}
 use Rattle.layout.specs.declared.Found.the-variants.{Nowhere}
-use Rattle.image.specs.Image.{store}
+use Rattle.state_rules.specs.Image.{store}
 use Rattle.image.specs.Holds.{Held, Becomes, conns-held}
 use Rattle.image.specs.Kept.{suits-fault}
 use Rattle.lookup.specs.RowTests.{foundOf, never-place}

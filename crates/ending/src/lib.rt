@@ -3,7 +3,7 @@ use ids::Triad;
 use layout::Found;
 ghost use mathlib.Core.Path.{_≡_};
 ghost use Prim.Native.Nat.{_<_};
-ghost use Rattle.layout.specs.Places.{connectionsOf};
+ghost use Rattle.state_rules.specs.Places.{connectionsOf};
 ghost use Rattle.image.specs.Holds.{Ready};
 ghost use Rattle.removal.specs.Turns.{Fewer};
 ghost use Rattle.removal.specs.Removals.{Ends};

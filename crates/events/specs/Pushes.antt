@@ -9,9 +9,9 @@ use Rattle.rules.specs.State.{Setup, State, withEvents}
 use Rattle.rules.specs.Events.{infoOf, infoRecord, eventRecord, pushed}
 use Rattle.rules.specs.declared.Event.{Event}
 use Rattle.rules.specs.declared.Fixed.{Fixed}
-use Rattle.layout.specs.Places.{setupIn}
-use Rattle.layout.specs.Setups.{setupFrom}
-use Rattle.image.specs.Image.{store}
+use Rattle.state_rules.specs.Places.{setupIn}
+use Rattle.state_rules.specs.Setups.{setupFrom}
+use Rattle.state_rules.specs.Image.{store}
 use Rattle.image.specs.Fits.{Suits}
 use Rattle.image.specs.Holds.{Becomes, setup-held}
 use Rattle.image.specs.Changes.{eventPushed, suits-pushed}

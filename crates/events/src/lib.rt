@@ -1,7 +1,7 @@
 // One event more in the list of the lent state: the record of 32 bytes that the host reads, of a connection or of an assembly.
 use rules::Fixed;
 ghost use mathlib.Core.Path.{_≡_};
-ghost use Rattle.layout.specs.Places.{connectionsOf};
+ghost use Rattle.state_rules.specs.Places.{connectionsOf};
 ghost use Rattle.image.specs.Holds.{Ready, Becomes};
 ghost use Rattle.image.specs.Kept.{Kept};
 ghost use Rattle.events.specs.Pushes.{told, assemblyTold};

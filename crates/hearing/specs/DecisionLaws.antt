@@ -12,8 +12,8 @@ use Rattle.rules.specs.State.{isOwner}
 use Rattle.rules.specs.Receiving.{ahead, newer}
 use Rattle.rules.specs.declared.Kind.{Kind}
 use Rattle.rules.specs.declared.Heard.{Heard}
-use Rattle.layout.specs.Rows.{decFixed, decConn, connAt}
-use Rattle.layout.specs.Places.{rowSize}
+use Rattle.state_rules.specs.Rows.{decFixed, decConn, connAt}
+use Rattle.state_rules.specs.Places.{rowSize}
 use Rattle.searches.specs.Searches.{search-miss}
 use Rattle.hearing.specs.Decisions.{hasId, hears, idInFour, placeFrom}
 

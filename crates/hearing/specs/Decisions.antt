@@ -8,7 +8,7 @@ use lib.ListN.{drop}
 use Rattle.ids.specs.declared.OtId.{OtId}
 use Rattle.rules.specs.Lists.{place}
 use Rattle.rules.specs.declared.Conn.{Conn}
-use Rattle.layout.specs.Rows.{connAt, connsIn}
+use Rattle.state_rules.specs.Rows.{connAt, connsIn}
 use Rattle.searches.specs.Searches.{later}
 
 -- the connection with that O→T id

@@ -11,10 +11,10 @@ ghost use lib.ListN.{length};
 ghost use Rattle.rules.specs.Lists.{place};
 ghost use Rattle.rules.specs.State.{isOwner};
 ghost use Rattle.rules.specs.Receiving.{newer};
-ghost use Rattle.layout.specs.Rows.{connAt, connsIn};
+ghost use Rattle.state_rules.specs.Rows.{connAt, connsIn};
 ghost use Rattle.hearing.specs.Decisions.{hears, idInFour, placeFrom};
 ghost use Rattle.layout.specs.Searched.{placeIn};
-ghost use Rattle.layout.specs.Places.{tableSize};
+ghost use Rattle.state_rules.specs.Places.{tableSize};
 
 fn is_for(r: &[u8], i: usize, id: OtId, from: u32) -> bool
     requires { ⌜ (i < 32) × (tableSize ≤ length (now r)) ⌝ }

@@ -12,7 +12,7 @@ use Rattle.rules.specs.Answers.{Answer}
 use Rattle.rules.specs.Setup.{fresh}
 use Rattle.rules.specs.Calls
 use Rattle.rules.specs.Calls.{Call, answer, next, run}
-use Rattle.image.specs.Image.{view, tested}
+use Rattle.state_rules.specs.Image.{view, tested}
 use Rattle.isolation.specs.Demand.{Same-expiries, Answered-alike, All-answered-alike, Never-owned, other, demand-3, inputs-equal}
 use Rattle.starting.specs.Block.{setupGiven, setupCall}
 use Rattle.starting.specs.Calls.{setup-fresh}

@@ -35,8 +35,8 @@ use Rattle.rules.specs.Receiving.{newer, recorded, hear, taken, changes, delive
 use Rattle.rules.specs.Host.{outputAnswer, outputEffect, outputCall}
 use Rattle.rules.specs.Calls.{answer, run}
 use Rattle.rules.proofs.Examples.{setup, start, owner, heard}
-use Rattle.layout.specs.Places.{marksAt, stateSize}
-use Rattle.image.specs.Image.{view}
+use Rattle.state_rules.specs.Places.{marksAt, stateSize}
+use Rattle.state_rules.specs.Image.{view}
 use Rattle.image.specs.Lift.{lifted, liftedOut}
 use Rattle.lastword.specs.Clearing.{Heard-lately}
 use Rattle.starting.specs.Block.{decShape, markedBlock, setupGiven, kindGiven, accepted, started, setupCall}

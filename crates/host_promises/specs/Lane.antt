@@ -19,7 +19,7 @@ use Rattle.rules.specs.Setup.{fresh}
 use Rattle.rules.specs.Checks.{placeOf}
 use Rattle.rules.specs.Calls
 use Rattle.rules.specs.Calls.{Call, answer, next, run}
-use Rattle.image.specs.Image.{view, tested}
+use Rattle.state_rules.specs.Image.{view, tested}
 use Rattle.steps.specs.Steps.{log, News, Opening, Closing, Hearing, Expiring, Nothing, news, learnt, history, history-next, run-next}
 use Rattle.lastword.specs.Words.{Word, wordOf, noWord, inRun, holds, opens, early}
 use Rattle.lastword.specs.LastWord.{lane-obeys, host-reads-the-word}

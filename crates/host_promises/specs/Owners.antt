@@ -21,10 +21,10 @@ use Rattle.rules.specs.Removal.{expired, expireAnswer, expireCall}
 use Rattle.rules.specs.Host.{outputBytes, outputAt, outputAnswer, outputCall}
 use Rattle.rules.specs.Calls
 use Rattle.rules.specs.Calls.{next, run}
-use Rattle.layout.specs.Places.{setupIn, marksIn, dataIn, marksAt, connectionsOf, assembliesOf}
-use Rattle.layout.specs.Setups.{setupOf}
-use Rattle.layout.specs.Bits.{runIn}
-use Rattle.image.specs.Image.{view, tested, contentsOf}
+use Rattle.state_rules.specs.Places.{setupIn, marksIn, dataIn, marksAt, connectionsOf, assembliesOf}
+use Rattle.state_rules.specs.Setups.{setupOf}
+use Rattle.state_rules.specs.Bits.{runIn}
+use Rattle.state_rules.specs.Image.{view, tested, contentsOf}
 use Rattle.image.specs.Fits.{few-assemblies, length-assemblies, is-sound}
 use Rattle.image.specs.TestLaws.{assemblies-in}
 use Rattle.faults.specs.RunBit.{ownerOf, Owned, run-has-owner, run-is-heard}

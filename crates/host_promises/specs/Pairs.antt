@@ -8,7 +8,7 @@ use Rattle.rules.specs.Lists.{any}
 use Rattle.rules.specs.State.{State}
 use Rattle.rules.specs.Calls
 use Rattle.rules.specs.Calls.{Call, next, run}
-use Rattle.image.specs.Image.{view, tested}
+use Rattle.state_rules.specs.Image.{view, tested}
 use Rattle.ids.specs.declared.Triad.{Triad}
 use Rattle.rules.specs.declared.Conn.{Conn}
 use Rattle.isolation.specs.Survive.{in-table}

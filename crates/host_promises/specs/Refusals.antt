@@ -14,9 +14,9 @@ use Rattle.rules_laws.specs.ListLaws.{by-cases}
 use Rattle.rules.specs.State.{State}
 use Rattle.rules.specs.Answers.{Answer, Done, Wrote, Accepted, Gone, Refused, Failed, isYes, answerNumber, answerBytes}
 use Rattle.rules.specs.Message.{messageAnswer, messageCall}
-use Rattle.layout.specs.Places.{stateSize}
+use Rattle.state_rules.specs.Places.{stateSize}
 use Rattle.routing.specs.Answered.{answered}
-use Rattle.image.specs.Image.{view, store, tested}
+use Rattle.state_rules.specs.Image.{view, store, tested}
 use Rattle.image.specs.ViewLaws.{store-view}
 use Rattle.image.specs.Lift.{lifted-fails, lifted-passes, out-fails, read-fails}
 use Rattle.starting.specs.Block.{accepted}

@@ -9,9 +9,9 @@ use Rattle.tables.specs.Tables.{rows, row-at, length-rows}
 use Rattle.rules.specs.Lists.{any}
 use Rattle.rules_laws.specs.ListLaws.{by-cases}
 use Rattle.rules.specs.State.{State}
-use Rattle.layout.specs.Places.{tableIn, stateSize, rowSize, waitingOf, connectionsOf}
-use Rattle.layout.specs.Rows.{decConn, connAt, connsIn}
-use Rattle.image.specs.Image.{view}
+use Rattle.state_rules.specs.Places.{tableIn, stateSize, rowSize, waitingOf, connectionsOf}
+use Rattle.state_rules.specs.Rows.{decConn, connAt, connsIn}
+use Rattle.state_rules.specs.Image.{view}
 use Rattle.image.specs.Fits.{is-long, few-events, few-conns}
 use Rattle.rules.specs.declared.Conn.{Conn}
 use Rattle.faults.specs.Streams.{All-fed, streams-are-fed}

@@ -13,7 +13,7 @@ use Rattle.rules.specs.State.{Setup, State}
 use Rattle.rules.specs.Answers.{Wrote, Refused, NoRoom, answerNumber}
 use Rattle.rules.specs.Message.{replyRoom, messageReply, messageAnswer}
 use Rattle.positions.specs.Positions.{decUpload}
-use Rattle.image.specs.Image.{view, tested}
+use Rattle.state_rules.specs.Image.{view, tested}
 use Rattle.messages.specs.Positions.{positionTested}
 use Rattle.messages.specs.Lifted.{liftedMessage}
 use Rattle.messages.specs.Accepted.{zeros-pass, message-accepted, message-bytes}

@@ -9,7 +9,7 @@ use Rattle.rules_laws.specs.ListLaws.{either-way}
 use Rattle.rules.specs.State.{Setup, State}
 use Rattle.rules.specs.Setup.{fresh}
 use Rattle.rules.specs.Calls.{Call, next, run}
-use Rattle.image.specs.Image.{view, tested}
+use Rattle.state_rules.specs.Image.{view, tested}
 use Rattle.starting.specs.Block.{setupGiven, accepted, setupCall}
 use Rattle.starting.specs.Calls.{setup-fresh}
 use Rattle.host_runs.specs.Contracts.{Said, Met, Answers}

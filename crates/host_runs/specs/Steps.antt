@@ -12,7 +12,7 @@ use Rattle.rules.specs.Answers.{Answer, answerNumber, answerBytes}
 use Rattle.rules.specs.Message.{messageCall}
 use Rattle.rules.specs.Calls.{answer, next}
 use Rattle.routing.specs.Answered.{answered}
-use Rattle.image.specs.Image.{view, store, tested}
+use Rattle.state_rules.specs.Image.{view, store, tested}
 use Rattle.image.specs.Fits.{Suits, is-long}
 use Rattle.image.specs.ViewLaws.{suits-view, view-store}
 use Rattle.image.specs.Passes.{tested-store}

@@ -7,9 +7,9 @@ use Rattle.cells.specs.Numbers.{le, bytesLe}
 use Rattle.rules.specs.State.{Identity}
 use Rattle.rules.specs.Attributes.{Attributes, shortString}
 use Rattle.rules.specs.Objects.{identityStatus, identityAttributes}
-use Rattle.layout.specs.Places.{setupIn}
-use Rattle.layout.specs.Setups.{identityOf, setupOf}
-use Rattle.image.specs.Image.{view, tested}
+use Rattle.state_rules.specs.Places.{setupIn}
+use Rattle.state_rules.specs.Setups.{identityOf, setupOf}
+use Rattle.state_rules.specs.Image.{view, tested}
 use Rattle.image.specs.Fits.{is-sound, short-name}
 
 abbrev pub identityTable : Identity → ℕ → Attributes

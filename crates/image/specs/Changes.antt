@@ -18,12 +18,12 @@ use Rattle.rules.specs.State.{Content, Events, State, contentAt, withContents, 
 use Rattle.rules.specs.declared.Conn.{Conn}
 use Rattle.rules.specs.declared.Heard.{Heard}
 use Rattle.rules.specs.declared.Sent.{Sent}
-use Rattle.layout.specs.Places.{tableIn, marksAt, tableAt, tableSize, eventsAt, dataFrom, rowSize, nextIdAt, ringAt, connectionsAt, ringWordOf, connectionsOf, markAt, assembliesOf}
-use Rattle.layout.specs.Rows.{encConn, encHeard, encSent}
-use Rattle.layout.specs.Cut.{cut}
-use Rattle.layout.specs.RowLaws.{bit-small}
-use Rattle.layout.specs.Bits.{wordOf, markOver}
-use Rattle.image.specs.Image.{store}
+use Rattle.state_rules.specs.Places.{tableIn, marksAt, tableAt, tableSize, eventsAt, dataFrom, rowSize, nextIdAt, ringAt, connectionsAt, ringWordOf, connectionsOf, markAt, assembliesOf}
+use Rattle.state_rules.specs.Rows.{encConn, encHeard, encSent}
+use Rattle.state_rules.specs.Cut.{cut}
+use Rattle.state_rules.specs.RowLaws.{bit-small}
+use Rattle.state_rules.specs.Bits.{wordOf, markOver}
+use Rattle.state_rules.specs.Image.{store}
 use Rattle.image.specs.Fits.{Suits}
 use Rattle.image.specs.Updates.{noConn, produced-stored, late-stored, maxLate-stored, nextId-stored, fault-stored, heard-stored, sent-stored, appended-stored, removed-stored}
 use Rattle.image.specs.Writes.{withBytes, bytes-stored, mark-stored, pushed-stored, pushed-full-stored}

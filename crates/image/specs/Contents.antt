@@ -7,8 +7,8 @@ use lib.ListN.{length, getD, take, drop, set, length-append, length-drop, take-a
 use lib.Seq.{length-take-le, take-at, drop-at}
 use Rattle.tables.specs.Slots.{storeSlots, fill-own, length-fill}
 use Rattle.rules.specs.State.{Shape, Content, noShape, noContent}
-use Rattle.layout.specs.Bits.{runIn, notifiedIn, mark-own, mark-twice, run-of-mark, notified-of-mark}
-use Rattle.image.specs.Image.{contentsOf, record32, markOn, marksOver, bytesOf}
+use Rattle.state_rules.specs.Bits.{runIn, notifiedIn, mark-own, mark-twice, run-of-mark, notified-of-mark}
+use Rattle.state_rules.specs.Image.{contentsOf, record32, markOn, marksOver, bytesOf}
 use Rattle.image.specs.Fits.{Records32, none, one}
 
 -- ---- marks over those that were

@@ -11,12 +11,12 @@ use Rattle.cells.specs.Numbers.{le}
 use Rattle.cells.specs.Back.{all, all-at}
 use Rattle.tables.specs.Ring.{by-cases}
 use Rattle.rules.specs.State.{State, noShape, shapeAt, contentAt}
-use Rattle.layout.specs.Places.{setupIn, stateSize, nextIdOf, ringWordOf, ringBound, firstOf, waitingOf, connectionsOf, assembliesOf}
-use Rattle.layout.specs.Setups.{shapeIn, setupOf, testsSetup, goodSetup, goodShapes}
-use Rattle.layout.specs.SetupLaws.{length-shapes, shape-of, shape-short}
-use Rattle.layout.specs.Bits.{word-fits}
+use Rattle.state_rules.specs.Places.{setupIn, stateSize, nextIdOf, ringWordOf, ringBound, firstOf, waitingOf, connectionsOf, assembliesOf}
+use Rattle.state_rules.specs.Setups.{shapeIn, setupOf, testsSetup, goodSetup, goodShapes}
+use Rattle.state_rules.specs.SetupLaws.{length-shapes, shape-of, shape-short}
+use Rattle.state_rules.specs.Bits.{word-fits}
 use Rattle.image.specs.RowsFit.{RowsFit}
-use Rattle.image.specs.Image.{goodHead, testsHead, testsState, tested}
+use Rattle.state_rules.specs.Image.{goodHead, testsHead, testsState, tested}
 
 -- each record of a list has 32 bytes
 pub data Records32 : List (List ℕ) → Type 0 where

@@ -13,13 +13,13 @@ use Rattle.tables.specs.Tables.{rows, length-rows}
 use Rattle.tables.specs.Store.{row-stored}
 use Rattle.tables.specs.Slots.{slot-at}
 use Rattle.rules.specs.State.{Setup, State, noContent, shapeAt, contentAt}
-use Rattle.layout.specs.Places.{setupIn, marksIn, tableIn, dataIn, setupSize, dataFrom, dataSize, stateSize, rowSize, instancesAt, sizesAt, kindsAt, nextIdOf, ringWordOf, firstOf, waitingOf, faultOf, connectionsOf, producedOf, lateOf, maxLateOf, markAt, assembliesOf}
-use Rattle.layout.specs.Setups.{setupOf, shapeIn, kindNamed}
-use Rattle.layout.specs.SetupLaws.{shape-short}
-use Rattle.layout.specs.Rows.{decConn, encConn, connAt, connsIn}
-use Rattle.layout.specs.RowLaws.{length-encConn, dec-encConn}
-use Rattle.layout.specs.Bits.{wordOf, runIn, notifiedIn}
-use Rattle.image.specs.Image.{view, store, tested, bytesOf, marksOf, tableOf, dataOf}
+use Rattle.state_rules.specs.Places.{setupIn, marksIn, tableIn, dataIn, setupSize, dataFrom, dataSize, stateSize, rowSize, instancesAt, sizesAt, kindsAt, nextIdOf, ringWordOf, firstOf, waitingOf, faultOf, connectionsOf, producedOf, lateOf, maxLateOf, markAt, assembliesOf}
+use Rattle.state_rules.specs.Setups.{setupOf, shapeIn, kindNamed}
+use Rattle.state_rules.specs.SetupLaws.{shape-short}
+use Rattle.state_rules.specs.Rows.{decConn, encConn, connAt, connsIn}
+use Rattle.state_rules.specs.RowLaws.{length-encConn, dec-encConn}
+use Rattle.state_rules.specs.Bits.{wordOf, runIn, notifiedIn}
+use Rattle.state_rules.specs.Image.{view, store, tested, bytesOf, marksOf, tableOf, dataOf}
 use Rattle.image.specs.RowsFit.{fits-at}
 use Rattle.image.specs.Fits.{Suits, few-assemblies, shape-at, is-long, is-sound, shapes-good, few-conns, few-events}
 use Rattle.image.specs.Contents.{run-over, notified-over}

@@ -13,10 +13,10 @@ use Rattle.cells.specs.Numbers.{le, put, bytesLe, length-put, le-same, le-put-s
 use Rattle.tables.specs.Tables.{without}
 use Rattle.rules.specs.State.{Content, Counters, Events, State, noContent, contentAt, withContents, withTable, withEvents, withFault, withNextId, withCounters}
 use Rattle.rules.specs.declared.Conn.{Conn}
-use Rattle.layout.specs.Setups.{shapeIn}
-use Rattle.layout.specs.Places.{marksAt, tableAt, tableSize, stateSize, ringAt, ringBound, connectionsAt, connectionsOf, assembliesOf}
-use Rattle.layout.specs.Rows.{RowFits}
-use Rattle.layout.specs.Bits.{word-fits}
+use Rattle.state_rules.specs.Setups.{shapeIn}
+use Rattle.state_rules.specs.Places.{marksAt, tableAt, tableSize, stateSize, ringAt, ringBound, connectionsAt, connectionsOf, assembliesOf}
+use Rattle.state_rules.specs.Rows.{RowFits}
+use Rattle.state_rules.specs.Bits.{word-fits}
 use Rattle.image.specs.RowsFit.{RowsFit, fits-at, fits-same, fits-set, fits-append, fits-without}
 use Rattle.image.specs.Fits.{Records32, none, one, Fits, Suits}
 use Rattle.image.specs.Updates.{noConn}

@@ -1,4 +1,3 @@
-pub mod Image
 pub mod RowsFit
 pub mod Fits
 pub mod Contents

@@ -10,7 +10,7 @@ use Rattle.cells.specs.Pick.{pick}
 use Rattle.cells.specs.Back.{Bytes}
 use Rattle.rules.specs.State.{State}
 use Rattle.rules.specs.Answers.{Answer, answerNumber, answerBytes}
-use Rattle.image.specs.Image.{view, store, tested}
+use Rattle.state_rules.specs.Image.{view, store, tested}
 use Rattle.image.specs.Fits.{Suits}
 use Rattle.image.specs.ViewLaws.{store-view, view-store}
 use Rattle.image.specs.Passes.{tested-store}

@@ -5,9 +5,9 @@ use mathlib.Core.List.{List}
 use mathlib.Core.Path.{_≡_, ap, sym, _∙_}
 use lib.ListN.{length}
 use Rattle.rules.specs.State.{State}
-use Rattle.layout.specs.Setups.{goodSetup, goodShapes}
-use Rattle.layout.specs.Bits.{word-small}
-use Rattle.image.specs.Image.{goodHead, tested, store}
+use Rattle.state_rules.specs.Setups.{goodSetup, goodShapes}
+use Rattle.state_rules.specs.Bits.{word-small}
+use Rattle.state_rules.specs.Image.{goodHead, tested, store}
 use Rattle.image.specs.Fits.{Suits}
 use Rattle.image.specs.StoreLaws.{length-store, setup-of-store, nextId-is, word-is, conns-is}
 use Rattle.image.specs.TestLaws.{head-passes, state-passes}

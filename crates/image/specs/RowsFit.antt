@@ -11,9 +11,9 @@ use Rattle.tables.specs.Ring.{by-cases}
 use Rattle.rules.specs.Lists.{keep, changeFirst}
 use Rattle.rules.specs.declared.Conn.{Conn}
 use Rattle.rules.specs.declared.Fixed.{Fixed}
-use Rattle.layout.specs.Places.{rowSize}
-use Rattle.layout.specs.Rows.{RoleFits, RowFits, encConn, decConn, connsIn}
-use Rattle.layout.specs.RowLaws.{length-encConn, dec-encConn, fits-decConn}
+use Rattle.state_rules.specs.Places.{rowSize}
+use Rattle.state_rules.specs.Rows.{RoleFits, RowFits, encConn, decConn, connsIn}
+use Rattle.state_rules.specs.RowLaws.{length-encConn, dec-encConn, fits-decConn}
 
 pub data RowsFit : List Conn → Type 0 where
   none : RowsFit []

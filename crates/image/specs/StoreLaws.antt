@@ -14,12 +14,12 @@ use Rattle.tables.specs.Ring.{length-ring}
 use Rattle.tables.specs.Slots.{Short, length-storeSlots}
 use Rattle.tables.specs.Regions.{joined, Sized, none, one, start, length-joined, region-at}
 use Rattle.rules.specs.State.{Setup, State, noContent, shapeAt, contentAt}
-use Rattle.layout.specs.Places.{widths, setupIn, headIn, wHead, marksIn, tableIn, ringIn, dataIn, edsIn, marksAt, tableAt, tableSize, eventsAt, eventsSize, dataFrom, dataSize, edsAt, stateSize, rowSize, headUsed, nextIdOf, ringWordOf, firstOf, waitingOf, connectionsOf, faultOf, producedOf, lateOf, maxLateOf, markAt, assembliesOf}
-use Rattle.layout.specs.Setups.{setupOf, setupFrom}
-use Rattle.layout.specs.Rows.{encConn}
-use Rattle.layout.specs.RowLaws.{length-encConn}
-use Rattle.layout.specs.Bits.{wordOf, waiting-of-word, first-of-word, fault-of-word}
-use Rattle.image.specs.Image.{listHead, bytesOf, record32, headOf, marksOf, tableOf, eventsOf, dataOf, regionsOf, store}
+use Rattle.state_rules.specs.Places.{widths, setupIn, headIn, wHead, marksIn, tableIn, ringIn, dataIn, edsIn, marksAt, tableAt, tableSize, eventsAt, eventsSize, dataFrom, dataSize, edsAt, stateSize, rowSize, headUsed, nextIdOf, ringWordOf, firstOf, waitingOf, connectionsOf, faultOf, producedOf, lateOf, maxLateOf, markAt, assembliesOf}
+use Rattle.state_rules.specs.Setups.{setupOf, setupFrom}
+use Rattle.state_rules.specs.Rows.{encConn}
+use Rattle.state_rules.specs.RowLaws.{length-encConn}
+use Rattle.state_rules.specs.Bits.{wordOf, waiting-of-word, first-of-word, fault-of-word}
+use Rattle.state_rules.specs.Image.{listHead, bytesOf, record32, headOf, marksOf, tableOf, eventsOf, dataOf, regionsOf, store}
 use Rattle.image.specs.Fits.{Suits, few-assemblies, length-assemblies, size-short}
 use Rattle.image.specs.Contents.{length-marksOver}
 

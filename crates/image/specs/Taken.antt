@@ -11,9 +11,9 @@ use Rattle.cells.specs.Back.{Bytes}
 use Rattle.tables.specs.Ring.{storeRing, ringOf, length-ringOf, store-ring}
 use Rattle.tables.specs.Regions.{joined}
 use Rattle.rules.specs.State.{Events, State, withEvents}
-use Rattle.layout.specs.Places.{setupIn, headIn, wHead, ringIn, edsIn, headUsed, ringAt, firstOf, waitingOf, faultOf}
-use Rattle.layout.specs.Bits.{wordOf}
-use Rattle.image.specs.Image.{record32, asIs, view, listHead, headOf, marksOf, tableOf, eventsOf, dataOf, regionsOf, store, tested}
+use Rattle.state_rules.specs.Places.{setupIn, headIn, wHead, ringIn, edsIn, headUsed, ringAt, firstOf, waitingOf, faultOf}
+use Rattle.state_rules.specs.Bits.{wordOf}
+use Rattle.state_rules.specs.Image.{record32, asIs, view, listHead, headOf, marksOf, tableOf, eventsOf, dataOf, regionsOf, store, tested}
 use Rattle.image.specs.Fits.{is-long, first-slot}
 use Rattle.image.specs.Contents.{record32-own}
 use Rattle.image.specs.StoreLaws.{sized, length-ringIn, slot-long}

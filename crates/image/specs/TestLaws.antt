@@ -10,10 +10,10 @@ use borrow.Author.Tests.{le-leb, lt-leb, le-ltb, lt-ltb, eq-eqb, ne-eqb}
 use Rattle.cells.specs.Numbers.{le, le-take}
 use Rattle.cells.specs.Back.{all, all-fails}
 use Rattle.tables.specs.Tables.{rows, rows-rest, rows-end}
-use Rattle.layout.specs.Places.{setupIn, stateSize, nextIdOf, ringWordOf, ringBound, connectionsOf, assembliesOf}
-use Rattle.layout.specs.Setups.{shapeIn, testsSetup, goodSetup, testsShapes, goodShapes}
-use Rattle.layout.specs.Listed.{listed-rest, listed-end}
-use Rattle.image.specs.Image.{testsHead, goodHead, testsState, tested}
+use Rattle.state_rules.specs.Places.{setupIn, stateSize, nextIdOf, ringWordOf, ringBound, connectionsOf, assembliesOf}
+use Rattle.state_rules.specs.Setups.{shapeIn, testsSetup, goodSetup, testsShapes, goodShapes}
+use Rattle.state_rules.specs.Listed.{listed-rest, listed-end}
+use Rattle.state_rules.specs.Image.{testsHead, goodHead, testsState, tested}
 
 -- ---- the setup, the head, the whole
 

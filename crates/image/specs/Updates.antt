@@ -20,12 +20,12 @@ use Rattle.rules.specs.State.{State, withTable, withFault, withNextId, withCoun
 use Rattle.rules.specs.declared.Conn.{Conn}
 use Rattle.rules.specs.declared.Heard.{Heard}
 use Rattle.rules.specs.declared.Sent.{Sent}
-use Rattle.layout.specs.Places.{widths, setupIn, headIn, wHead, tableIn, edsIn, tableAt, tableSize, rowSize, headUsed, nextIdAt, ringAt, connectionsAt, connectionsOf}
-use Rattle.layout.specs.Rows.{encConn, encHeard, encSent, carriedOf, flagsOf, decConn}
-use Rattle.layout.specs.RowLaws.{length-encConn, length-encHeard, length-encSent, enc-heard, enc-sent, flags-stored, in-row, bit-small}
-use Rattle.layout.specs.Cut.{cut, length-cut}
-use Rattle.layout.specs.Bits.{wordOf}
-use Rattle.image.specs.Image.{listHead, headOf, marksOf, tableOf, eventsOf, dataOf, regionsOf, store}
+use Rattle.state_rules.specs.Places.{widths, setupIn, headIn, wHead, tableIn, edsIn, tableAt, tableSize, rowSize, headUsed, nextIdAt, ringAt, connectionsAt, connectionsOf}
+use Rattle.state_rules.specs.Rows.{encConn, encHeard, encSent, carriedOf, flagsOf, decConn}
+use Rattle.state_rules.specs.RowLaws.{length-encConn, length-encHeard, length-encSent, enc-heard, enc-sent, flags-stored, in-row, bit-small}
+use Rattle.state_rules.specs.Cut.{cut, length-cut}
+use Rattle.state_rules.specs.Bits.{wordOf}
+use Rattle.state_rules.specs.Image.{listHead, headOf, marksOf, tableOf, eventsOf, dataOf, regionsOf, store}
 use Rattle.image.specs.Fits.{Suits}
 use Rattle.image.specs.StoreLaws.{sized, table-of-store, length-tableIn, length-tableOf}
 

@@ -15,12 +15,12 @@ use Rattle.tables.specs.Ring.{ringOf, length-ringOf, store-ring}
 use Rattle.tables.specs.RingRead.{ring-read}
 use Rattle.tables.specs.Regions.{joined, start, regions, joined-regions, regions-at}
 use Rattle.rules.specs.State.{Shape, State}
-use Rattle.layout.specs.Places.{widths, setupIn, headIn, wHead, marksIn, tableIn, ringIn, dataIn, edsIn, headAt, tableAt, tableSize, eventsAt, eventsSize, stateSize, rowSize, headUsed, nextIdOf, ringWordOf, firstOf, waitingOf, connectionsOf, faultOf, producedOf, lateOf, maxLateOf}
-use Rattle.layout.specs.Setups.{setupOf}
-use Rattle.layout.specs.Rows.{decConn, encConn, rowAt, connsIn}
-use Rattle.layout.specs.RowLaws.{enc-decConn}
-use Rattle.layout.specs.Bits.{wordOf, of-to-word}
-use Rattle.image.specs.Image.{contentsOf, record32, asIs, view, listHead, headOf, marksOf, tableOf, eventsOf, dataOf, store, tested}
+use Rattle.state_rules.specs.Places.{widths, setupIn, headIn, wHead, marksIn, tableIn, ringIn, dataIn, edsIn, headAt, tableAt, tableSize, eventsAt, eventsSize, stateSize, rowSize, headUsed, nextIdOf, ringWordOf, firstOf, waitingOf, connectionsOf, faultOf, producedOf, lateOf, maxLateOf}
+use Rattle.state_rules.specs.Setups.{setupOf}
+use Rattle.state_rules.specs.Rows.{decConn, encConn, rowAt, connsIn}
+use Rattle.state_rules.specs.RowLaws.{enc-decConn}
+use Rattle.state_rules.specs.Bits.{wordOf, of-to-word}
+use Rattle.state_rules.specs.Image.{contentsOf, record32, asIs, view, listHead, headOf, marksOf, tableOf, eventsOf, dataOf, store, tested}
 use Rattle.image.specs.RowsFit.{rows-fit, rows-read}
 use Rattle.image.specs.Fits.{Records32, none, one, Fits, Suits, few-assemblies, length-assemblies, size-short, is-long, is-sound, some-id, first-slot, few-events, few-conns, shapes-good, lent}
 use Rattle.image.specs.Contents.{length-contentsOf, marks-back, data-back, sized-back, contents-back, length-record32, record32-own, records-back}

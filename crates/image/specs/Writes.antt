@@ -12,9 +12,9 @@ use Rattle.tables.specs.Slots.{storeSlots, slots-set}
 use Rattle.tables.specs.Regions.{joined, start, sized-set}
 use Rattle.tables.specs.RegionWrites.{region-sets}
 use Rattle.rules.specs.State.{Content, State, noContent, contentAt, withContents, withEvents}
-use Rattle.layout.specs.Places.{setupIn, headIn, wHead, marksIn, ringIn, dataIn, edsIn, marksAt, eventsAt, eventsSize, dataFrom, headUsed, ringAt, markAt}
-use Rattle.layout.specs.Bits.{wordOf}
-use Rattle.image.specs.Image.{listHead, markOn, marksOver, bytesOf, record32, headOf, marksOf, tableOf, eventsOf, dataOf, regionsOf, store}
+use Rattle.state_rules.specs.Places.{setupIn, headIn, wHead, marksIn, ringIn, dataIn, edsIn, marksAt, eventsAt, eventsSize, dataFrom, headUsed, ringAt, markAt}
+use Rattle.state_rules.specs.Bits.{wordOf}
+use Rattle.state_rules.specs.Image.{listHead, markOn, marksOver, bytesOf, record32, headOf, marksOf, tableOf, eventsOf, dataOf, regionsOf, store}
 use Rattle.image.specs.Fits.{Suits}
 use Rattle.image.specs.Contents.{marks-set, length-record32, record32-own}
 use Rattle.image.specs.StoreLaws.{sized, few-contents, short-bytes, room, length-eventsOf, mark-is}

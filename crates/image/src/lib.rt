@@ -3,9 +3,9 @@ ghost use mathlib.Core.Path.{_≡_};
 ghost use mathlib.Core.Bool.{_&&_};
 ghost use Prim.Native.Nat.{ℕ, _≤_, _<_};
 ghost use lib.ListN.{length};
-ghost use Rattle.layout.specs.Setups.{goodSetup, goodShapes};
-ghost use Rattle.layout.specs.Places.{setupSize, stateSize};
-ghost use Rattle.image.specs.Image.{goodHead, tested};
+ghost use Rattle.state_rules.specs.Setups.{goodSetup, goodShapes};
+ghost use Rattle.state_rules.specs.Places.{setupSize, stateSize};
+ghost use Rattle.state_rules.specs.Image.{goodHead, tested};
 
 pub const STATE_SIZE: usize = 109056;
 

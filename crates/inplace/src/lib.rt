@@ -13,9 +13,9 @@ ghost use lib.ListN.{length};
 ghost use lib.Seq.{sets};
 ghost use Rattle.cells.specs.Numbers.{le};
 ghost use Rattle.cells.specs.Records.{putFields, ofBool};
-ghost use Rattle.layout.specs.Cut.{cut};
-ghost use Rattle.layout.specs.Rows.{wSent, wHeard, wFixed, wLow, wHigh, ofDue, roleOf, listSent, listHeard, listFixed, encSent, encHeard, encConn};
-ghost use Rattle.layout.specs.Places.{tableSize, rowSize};
+ghost use Rattle.state_rules.specs.Cut.{cut};
+ghost use Rattle.state_rules.specs.Rows.{wSent, wHeard, wFixed, wLow, wHigh, ofDue, roleOf, listSent, listHeard, listFixed, encSent, encHeard, encConn};
+ghost use Rattle.state_rules.specs.Places.{tableSize, rowSize};
 
 // ---- numbers for what is no number
 

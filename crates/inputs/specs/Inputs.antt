@@ -14,9 +14,9 @@ use Rattle.rules.specs.State.{Content, noContent, shapeAt, withContents}
 use Rattle.rules.specs.Answers.{Done, Refused, NoAssembly, TooLong, settled}
 use Rattle.rules.specs.Checks.{placeOf}
 use Rattle.rules.specs.Host.{filled, setInputAt, inputSet, setInputAnswer, setInputEffect, setInputCall, kindTest}
-use Rattle.layout.specs.Setups.{shapeIn, setupOf}
-use Rattle.layout.specs.Places.{dataFrom, assembliesOf}
-use Rattle.image.specs.Image.{view, store, tested}
+use Rattle.state_rules.specs.Setups.{shapeIn, setupOf}
+use Rattle.state_rules.specs.Places.{dataFrom, assembliesOf}
+use Rattle.state_rules.specs.Image.{view, store, tested}
 use Rattle.image.specs.Holds.{Holds, holds-tested}
 use Rattle.image.specs.Changes.{bytesAs, bytes-put}
 use Rattle.image.specs.Lift.{lifted}

@@ -6,7 +6,7 @@ ghost use Prim.Native.Nat.{_+_, _≤_, _<_};
 ghost use lib.ListN.{replicate};
 ghost use lib.Seq.{sets};
 ghost use Rattle.rules.specs.Host.{setInputCall};
-ghost use Rattle.layout.specs.Places.{assembliesOf};
+ghost use Rattle.state_rules.specs.Places.{assembliesOf};
 ghost use Rattle.image.specs.Lift.{lifted};
 ghost use Rattle.application.specs.Outcomes.{outcomeNumber, Passed};
 ghost use Rattle.application.specs.Places.{inputSetAt};

@@ -15,10 +15,10 @@ ghost use Prim.Native.Nat.{ℕ, _*_, _≤_, _<_};
 ghost use lib.ListN.{length};
 ghost use Rattle.cells.specs.Records.{toBool};
 ghost use Rattle.rules.specs.State.{isOwner, isListener};
-ghost use Rattle.layout.specs.Places.{setupSize, marksAt, tableAt, tableSize, rowSize, firstOf, waitingOf, faultOf, markAt};
-ghost use Rattle.layout.specs.Bits.{runIn, notifiedIn};
-ghost use Rattle.layout.specs.Setups.{kindNamed, shapeIn};
-ghost use Rattle.layout.specs.Rows.{rowAt, ofDue, toDue, kindIn, outputIn, multicastIn, inputIn, anyIn, anycipIn, decSent, decHeard, decFixed};
+ghost use Rattle.state_rules.specs.Places.{setupSize, marksAt, tableAt, tableSize, rowSize, firstOf, waitingOf, faultOf, markAt};
+ghost use Rattle.state_rules.specs.Bits.{runIn, notifiedIn};
+ghost use Rattle.state_rules.specs.Setups.{kindNamed, shapeIn};
+ghost use Rattle.state_rules.specs.Rows.{rowAt, ofDue, toDue, kindIn, outputIn, multicastIn, inputIn, anyIn, anycipIn, decSent, decHeard, decFixed};
 
 // ---- where the regions and their numbers stand, as specs/Places.antt has them
 

@@ -17,10 +17,10 @@ use Rattle.rules.specs.declared.Fixed.{Fixed}
 use Rattle.rules.specs.Answers.{Wrote, NoRoom}
 use Rattle.rules.specs.Events.{infoOf, infoRecord}
 use Rattle.rules.specs.Host.{connectionBytes, connectionsAnswer}
-use Rattle.layout.specs.Places.{setupIn, tableIn, rowSize, connectionsOf}
-use Rattle.layout.specs.Setups.{setupOf, setupFrom}
-use Rattle.layout.specs.Rows.{decConn, decFixed, rowAt, connsIn}
-use Rattle.image.specs.Image.{view, tested}
+use Rattle.state_rules.specs.Places.{setupIn, tableIn, rowSize, connectionsOf}
+use Rattle.state_rules.specs.Setups.{setupOf, setupFrom}
+use Rattle.state_rules.specs.Rows.{decConn, decFixed, rowAt, connsIn}
+use Rattle.state_rules.specs.Image.{view, tested}
 use Rattle.image.specs.Updates.{noConn}
 use Rattle.image.specs.Lift.{liftedRead}
 use Rattle.records.specs.Fields.{length-info}

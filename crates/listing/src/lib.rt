@@ -5,7 +5,7 @@ ghost use Prim.Native.Nat.{ℕ, _+_, _*_, _≤_, _<_};
 ghost use lib.ListN.{length};
 ghost use lib.Seq.{sets};
 ghost use Rattle.rules.specs.Host.{connectionsAnswer};
-ghost use Rattle.layout.specs.Places.{connectionsOf};
+ghost use Rattle.state_rules.specs.Places.{connectionsOf};
 ghost use Rattle.image.specs.Lift.{liftedRead};
 ghost use Rattle.image.specs.Holds.{Ready};
 ghost use Rattle.application.specs.Outcomes.{outcomeNumber, Passed};

@@ -12,8 +12,8 @@ use Rattle.rules_laws.specs.ListLaws.{by-cases}
 use Rattle.rules.specs.Lists.{any}
 use Rattle.rules.specs.Removal.{expired}
 use Rattle.rules.specs.declared.Conn.{Conn}
-use Rattle.layout.specs.Places.{rowSize}
-use Rattle.layout.specs.Rows.{rowAt, decHeard, decConn, connsIn}
+use Rattle.state_rules.specs.Places.{rowSize}
+use Rattle.state_rules.specs.Rows.{rowAt, decHeard, decConn, connsIn}
 
 below-least : (m u t : ℕ) → ltb (min m u) t ≡ ltb m t || ltb u t
 below-least m u t =

@@ -8,8 +8,8 @@ ghost use lib.ListN.{length};
 ghost use Rattle.tables.specs.Tables.{rows};
 ghost use Rattle.rules.specs.Lists.{place, any};
 ghost use Rattle.rules.specs.Removal.{inStream, feeds, expired, connTriad};
-ghost use Rattle.layout.specs.Rows.{connAt, connsIn};
-ghost use Rattle.layout.specs.Places.{tableSize};
+ghost use Rattle.state_rules.specs.Rows.{connAt, connsIn};
+ghost use Rattle.state_rules.specs.Places.{tableSize};
 ghost use Rattle.lookup.specs.RowTests.{foundOf};
 
 // ---- tests of a row, on the numbers that they need

@@ -32,8 +32,8 @@ use Rattle.rules.specs.Upload.{clamped, started, initiate, turnOf, advanced, tr
 use Rattle.rules.specs.Objects.{edsInstance, initiateUpload, uploadTransfer, edsFile, file}
 use Rattle.rules.specs.Message.{fileIn, ofClass, ofObject, ofRequest, messageOutcome, messageAnswer, messageCall}
 use Rattle.rules_laws.specs.ReplyLaws.{position-kept}
-use Rattle.layout.specs.Places.{setupIn, assembliesOf}
-use Rattle.image.specs.Image.{view, tested}
+use Rattle.state_rules.specs.Places.{setupIn, assembliesOf}
+use Rattle.state_rules.specs.Image.{view, tested}
 use Rattle.positions.specs.Positions.{wPosition, decUpload, lastNumber, anyLast, lastOffset, listPosition, heldIn, listUpload, encUpload, plain, plainList}
 use Rattle.positions.specs.PositionLaws.{read-none, read-under}
 use Rattle.messages.specs.Positions.{positionTested, position-ok, eds-none, eds-some, eds-long, mark-small, sized-tested}

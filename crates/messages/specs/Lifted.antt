@@ -14,7 +14,7 @@ use Rattle.rules.specs.Attributes.{Outcome}
 use Rattle.rules.specs.Answers.{Answer, answerNumber, answerBytes, Wrote, Refused, NoRoom}
 use Rattle.rules.specs.Message.{serviceOf, messageOutcome, messageReply, replyRoom, messageCall}
 use Rattle.rules_laws.specs.ReplyLaws.{no-room, always-replied}
-use Rattle.image.specs.Image.{view, tested}
+use Rattle.state_rules.specs.Image.{view, tested}
 use Rattle.positions.specs.Positions.{decUpload, encUpload}
 use Rattle.messages.specs.Positions.{positionTested}
 use Rattle.messages.specs.Replies.{replied}

@@ -21,9 +21,9 @@ use Rattle.rules.specs.Upload.{uploadOk}
 use Rattle.rules.specs.Objects.{fileAttributes, edsFile, file}
 use Rattle.rules.specs.Message.{fileIn}
 use Rattle.rules_laws.specs.ReplyLaws.{Sized}
-use Rattle.layout.specs.Places.{setupIn, edsIn, edsAt}
-use Rattle.layout.specs.Setups.{setupFrom, setupOf}
-use Rattle.image.specs.Image.{view, tested}
+use Rattle.state_rules.specs.Places.{setupIn, edsIn, edsAt}
+use Rattle.state_rules.specs.Setups.{setupFrom, setupOf}
+use Rattle.state_rules.specs.Image.{view, tested}
 use Rattle.image.specs.Fits.{is-sound, is-long, short-name, short-eds-name, short-eds, some-transfer}
 use Rattle.image.specs.StoreLaws.{length-edsIn, content-short}
 use Rattle.image.specs.ViewLaws.{suits-view}

@@ -13,7 +13,7 @@ ghost use lib.Seq.{sets};
 ghost use Rattle.rules.specs.Attributes.{statusNumber};
 ghost use Rattle.wire_rules.specs.Requests.{requestOf};
 ghost use Rattle.rules.specs.Message.{replyHead, fileIn, ofClass, ofObject, serviceOf, messageOutcome};
-ghost use Rattle.image.specs.Image.{view};
+ghost use Rattle.state_rules.specs.Image.{view};
 ghost use Rattle.application.specs.Outcomes.{Passed};
 ghost use Rattle.positions.specs.Positions.{decUpload};
 ghost use Rattle.uploads.specs.Lent.{stepped};

@@ -6,9 +6,9 @@ use Rattle.cells.specs.Numbers.{put}
 use Rattle.cells.specs.Records.{sum, encFields, putFields-eq, length-encFields, Puts, puts, done, step}
 use Rattle.rules.specs.Attributes.{Gives}
 use Rattle.rules.specs.Objects.{interface, ethernetAttributes}
-use Rattle.layout.specs.Places.{setupIn}
-use Rattle.layout.specs.Setups.{setupFrom, setupOf}
-use Rattle.image.specs.Image.{view}
+use Rattle.state_rules.specs.Places.{setupIn}
+use Rattle.state_rules.specs.Setups.{setupFrom, setupOf}
+use Rattle.state_rules.specs.Image.{view}
 use Rattle.attributes.specs.declared.Given as given
 use Rattle.attributes.specs.Told.{told}
 use Rattle.attributes.specs.Values.{gives}

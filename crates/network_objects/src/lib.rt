@@ -9,9 +9,9 @@ ghost use mathlib.Core.List.{[]};
 ghost use lib.ListN.{length};
 ghost use Rattle.rules.specs.Attributes.{Gives, valueOf, single};
 ghost use Rattle.rules.specs.Objects.{interface, tcpIpAttributes, tcpIp, ethernetAttributes, ethernetLink};
-ghost use Rattle.layout.specs.Setups.{setupFrom};
-ghost use Rattle.layout.specs.Places.{setupSize};
-ghost use Rattle.image.specs.Image.{view};
+ghost use Rattle.state_rules.specs.Setups.{setupFrom};
+ghost use Rattle.state_rules.specs.Places.{setupSize};
+ghost use Rattle.state_rules.specs.Image.{view};
 ghost use Rattle.application.specs.Outcomes.{Passed};
 ghost use Rattle.attributes.specs.Told.{told};
 

@@ -23,8 +23,8 @@ use Rattle.rules.specs.declared.Origin.{Origin}
 use Rattle.rules.specs.declared.Plan.{Plan}
 use Rattle.rules.specs.declared.Socket.{Socket}
 use Rattle.rules.specs.declared.Verdict.the-variants.{Planned}
-use Rattle.layout.specs.Places.{nextIdOf}
-use Rattle.image.specs.Image.{view, store, tested}
+use Rattle.state_rules.specs.Places.{nextIdOf}
+use Rattle.state_rules.specs.Image.{view, store, tested}
 use Rattle.image.specs.Holds.{holds-tested, nextId-held}
 use Rattle.image.specs.Lift.{liftedOut, out-done, out-kept}
 use Rattle.opening.specs.declared.making.Side.{Side}

@@ -24,8 +24,8 @@ use Rattle.rules.specs.declared.Stores.{Stores}
 use Rattle.rules.specs.declared.Stores.the-variants.{Nothing, Into}
 use Rattle.rules.specs.declared.Verdict.{Verdict}
 use Rattle.rules.specs.declared.Verdict.the-variants.{Stopped, Planned}
-use Rattle.layout.specs.Rows.{RoleFits, RowFits}
-use Rattle.image.specs.Image.{view, store, tested}
+use Rattle.state_rules.specs.Rows.{RoleFits, RowFits}
+use Rattle.state_rules.specs.Image.{view, store, tested}
 use Rattle.image.specs.Fits.{Suits}
 use Rattle.image.specs.ViewLaws.{suits-view}
 use Rattle.image.specs.Passes.{tested-store}

@@ -26,7 +26,7 @@ use Rattle.rules.specs.declared.Plan.{Plan}
 use Rattle.rules.specs.declared.Stop.{Stop}
 use Rattle.rules.specs.declared.Verdict.{Verdict}
 use Rattle.rules.specs.declared.Verdict.the-variants.{Stopped, Planned}
-use Rattle.image.specs.Image.{view, store, tested}
+use Rattle.state_rules.specs.Image.{view, store, tested}
 use Rattle.image.specs.Lift.{liftedOut, out-kept}
 use Rattle.opening.specs.Steps.{planCall}
 

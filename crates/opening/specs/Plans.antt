@@ -30,9 +30,9 @@ use Rattle.rules.specs.declared.Plan.{Plan}
 use Rattle.rules.specs.declared.Stores.{Stores}
 use Rattle.rules.specs.declared.Stores.the-variants.{Nothing, Into}
 use Rattle.rules.specs.declared.Verdict.the-variants.{Planned}
-use Rattle.image.specs.Image.{view, tested}
+use Rattle.state_rules.specs.Image.{view, tested}
 use Rattle.image.specs.Fits.{Suits}
-use Rattle.layout.specs.Rows.{RoleFits}
+use Rattle.state_rules.specs.Rows.{RoleFits}
 use Rattle.searches.specs.Searches.{place-in}
 use Rattle.image.specs.StoreLaws.{content-short, few-contents}
 use Rattle.image.specs.ViewLaws.{suits-view}

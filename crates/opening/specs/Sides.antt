@@ -22,7 +22,7 @@ use Rattle.rules.specs.declared.Stream.the-variants.{Joins, Own}
 use Rattle.rules.specs.Checks.{asksMulticast}
 use Rattle.rules.specs.Opening.{afterId, pointDest, groupDest, sideOf, firstDue, sideAt, newFixed, newHeard, newConn}
 use Rattle.rules.specs.Opening
-use Rattle.layout.specs.Rows.{ofDue, RoleFits, RowFits}
+use Rattle.state_rules.specs.Rows.{ofDue, RoleFits, RowFits}
 use Rattle.opening.specs.declared.making.Side.{Side}
 
 -- a side as the rules say it

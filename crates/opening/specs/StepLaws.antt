@@ -16,10 +16,10 @@ use Rattle.rules.specs.declared.Origin.{Origin}
 use Rattle.rules.specs.declared.Plan.{Plan}
 use Rattle.rules.specs.declared.Stores.{Stores}
 use Rattle.rules.specs.declared.Stores.the-variants.{Nothing, Into}
-use Rattle.layout.specs.Setups.{shapeIn}
-use Rattle.layout.specs.Rows.{RowFits}
-use Rattle.layout.specs.Places.{connectionsOf, assembliesOf}
-use Rattle.image.specs.Image.{store}
+use Rattle.state_rules.specs.Setups.{shapeIn}
+use Rattle.state_rules.specs.Rows.{RowFits}
+use Rattle.state_rules.specs.Places.{connectionsOf, assembliesOf}
+use Rattle.state_rules.specs.Image.{store}
 use Rattle.image.specs.Fits.{Suits}
 use Rattle.image.specs.Writes.{withBytes}
 use Rattle.image.specs.Holds.{Holds, Becomes, conns-held, shape-held}

@@ -17,9 +17,9 @@ use Rattle.rules.specs.declared.Plan.{Plan}
 use Rattle.rules.specs.declared.Stores.{Stores}
 use Rattle.rules.specs.declared.Stores.the-variants.{Nothing, Into}
 use Rattle.rules.specs.declared.Verdict.the-variants.{Planned}
-use Rattle.layout.specs.Rows.{RoleFits}
-use Rattle.layout.specs.Places.{connectionsOf, assembliesOf}
-use Rattle.image.specs.Image.{view}
+use Rattle.state_rules.specs.Rows.{RoleFits}
+use Rattle.state_rules.specs.Places.{connectionsOf, assembliesOf}
+use Rattle.state_rules.specs.Image.{view}
 use Rattle.image.specs.Holds.{Holds}
 use Rattle.image.specs.Changes.{rowAdded, bytesAs}
 use Rattle.events.specs.Pushes.{eventTold}

@@ -11,7 +11,7 @@ ghost use Prim.Native.Nat.{ℕ, _+_, _≤_, _<_};
 ghost use lib.ListN.{length};
 ghost use Rattle.rules.specs.Checks.{pathIn};
 ghost use Rattle.rules.specs.Opening.{pathBytes};
-ghost use Rattle.image.specs.Image.{tested};
+ghost use Rattle.state_rules.specs.Image.{tested};
 ghost use Rattle.image.specs.Lift.{liftedOut};
 ghost use Rattle.opening.specs.Calls.{pathCall};
 

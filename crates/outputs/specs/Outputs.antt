@@ -15,10 +15,10 @@ use Rattle.rules.specs.State.{Content, noContent, contentAt, withContents}
 use Rattle.rules.specs.Answers.{Answer, Wrote, Refused, NoAssembly, NoRoom, settled}
 use Rattle.rules.specs.Checks.{placeOf}
 use Rattle.rules.specs.Host.{read, outputBytes, outputAt, outputRead, outputAnswer, outputEffect, outputCall, kindTest, assemblyAt, assemblyAnswer}
-use Rattle.layout.specs.Setups.{shapeIn, setupOf}
-use Rattle.layout.specs.Places.{dataFrom, markAt, assembliesOf}
-use Rattle.layout.specs.Bits.{runIn}
-use Rattle.image.specs.Image.{view, store, tested}
+use Rattle.state_rules.specs.Setups.{shapeIn, setupOf}
+use Rattle.state_rules.specs.Places.{dataFrom, markAt, assembliesOf}
+use Rattle.state_rules.specs.Bits.{runIn}
+use Rattle.state_rules.specs.Image.{view, store, tested}
 use Rattle.image.specs.Holds.{Holds, Becomes, holds-tested}
 use Rattle.image.specs.Kept.{byte-of}
 use Rattle.image.specs.Changes.{markAs}

@@ -4,7 +4,7 @@ use layout::Found;
 ghost use mathlib.Core.Path.{_≡_};
 ghost use Prim.Native.Nat.{_<_};
 ghost use Rattle.rules.specs.Host.{outputCall, assemblyAnswer};
-ghost use Rattle.layout.specs.Places.{assembliesOf};
+ghost use Rattle.state_rules.specs.Places.{assembliesOf};
 ghost use Rattle.image.specs.Lift.{liftedOut, liftedRead};
 ghost use Rattle.application.specs.Outcomes.{outcomeNumber, Passed};
 ghost use Rattle.application.specs.Places.{assemblyReadAt, outputReadAt};

@@ -24,9 +24,9 @@ use Rattle.rules.specs.declared.Due.{Due}
 use Rattle.rules.specs.declared.Due.the-variants.{At}
 use Rattle.rules.specs.declared.Fixed.{Fixed}
 use Rattle.rules.specs.declared.Sent.{Sent}
-use Rattle.layout.specs.Setups.{shapeIn}
-use Rattle.layout.specs.Rows.{ofDue}
-use Rattle.layout.specs.Places.{dataFrom, assembliesOf}
+use Rattle.state_rules.specs.Setups.{shapeIn}
+use Rattle.state_rules.specs.Rows.{ofDue}
+use Rattle.state_rules.specs.Places.{dataFrom, assembliesOf}
 use Rattle.image.specs.Holds.{assemblies-held, shape-held, bytes-held}
 use Rattle.packets.specs.Steps.{stepped, head, frameBytes, packetOf, Data}
 

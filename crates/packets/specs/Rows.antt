@@ -9,8 +9,8 @@ use Rattle.rules.specs.State.{Content, State}
 use Rattle.rules.specs.Producing.{due, sent, inputBytes, frameSent, packet}
 use Rattle.rules.specs.declared.Conn.{Conn}
 use Rattle.rules.specs.declared.Sent.{Sent}
-use Rattle.layout.specs.Places.{tableIn, connectionsOf}
-use Rattle.layout.specs.Rows.{connAt}
+use Rattle.state_rules.specs.Places.{tableIn, connectionsOf}
+use Rattle.state_rules.specs.Rows.{connAt}
 use Rattle.image.specs.Holds.{Holds, conns-held, conn-held}
 use Rattle.image.specs.Updates.{noConn}
 use Rattle.packets.specs.Steps.{stepped, head, packetOf}

@@ -9,8 +9,8 @@ ghost use lib.ListN.{length};
 ghost use lib.Seq.{sets};
 ghost use Rattle.cells.specs.Records.{ofBool};
 ghost use Rattle.rules.specs.Producing.{dueBy, nextTime, nextDue};
-ghost use Rattle.layout.specs.Rows.{ofDue};
-ghost use Rattle.layout.specs.Places.{stateSize};
+ghost use Rattle.state_rules.specs.Rows.{ofDue};
+ghost use Rattle.state_rules.specs.Places.{stateSize};
 ghost use Rattle.image.specs.Holds.{Ready, Slotted};
 ghost use Rattle.packets.specs.Steps.{stepped, head, packetOf, Data};
 

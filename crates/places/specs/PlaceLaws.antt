@@ -12,9 +12,9 @@ use Rattle.rules.specs.declared.AssemblyKind.the-variants.{Input, Output, Confi
 use Rattle.rules.specs.State.{Shape, noShape}
 use Rattle.rules.specs.Checks.{isAt, placeOf}
 use Rattle.rules.specs.Host.{kindTest}
-use Rattle.layout.specs.Places.{setupIn, assembliesOf}
-use Rattle.layout.specs.Setups.{setupOf, shapesOf}
-use Rattle.layout.specs.SetupLaws.{length-shapes}
+use Rattle.state_rules.specs.Places.{setupIn, assembliesOf}
+use Rattle.state_rules.specs.Setups.{setupOf, shapesOf}
+use Rattle.state_rules.specs.SetupLaws.{length-shapes}
 use Rattle.image.specs.TestLaws.{assemblies-in}
 use Rattle.layout.specs.Searched.{placeIn}
 use Rattle.layout.specs.declared.Found.{Found}

@@ -7,9 +7,9 @@ ghost use lib.ListN.{length};
 ghost use Rattle.rules.specs.Lists.{place};
 ghost use Rattle.rules.specs.Checks.{isAt};
 ghost use Rattle.rules.specs.Host.{kindTest};
-ghost use Rattle.layout.specs.Setups.{shapeIn, shapesOf};
+ghost use Rattle.state_rules.specs.Setups.{shapeIn, shapesOf};
 ghost use Rattle.layout.specs.Searched.{placeIn};
-ghost use Rattle.layout.specs.Places.{setupSize, assembliesOf};
+ghost use Rattle.state_rules.specs.Places.{setupSize, assembliesOf};
 
 fn is_kind(k: AssemblyKind, kind: u8) -> bool
     ensures { λ r. ⌜ r ≡ kindTest kind k ⌝ }

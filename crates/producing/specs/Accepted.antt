@@ -9,7 +9,7 @@ use Rattle.rules_laws.specs.ListLaws.{either-way}
 use Rattle.rules.specs.State.{State}
 use Rattle.rules.specs.Answers.{isYes}
 use Rattle.rules.specs.Producing.{sends, delays, counters, produceAnswer, produceEffect, produceCall}
-use Rattle.image.specs.Image.{view, store, tested}
+use Rattle.state_rules.specs.Image.{view, store, tested}
 use Rattle.image.specs.RowsFit.{fits-map}
 use Rattle.image.specs.Fits.{Suits}
 use Rattle.image.specs.ViewLaws.{suits-view}

@@ -16,9 +16,9 @@ use Rattle.rules.specs.Answers.{Answer, Wrote, Refused, BadTime, NoRoom, answer
 use Rattle.rules.specs.Producing.{due, sends, delays, counted, counters, packets, produceAnswer, produceEffect, produceCall}
 use Rattle.rules.specs.declared.Conn.{Conn}
 use Rattle.rules_laws.specs.ListLaws.{clash}
-use Rattle.layout.specs.Places.{tableIn, connectionsOf, producedOf, lateOf}
-use Rattle.layout.specs.Rows.{connsIn}
-use Rattle.image.specs.Image.{store}
+use Rattle.state_rules.specs.Places.{tableIn, connectionsOf, producedOf, lateOf}
+use Rattle.state_rules.specs.Rows.{connsIn}
+use Rattle.state_rules.specs.Image.{store}
 use Rattle.image.specs.Holds.{Becomes, table-held, produced-held, late-held}
 use Rattle.image.specs.Changes.{countersAs}
 use Rattle.counting.specs.declared.Tally.{Tally}

@@ -7,7 +7,7 @@ use lib.Seq.{sets}
 use Rattle.rules.specs.State.{State, withTable}
 use Rattle.rules.specs.Answers.{answerNumber, answerBytes}
 use Rattle.rules.specs.Producing.{counted, sends, packets, produceCall}
-use Rattle.image.specs.Image.{store}
+use Rattle.state_rules.specs.Image.{store}
 use Rattle.image.specs.Holds.{Holds}
 use Rattle.image.specs.Updates.{noConn}
 use Rattle.image.specs.Changes.{countersAs}

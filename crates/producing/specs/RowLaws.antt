@@ -13,9 +13,9 @@ use Rattle.rules.specs.Producing.{dueBy, due, sent, sends, inputBytes}
 use Rattle.rules.specs.declared.Conn.{Conn}
 use Rattle.rules.specs.declared.Fixed.{Fixed}
 use Rattle.rules.specs.declared.Sent.{Sent}
-use Rattle.layout.specs.Places.{tableIn, stateSize, connectionsOf}
-use Rattle.layout.specs.Rows.{decFixed, decSent, rowAt}
-use Rattle.image.specs.Image.{store}
+use Rattle.state_rules.specs.Places.{tableIn, stateSize, connectionsOf}
+use Rattle.state_rules.specs.Rows.{decFixed, decSent, rowAt}
+use Rattle.state_rules.specs.Image.{store}
 use Rattle.image.specs.Holds.{Holds, Becomes}
 use Rattle.image.specs.Updates.{noConn}
 use Rattle.image.specs.Changes.{sentAs}

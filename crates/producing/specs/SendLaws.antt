@@ -12,8 +12,8 @@ use Rattle.rules.specs.Lists.{joined}
 use Rattle.rules.specs.State.{Content, State, withTable}
 use Rattle.rules.specs.Producing.{due, sends, inputBytes, packet, packets}
 use Rattle.rules.specs.declared.Conn.{Conn}
-use Rattle.layout.specs.Places.{connectionsOf}
-use Rattle.image.specs.Image.{store}
+use Rattle.state_rules.specs.Places.{connectionsOf}
+use Rattle.state_rules.specs.Image.{store}
 use Rattle.image.specs.Fits.{Suits}
 use Rattle.image.specs.Holds.{Holds, conns-held}
 use Rattle.image.specs.Kept.{suits-row}

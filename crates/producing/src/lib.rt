@@ -5,7 +5,7 @@ ghost use mathlib.Core.Path.{_≡_};
 ghost use Prim.Native.Nat.{_+_, _*_, _≤_, _<_};
 ghost use lib.ListN.{length};
 ghost use Rattle.rules.specs.Producing.{counted};
-ghost use Rattle.layout.specs.Places.{connectionsOf};
+ghost use Rattle.state_rules.specs.Places.{connectionsOf};
 ghost use Rattle.image.specs.Holds.{Ready, Slotted, Becomes};
 ghost use Rattle.image.specs.Kept.{Kept};
 ghost use Rattle.producing.specs.Passes.{Sends, SendsAll, tallyKept, Produces};

@@ -15,9 +15,9 @@ use Rattle.rules.specs.State.{State}
 use Rattle.rules.specs.Answers.{Answer, Wrote, Refused, NoRoom, NothingThere, settled}
 use Rattle.rules.specs.Events.{oldestGone}
 use Rattle.rules.specs.Host.{eventAt, nextEventAnswer, nextEventEffect, nextEventCall}
-use Rattle.layout.specs.Places.{ringIn, eventsAt, eventsSize, ringAt, firstOf, waitingOf, faultOf}
-use Rattle.layout.specs.Bits.{wordOf}
-use Rattle.image.specs.Image.{view, tested, record32, asIs}
+use Rattle.state_rules.specs.Places.{ringIn, eventsAt, eventsSize, ringAt, firstOf, waitingOf, faultOf}
+use Rattle.state_rules.specs.Bits.{wordOf}
+use Rattle.state_rules.specs.Image.{view, tested, record32, asIs}
 use Rattle.image.specs.Fits.{is-long, first-slot}
 use Rattle.image.specs.Kept.{byte-of}
 use Rattle.image.specs.Taken.{taken-stored}

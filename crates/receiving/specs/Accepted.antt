@@ -16,7 +16,7 @@ use Rattle.rules.specs.Receiving.{Frame, meantFor, hear, newer, hasCip, repeats
 use Rattle.rules.specs.declared.Conn.{Conn}
 use Rattle.rules.specs.declared.Event.{Event}
 use Rattle.wire_rules.specs.Frames.{ioOf}
-use Rattle.image.specs.Image.{view, store, tested}
+use Rattle.state_rules.specs.Image.{view, store, tested}
 use Rattle.image.specs.RowsFit.{fits-change}
 use Rattle.image.specs.Fits.{Suits}
 use Rattle.image.specs.ViewLaws.{suits-view}

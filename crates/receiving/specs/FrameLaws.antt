@@ -24,7 +24,7 @@ use Rattle.wire_rules.specs.Frames.{otId, ioPair, firstTwo, ioOfItems, ioOf}
 use Rattle.rules.specs.Lists.{maybe}
 use Rattle.rules.specs.State.{State}
 use Rattle.rules.specs.Receiving.{Frame, frameOf, received, receiveEffect}
-use Rattle.image.specs.Image.{store}
+use Rattle.state_rules.specs.Image.{store}
 use Rattle.image.specs.Holds.{Holds, Becomes}
 use Rattle.receiving.specs.Steps.{HearsFrom}
 

@@ -22,9 +22,9 @@ use Rattle.rules.specs.declared.Fixed.{Fixed}
 use Rattle.rules.specs.declared.Heard.{Heard}
 use Rattle.rules.specs.declared.Event.{Event}
 use Rattle.rules.specs.declared.Event.the-variants.{OutputChanged}
-use Rattle.layout.specs.Places.{tableIn, rowSize, connectionsOf}
-use Rattle.layout.specs.Rows.{decFixed, decHeard, decConn, rowAt, connAt, connsIn}
-use Rattle.image.specs.Image.{store}
+use Rattle.state_rules.specs.Places.{tableIn, rowSize, connectionsOf}
+use Rattle.state_rules.specs.Rows.{decFixed, decHeard, decConn, rowAt, connAt, connsIn}
+use Rattle.state_rules.specs.Image.{store}
 use Rattle.image.specs.Updates.{noConn}
 use Rattle.image.specs.Fits.{Suits}
 use Rattle.image.specs.Holds.{Holds, Becomes, conns-held, conn-held, table-held}

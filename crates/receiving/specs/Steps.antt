@@ -15,7 +15,7 @@ use Rattle.rules.specs.Receiving.{Frame, hear, delivered, outputEvents, deliver
 use Rattle.rules.specs.declared.Conn.{Conn}
 use Rattle.rules.specs.declared.Event.{Event}
 use Rattle.rules.specs.declared.Event.the-variants.{OutputChanged}
-use Rattle.image.specs.Image.{store}
+use Rattle.state_rules.specs.Image.{store}
 use Rattle.image.specs.Updates.{noConn}
 use Rattle.image.specs.Holds.{Holds, Becomes}
 use Rattle.image.specs.Changes.{bytesAs}

@@ -16,10 +16,10 @@ use Rattle.rules.specs.State.{Shape, Content, State, contentAt, noContent, shap
 use Rattle.rules.specs.Events.{pushedAll}
 use Rattle.rules.specs.Receiving.{Frame, runBit, dataOf, changes, deliver}
 use Rattle.rules.specs.declared.Event.the-variants.{OutputChanged}
-use Rattle.layout.specs.Setups.{shapeIn}
-use Rattle.layout.specs.Places.{dataFrom, markAt, assembliesOf}
-use Rattle.layout.specs.Bits.{runIn, notifiedIn}
-use Rattle.image.specs.Image.{store}
+use Rattle.state_rules.specs.Setups.{shapeIn}
+use Rattle.state_rules.specs.Places.{dataFrom, markAt, assembliesOf}
+use Rattle.state_rules.specs.Bits.{runIn, notifiedIn}
+use Rattle.state_rules.specs.Image.{store}
 use Rattle.image.specs.Fits.{Suits}
 use Rattle.image.specs.Holds.{Holds, Ready, Becomes, assemblies-held, shape-held, run-held, notified-held, bytes-held}
 use Rattle.image.specs.Kept.{suits-content}

@@ -10,7 +10,7 @@ ghost use Prim.Native.Nat.{_+_, _≤_, _<_};
 ghost use lib.ListN.{length};
 ghost use Rattle.wire_rules.specs.Timeout.{timeoutOf};
 ghost use Rattle.rules.specs.Receiving.{receiveEffect};
-ghost use Rattle.layout.specs.Places.{connectionsOf, assembliesOf};
+ghost use Rattle.state_rules.specs.Places.{connectionsOf, assembliesOf};
 ghost use Rattle.image.specs.Holds.{Ready, Slotted, Becomes};
 ghost use Rattle.image.specs.Kept.{Kept};
 ghost use Rattle.receiving.specs.Steps.{Replaces, TakesIn, Offers, Hears, HearsFrom};

@@ -10,9 +10,9 @@ use Rattle.rules.specs.Events.{infoOf}
 use Rattle.rules.specs.declared.Kind.{Kind}
 use Rattle.rules.specs.declared.Info.{Info}
 use Rattle.rules.specs.declared.Fixed.{Fixed}
-use Rattle.layout.specs.Places.{setupIn, edsIn, assembliesOf}
-use Rattle.layout.specs.Setups.{shapeIn, setupFrom, setupOf, shapesOf}
-use Rattle.layout.specs.SetupLaws.{length-shapes, shape-of}
+use Rattle.state_rules.specs.Places.{setupIn, edsIn, assembliesOf}
+use Rattle.state_rules.specs.Setups.{shapeIn, setupFrom, setupOf, shapesOf}
+use Rattle.state_rules.specs.SetupLaws.{length-shapes, shape-of}
 
 -- the shape at a place of the setup's list
 unfoldable pub shapeOf : List ℕ → ℕ → Shape

@@ -10,8 +10,8 @@ ghost use lib.ListN.{length};
 ghost use lib.Seq.{sets};
 ghost use Rattle.cells.specs.Records.{putFields, ofBool};
 ghost use Rattle.rules.specs.Events.{kindNumber, infoOf, infoRecord};
-ghost use Rattle.layout.specs.Setups.{setupFrom};
-ghost use Rattle.layout.specs.Places.{setupSize, assembliesOf};
+ghost use Rattle.state_rules.specs.Setups.{setupFrom};
+ghost use Rattle.state_rules.specs.Places.{setupSize, assembliesOf};
 ghost use Rattle.records.specs.Fields.{wLow, wHigh};
 ghost use Rattle.records.specs.Shapes.{shapeOf, ifOwner};
 

@@ -16,10 +16,10 @@ use Rattle.rules.specs.declared.Conn.{Conn}
 use Rattle.rules.specs.declared.Kind.{Kind}
 use Rattle.rules.specs.declared.Sent.{Sent}
 use Rattle.ids.specs.declared.ToId.{ToId}
-use Rattle.layout.specs.Places.{tableIn, rowSize, connectionsOf, markAt, assembliesOf}
-use Rattle.layout.specs.Bits.{notifiedIn}
-use Rattle.layout.specs.Rows.{rowAt, ofDue, decSent, connsIn}
-use Rattle.layout.specs.RowLaws.{of-to-due, in-row}
+use Rattle.state_rules.specs.Places.{tableIn, rowSize, connectionsOf, markAt, assembliesOf}
+use Rattle.state_rules.specs.Bits.{notifiedIn}
+use Rattle.state_rules.specs.Rows.{rowAt, ofDue, decSent, connsIn}
+use Rattle.state_rules.specs.RowLaws.{of-to-due, in-row}
 use Rattle.image.specs.Updates.{noConn}
 use Rattle.image.specs.Holds.{Becomes, assemblies-held, notified-held}
 use Rattle.image.specs.Kept.{suits-row, suits-content}

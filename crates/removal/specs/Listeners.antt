@@ -18,8 +18,8 @@ use Rattle.rules.specs.declared.Conn.{Conn}
 use Rattle.rules.specs.declared.Fixed.{Fixed}
 use Rattle.rules.specs.declared.Kind.{Kind}
 use Rattle.ids.specs.declared.ToId.{ToId}
-use Rattle.layout.specs.Places.{tableIn, connectionsOf}
-use Rattle.layout.specs.Rows.{rowAt, decFixed, connsIn}
+use Rattle.state_rules.specs.Places.{tableIn, connectionsOf}
+use Rattle.state_rules.specs.Rows.{rowAt, decFixed, connsIn}
 use Rattle.image.specs.Updates.{noConn}
 use Rattle.image.specs.Holds.{Held, Ready}
 use Rattle.image.specs.Kept.{Kept}

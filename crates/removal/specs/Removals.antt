@@ -17,8 +17,8 @@ use Rattle.rules_laws.specs.RemovalLaws.{removedIf}
 use Rattle.rules.specs.declared.Conn.{Conn}
 use Rattle.rules.specs.declared.Fixed.{Fixed}
 use Rattle.rules.specs.declared.Sent.{Sent}
-use Rattle.layout.specs.Places.{tableIn, connectionsOf}
-use Rattle.layout.specs.Rows.{rowAt, decFixed, decSent, connsIn}
+use Rattle.state_rules.specs.Places.{tableIn, connectionsOf}
+use Rattle.state_rules.specs.Rows.{rowAt, decFixed, decSent, connsIn}
 use Rattle.image.specs.Updates.{noConn}
 use Rattle.image.specs.Holds.{Held}
 use Rattle.image.specs.Kept.{Kept}

@@ -12,8 +12,8 @@ use Rattle.rules.specs.State.{State}
 use Rattle.rules.specs.Events.{infoOf, infoRecord}
 use Rattle.rules.specs.declared.Conn.{Conn}
 use Rattle.rules.specs.declared.Fixed.{Fixed}
-use Rattle.layout.specs.Places.{tableIn, rowSize, connectionsOf}
-use Rattle.layout.specs.Rows.{decConn, connAt, connsIn}
+use Rattle.state_rules.specs.Places.{tableIn, rowSize, connectionsOf}
+use Rattle.state_rules.specs.Rows.{decConn, connAt, connsIn}
 use Rattle.image.specs.Fits.{Suits}
 use Rattle.image.specs.Updates.{noConn}
 use Rattle.image.specs.Holds.{Held, Ready, Becomes, BecomesHeld, conns-held, table-held, conn-held}

@@ -14,9 +14,9 @@ use Rattle.rules.specs.Lists.{isSome}
 use Rattle.rules_laws.specs.ListLaws.{clash}
 use Rattle.rules_laws.specs.CheckLaws.{must-none, then-none}
 use Rattle.rules.specs.Checks as checks
-use Rattle.layout.specs.Setups.{setupFrom}
-use Rattle.layout.specs.SetupLaws.{length-shapes}
-use Rattle.layout.specs.Places.{assembliesOf}
+use Rattle.state_rules.specs.Setups.{setupFrom}
+use Rattle.state_rules.specs.SetupLaws.{length-shapes}
+use Rattle.state_rules.specs.Places.{assembliesOf}
 use Rattle.searches.specs.Searches.{place-in}
 use Rattle.roles.specs.declared.Roles.{Roles}
 use Rattle.roles.specs.Roles.{placeIn, rolesIn}

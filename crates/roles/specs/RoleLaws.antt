@@ -18,12 +18,12 @@ use Rattle.rules.specs.State.{Shape, Setup, noShape, isInput, isOutput, isOwner
 use Rattle.rules.specs.Lists.{place, isSome}
 use Rattle.rules.specs.Host.{kindTest}
 use Rattle.rules.specs.Checks as checks
-use Rattle.layout.specs.Setups.{setupFrom, shapesOf}
-use Rattle.layout.specs.SetupLaws.{length-shapes}
+use Rattle.state_rules.specs.Setups.{setupFrom, shapesOf}
+use Rattle.state_rules.specs.SetupLaws.{length-shapes}
 use Rattle.layout.specs.declared.Found.{Found}
 use Rattle.layout.specs.declared.Found.the-variants.{At, Nowhere}
 use Rattle.layout.specs.Searched as ends
-use Rattle.layout.specs.Places.{assembliesOf}
+use Rattle.state_rules.specs.Places.{assembliesOf}
 use Rattle.searches.specs.Searches.{place-in}
 use Rattle.checking.specs.SaysLaws.{must-yes, must-no, then-on, then-no}
 use Rattle.roles.specs.declared.Roles.{Roles}

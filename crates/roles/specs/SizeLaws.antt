@@ -17,9 +17,9 @@ use Rattle.rules.specs.declared.Stores.{Stores}
 use Rattle.rules.specs.declared.Stores.the-variants.{Nothing, Into}
 use Rattle.rules.specs.State.{Shape, noShape, Setup, shapeAt, isOwner}
 use Rattle.rules.specs.Checks as checks
-use Rattle.layout.specs.Setups.{shapeIn, setupFrom, goodShapes, shapesOf}
-use Rattle.layout.specs.SetupLaws.{length-shapes, shape-of, shape-short}
-use Rattle.layout.specs.Places.{assembliesOf}
+use Rattle.state_rules.specs.Setups.{shapeIn, setupFrom, goodShapes, shapesOf}
+use Rattle.state_rules.specs.SetupLaws.{length-shapes, shape-of, shape-short}
+use Rattle.state_rules.specs.Places.{assembliesOf}
 use Rattle.checking.specs.SaysLaws.{must-yes, must-no}
 use Rattle.roles.specs.Roles.{placeIn}
 use Rattle.roles.specs.RoleLaws.{if-is, if-not}

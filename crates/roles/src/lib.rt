@@ -15,8 +15,8 @@ ghost use lib.Dec.{eqb};
 ghost use lib.ListN.{length};
 ghost use Rattle.rules.specs.Host.{kindTest};
 ghost use Rattle.rules.specs.Checks.{kindOf, otPoint, toPoint, placeOf, pointsCheck, rolesOf};
-ghost use Rattle.layout.specs.Setups.{setupFrom};
-ghost use Rattle.layout.specs.Places.{setupSize, assembliesOf};
+ghost use Rattle.state_rules.specs.Setups.{setupFrom};
+ghost use Rattle.state_rules.specs.Places.{setupSize, assembliesOf};
 ghost use Rattle.roles.specs.Roles.{placeIn, configOf, outputOf, rolesWith, inputCheck, said, rolesOr};
 
 // What the points of an open come to: the output counts for an owner only and is 0 for others.

@@ -16,8 +16,8 @@ ghost use lib.ListN.{length};
 ghost use Rattle.rules.specs.State.{shapeAt};
 ghost use Rattle.rules.specs.declared.Stop.the-variants.{OwnerSize, HeartbeatSize};
 ghost use Rattle.rules.specs.Checks.{must, sizeOk, beatSize, configStop, configCheck, otSizeCheck, toSizeCheck};
-ghost use Rattle.layout.specs.Setups.{setupFrom, goodShapes};
-ghost use Rattle.layout.specs.Places.{setupSize, assembliesOf};
+ghost use Rattle.state_rules.specs.Setups.{setupFrom, goodShapes};
+ghost use Rattle.state_rules.specs.Places.{setupSize, assembliesOf};
 ghost use Rattle.checking.specs.Says.{stopIn};
 ghost use Rattle.roles.specs.Roles.{placeIn, rolesIn};
 

@@ -16,8 +16,8 @@ use Rattle.image.specs.TestLaws.{setup-passes}
 use Rattle.rules.specs.Lists.{any}
 use Rattle.rules.specs.State.{Shape}
 use Rattle.rules.specs.Setup.{shapeOk, distinct, assembliesOk, nameOk, edsOk, transferOk, setupOk}
-use Rattle.layout.specs.Setups.{testsSetup, goodSetup}
-use Rattle.layout.specs.Places.{assembliesOf}
+use Rattle.state_rules.specs.Setups.{testsSetup, goodSetup}
+use Rattle.state_rules.specs.Places.{assembliesOf}
 use Rattle.starting.specs.Block.{shapesAt, shapeSize, decShape, shapesGiven, kindGiven, markedBlock, edsMark, setupGiven, testsBlock, accepted}
 use Rattle.starting.specs.Given.{flag-bit, absent, short-eds, few, short-name, short-eds-name, some-transfer, kinds-ok, shapes-ok, no-eds, some-eds}
 use Rattle.starting.specs.Shapes.{shapeGiven, instancesIn}

@@ -11,7 +11,7 @@ use Rattle.tables.specs.Slots.{sets-whole}
 use Rattle.tables.specs.Regions.{joined, Sized, none, one, start, sized-set}
 use Rattle.tables.specs.RegionWrites.{region-sets}
 use Rattle.rules.specs.Setup.{firstId}
-use Rattle.layout.specs.Places.{widths, wHead, tableSize, eventsSize, dataSize, edsAt, stateSize, nextIdAt, assembliesOf}
+use Rattle.state_rules.specs.Places.{widths, wHead, tableSize, eventsSize, dataSize, edsAt, stateSize, nextIdAt, assembliesOf}
 use Rattle.starting.specs.Block.{shapesAt, edsMark, markedBlock, spread, regionOf, zeros, listFresh, started}
 use Rattle.starting.specs.Columns.{length-spread, put-left, spread-left}
 use Rattle.starting.specs.Fresh.{length-zeros, drop-zeros}

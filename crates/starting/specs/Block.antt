@@ -13,8 +13,8 @@ use Rattle.tables.specs.Regions.{joined}
 use Rattle.rules.specs.State.{Shape, Setup}
 use Rattle.rules.specs.Answers.{Done, Refused, BadSetup, answerNumber}
 use Rattle.rules.specs.Setup.{within, setupOk, firstId}
-use Rattle.layout.specs.Places.{wHead, instancesAt, sizesAt, kindsAt, tableSize, eventsSize, dataSize, stateSize, assembliesOf}
-use Rattle.layout.specs.Setups.{kindNamed, setupWith}
+use Rattle.state_rules.specs.Places.{wHead, instancesAt, sizesAt, kindsAt, tableSize, eventsSize, dataSize, stateSize, assembliesOf}
+use Rattle.state_rules.specs.Setups.{kindNamed, setupWith}
 
 -- ---- the block's assemblies: from 110 on 5 bytes each, instance 2 at 0, size 2 at 2, kind 1 at 4
 

@@ -10,8 +10,8 @@ use borrow.Author.Tests.{eqb-true, eqb-false, eq-eqb, ne-eqb}
 use Rattle.tables.specs.Ring.{by-cases}
 use Rattle.rules.specs.Answers.{answerNumber}
 use Rattle.rules.specs.Setup.{fresh}
-use Rattle.layout.specs.Places.{stateSize}
-use Rattle.image.specs.Image.{view, tested}
+use Rattle.state_rules.specs.Places.{stateSize}
+use Rattle.state_rules.specs.Image.{view, tested}
 use Rattle.starting.specs.Block.{setupGiven, accepted, started, setupCall}
 use Rattle.starting.specs.Fresh.{view-started, tested-started}
 

@@ -12,9 +12,9 @@ use borrow.Author.Tests.{ltb-true, ltb-false}
 use Rattle.cells.specs.Numbers.{le, put, bytesLe, length-bytesLe, length-put, take-put, le-put-same, le-put-before, le-put-after, sets-left}
 use Rattle.tables.specs.Tables.{rows}
 use Rattle.tables.specs.Ring.{by-cases}
-use Rattle.layout.specs.Places.{instancesAt, sizesAt, kindsAt}
-use Rattle.layout.specs.Listed.{listed}
-use Rattle.layout.specs.Setups.{kindNamed, shapeIn}
+use Rattle.state_rules.specs.Places.{instancesAt, sizesAt, kindsAt}
+use Rattle.state_rules.specs.Listed.{listed}
+use Rattle.state_rules.specs.Setups.{kindNamed, shapeIn}
 use Rattle.starting.specs.Block.{shapesAt, shapeSize, decShape, givenIn, inColumns, spread}
 use Rattle.starting.specs.Shapes.{shape-number}
 

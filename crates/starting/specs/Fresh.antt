@@ -16,12 +16,12 @@ use Rattle.tables.specs.Regions.{joined, Sized, none, one, start, length-joined
 use Rattle.rules.specs.Lists.{any}
 use Rattle.rules.specs.State.{Shape, Setup, noShape}
 use Rattle.rules.specs.Setup.{within, shapeOk, blank, firstId, fresh}
-use Rattle.layout.specs.Places.{widths, setupIn, wHead, marksIn, tableIn, ringIn, dataIn, edsIn, tableSize, eventsSize, dataSize, stateSize, sizesAt, headUsed, assembliesOf}
-use Rattle.layout.specs.Listed.{listed}
-use Rattle.layout.specs.Setups.{shapeIn, edsOf, setupFrom, setupOf, goodShapes, goodSetup, shapesOf}
-use Rattle.layout.specs.SetupLaws.{shapes-pass}
-use Rattle.layout.specs.Rows.{connsIn}
-use Rattle.image.specs.Image.{contentOf, contentsOf, record32, asIs, view, goodHead, tested}
+use Rattle.state_rules.specs.Places.{widths, setupIn, wHead, marksIn, tableIn, ringIn, dataIn, edsIn, tableSize, eventsSize, dataSize, stateSize, sizesAt, headUsed, assembliesOf}
+use Rattle.state_rules.specs.Listed.{listed}
+use Rattle.state_rules.specs.Setups.{shapeIn, edsOf, setupFrom, setupOf, goodShapes, goodSetup, shapesOf}
+use Rattle.state_rules.specs.SetupLaws.{shapes-pass}
+use Rattle.state_rules.specs.Rows.{connsIn}
+use Rattle.state_rules.specs.Image.{contentOf, contentsOf, record32, asIs, view, goodHead, tested}
 use Rattle.image.specs.Fits.{size-short}
 use Rattle.image.specs.Holds.{part-in}
 use Rattle.image.specs.TestLaws.{setup-passes, head-passes, state-passes}

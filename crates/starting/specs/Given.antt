@@ -16,8 +16,8 @@ use Rattle.tables.specs.Ring.{by-cases}
 use Rattle.rules.specs.Lists.{any}
 use Rattle.rules.specs.State.{Shape}
 use Rattle.rules.specs.Setup.{shapeOk, distinct, assembliesOk, nameOk, edsOk, transferOk, setupOk}
-use Rattle.layout.specs.Setups.{edsOf}
-use Rattle.layout.specs.Places.{assembliesOf}
+use Rattle.state_rules.specs.Setups.{edsOf}
+use Rattle.state_rules.specs.Places.{assembliesOf}
 use Rattle.starting.specs.Block.{shapesAt, shapeSize, decShape, shapesGiven, edsMark, kindGiven, markedBlock, setupGiven, testsBlock, accepted}
 
 -- ---- a chain of tests, one by one

@@ -14,7 +14,7 @@ use Rattle.tables.specs.Tables.{rows, length-rows, row-at}
 use Rattle.rules.specs.Lists.{any}
 use Rattle.rules.specs.State.{Shape, noShape}
 use Rattle.rules.specs.Setup.{shapeOk, distinct}
-use Rattle.layout.specs.RowLaws.{in-row}
+use Rattle.state_rules.specs.RowLaws.{in-row}
 use Rattle.starting.specs.Block.{shapesAt, shapeSize, decShape, givenIn, kindGiven}
 
 -- a shape of a kind that there is, within the rules' sizes

@@ -2,7 +2,7 @@
 ghost use mathlib.Core.Path.{_≡_};
 ghost use Prim.Native.Nat.{ℕ, _≤_, _<_};
 ghost use lib.ListN.{length};
-ghost use Rattle.layout.specs.Places.{setupSize};
+ghost use Rattle.state_rules.specs.Places.{setupSize};
 ghost use Rattle.starting.specs.Block.{inColumns, spread};
 
 fn put_shape(s: &mut [u8], block: &[u8], i: usize)

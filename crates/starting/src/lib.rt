@@ -10,7 +10,7 @@ ghost use Prim.Native.Nat.{ℕ, _+_, _≤_};
 ghost use lib.Dec.{eqb};
 ghost use lib.ListN.{length};
 ghost use Rattle.rules.specs.Setup.{firstId};
-ghost use Rattle.layout.specs.Places.{stateSize, assembliesOf};
+ghost use Rattle.state_rules.specs.Places.{stateSize, assembliesOf};
 ghost use Rattle.starting.specs.Block.{started};
 
 // The EDS mark: 0 for no EDS, else its length and one.

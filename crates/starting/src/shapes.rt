@@ -7,7 +7,7 @@ ghost use Rattle.cells.specs.Back.{all};
 ghost use Rattle.tables.specs.Tables.{rows};
 ghost use Rattle.rules.specs.Lists.{any};
 ghost use Rattle.rules.specs.Setup.{distinct};
-ghost use Rattle.layout.specs.Places.{setupSize};
+ghost use Rattle.state_rules.specs.Places.{setupSize};
 ghost use Rattle.starting.specs.Block.{shapesAt, shapeSize, givenIn};
 ghost use Rattle.starting.specs.Shapes.{shapeGiven, instancesIn};
 

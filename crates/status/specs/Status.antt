@@ -15,10 +15,10 @@ use Rattle.rules.specs.declared.Fixed.{Fixed}
 use Rattle.rules.specs.declared.Conn.{Conn}
 use Rattle.rules.specs.State.{State, Content, noContent, isOwner, contentAt}
 use Rattle.rules.specs.Objects.{owned, running, extendedStatus, identityStatus}
-use Rattle.layout.specs.Places.{tableIn, rowSize, connectionsOf, faultOf, markAt, assembliesOf}
-use Rattle.layout.specs.Bits.{runIn}
-use Rattle.layout.specs.Rows.{decConn, connsIn}
-use Rattle.image.specs.Image.{view, tested}
+use Rattle.state_rules.specs.Places.{tableIn, rowSize, connectionsOf, faultOf, markAt, assembliesOf}
+use Rattle.state_rules.specs.Bits.{runIn}
+use Rattle.state_rules.specs.Rows.{decConn, connsIn}
+use Rattle.state_rules.specs.Image.{view, tested}
 use Rattle.image.specs.Holds.{holds-tested, assemblies-held}
 use Rattle.application.specs.Assemblies.{run-is}
 

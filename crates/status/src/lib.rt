@@ -5,9 +5,9 @@ ghost use lib.ListN.{length};
 ghost use Rattle.rules.specs.Lists.{any};
 ghost use Rattle.rules.specs.State.{contentAt};
 ghost use Rattle.rules.specs.Objects.{owned, running, extendedStatus, identityStatus};
-ghost use Rattle.layout.specs.Rows.{connAt, connsIn};
-ghost use Rattle.layout.specs.Places.{tableIn, tableSize, connectionsOf};
-ghost use Rattle.image.specs.Image.{view};
+ghost use Rattle.state_rules.specs.Rows.{connAt, connsIn};
+ghost use Rattle.state_rules.specs.Places.{tableIn, tableSize, connectionsOf};
+ghost use Rattle.state_rules.specs.Image.{view};
 ghost use Rattle.application.specs.Outcomes.{Passed};
 ghost use Rattle.status.specs.Status.{ownerIn, runsIn};
 

@@ -12,10 +12,10 @@ use Rattle.rules.specs.declared.Stop.the-variants.{TriadInUse, Full}
 use Rattle.rules.specs.Lists.{place, any}
 use Rattle.rules.specs.Checks.{must, hasTriad, triadCheck, maxConnections, roomCheck}
 use Rattle.rules.specs.Removal.{connTriad}
-use Rattle.layout.specs.Rows.{decFixed, connsIn, fixedsIn}
+use Rattle.state_rules.specs.Rows.{decFixed, connsIn, fixedsIn}
 use Rattle.layout.specs.declared.Found.{Found}
 use Rattle.layout.specs.declared.Found.the-variants.{At, Nowhere}
-use Rattle.layout.specs.Places.{rowSize}
+use Rattle.state_rules.specs.Places.{rowSize}
 use Rattle.image.specs.Updates.{noConn}
 use Rattle.lookup.specs.RowTests.{foundOf, found-at, found-none, place-any, place-never}
 use Rattle.checking.specs.SaysLaws.{must-yes, must-no}

@@ -8,9 +8,9 @@ ghost use Prim.Native.Nat.{_≤_, _<_};
 ghost use lib.ListN.{length};
 ghost use Rattle.rules.specs.Lists.{any};
 ghost use Rattle.rules.specs.Checks.{owns, ownerCheck};
-ghost use Rattle.layout.specs.Rows.{rowAt, decFixed, fixedsIn};
-ghost use Rattle.layout.specs.Setups.{setupFrom};
-ghost use Rattle.layout.specs.Places.{setupSize, tableSize, assembliesOf};
+ghost use Rattle.state_rules.specs.Rows.{rowAt, decFixed, fixedsIn};
+ghost use Rattle.state_rules.specs.Setups.{setupFrom};
+ghost use Rattle.state_rules.specs.Places.{setupSize, tableSize, assembliesOf};
 ghost use Rattle.checking.specs.Says.{stopIn};
 ghost use Rattle.streams.specs.Owning.{rolesWith};
 

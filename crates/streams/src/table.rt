@@ -9,8 +9,8 @@ ghost use lib.Dec.{ltb};
 ghost use lib.ListN.{length};
 ghost use Rattle.rules.specs.declared.Stop.the-variants.{Full};
 ghost use Rattle.rules.specs.Checks.{must, triadCheck, maxConnections};
-ghost use Rattle.layout.specs.Rows.{fixedsIn};
-ghost use Rattle.layout.specs.Places.{tableSize};
+ghost use Rattle.state_rules.specs.Rows.{fixedsIn};
+ghost use Rattle.state_rules.specs.Places.{tableSize};
 ghost use Rattle.checking.specs.Says.{stopIn};
 
 // Check 10.

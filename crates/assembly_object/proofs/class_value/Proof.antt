@@ -1,7 +1,7 @@
 use mathlib.Core.List.{[]}
 use mathlib.Core.Path.{refl}
 use Rattle.rules.specs.Objects.{assemblyClass}
-use Rattle.layout.specs.Setups.{setupFrom}
+use Rattle.state_rules.specs.Setups.{setupFrom}
 use Rattle.attributes.specs.Values.{value-is, value-number, value-none}
 use borrow.Author.Needs.{needs}
 use Rattle.assembly_object.proofs.class_value.Statement.{statement}

@@ -4,8 +4,8 @@ use mathlib.Core.Path.{_≡_, sym, _∙_}
 use lib.ListN.{drop}
 use borrow.Author.Tests.{eq-eqb, ne-eqb}
 use Rattle.rules.specs.Lists.{place}
-use Rattle.layout.specs.Setups.{shapeIn, shapesOf}
-use Rattle.layout.specs.SetupLaws.{shapes-rest, shapes-end}
+use Rattle.state_rules.specs.Setups.{shapeIn, shapesOf}
+use Rattle.state_rules.specs.SetupLaws.{shapes-rest, shapes-end}
 use Rattle.searches.specs.Searches.{later, later-zero, list-hit, list-miss, list-ends}
 use Rattle.assembly_object.specs.Instances.{hasInstance}
 use borrow.Author.Needs.{needs}

@@ -1,6 +1,6 @@
 use Rattle.rules.specs.State.{contentAt}
 use Rattle.rules.specs.Objects.{assemblyAttributes}
-use Rattle.image.specs.Image.{view}
+use Rattle.state_rules.specs.Image.{view}
 use Rattle.attributes.specs.Values.{told-wanted, fails}
 use borrow.Author.Needs.{needs}
 use Rattle.assembly_object.proofs.here.Statement.{statement}

@@ -3,8 +3,8 @@ use mathlib.Core.Path.{_≡_, ap, sym, _∙_}
 use Prim.Native.Nat.{ℕ}
 use lib.ListN.{drop}
 use Rattle.rules.specs.Objects.{largestInstance}
-use Rattle.layout.specs.Setups.{shapesOf}
-use Rattle.layout.specs.Places.{assembliesOf}
+use Rattle.state_rules.specs.Setups.{shapesOf}
+use Rattle.state_rules.specs.Places.{assembliesOf}
 use Rattle.assembly_object.specs.Instances.{largest-starts, largest-on, largest-ends}
 use borrow.Author.Needs.{needs}
 use native.Mathlib.Omega.{arith}

@@ -6,8 +6,8 @@ use lib.ListN.{take, drop}
 use Rattle.rules.specs.State.{contentAt}
 use Rattle.rules.specs.Attributes.{Gives}
 use Rattle.rules.specs.Objects.{assemblyAttributes}
-use Rattle.layout.specs.Places.{dataFrom}
-use Rattle.image.specs.Image.{view}
+use Rattle.state_rules.specs.Places.{dataFrom}
+use Rattle.state_rules.specs.Image.{view}
 use Rattle.application.specs.Assemblies.{size-is, size-small, data-is}
 use Rattle.attributes.specs.Told.{told}
 use Rattle.attributes.specs.Values.{value-is, value-number, value-none}

@@ -4,7 +4,7 @@ use mathlib.Core.Path.{ap, _∙_}
 use Prim.Native.Nat.{ℕ, _+_, _*_, _/_, _%_}
 use mathlib.Core.List.{List}
 use Rattle.cells.specs.Numbers.{put}
-use Rattle.layout.specs.Places.{eventsAt, ringAt}
+use Rattle.state_rules.specs.Places.{eventsAt, ringAt}
 use Rattle.image.specs.Kept.{kept-pushed}
 use Rattle.image.specs.Changes.{push-room, push-full}
 use borrow.Author.Needs.{needs}

@@ -5,7 +5,7 @@ use Rattle.image.specs.Changes.{bytes-become}
 use borrow.Author.Needs.{needs}
 use Rattle.changes.proofs.put_bytes.Statement.{statement}
 use Rattle.changes.proofs.put_bytes.Tie as tie
-use Rattle.layout.specs.Places.{dataFrom}
+use Rattle.state_rules.specs.Places.{dataFrom}
 
 mul-copy-in : tie.Need-mul-copy-in
 mul-copy-in c = search needs

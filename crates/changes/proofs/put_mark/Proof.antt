@@ -3,9 +3,9 @@ use native.Mathlib.Omega.{arith}
 use mathlib.Core.Path.{_∙_}
 use Prim.Native.Nat.{_+_, _*_, _/_}
 use Rattle.cells.specs.Numbers.{put}
-use Rattle.layout.specs.Places.{marksAt, markAt}
-use Rattle.layout.specs.RowLaws.{byte-small}
-use Rattle.layout.specs.Bits.{markOver}
+use Rattle.state_rules.specs.Places.{marksAt, markAt}
+use Rattle.state_rules.specs.RowLaws.{byte-small}
+use Rattle.state_rules.specs.Bits.{markOver}
 use Rattle.image.specs.Kept.{kept-put, byte-of}
 use Rattle.image.specs.Changes.{mark-becomes}
 use borrow.Author.Needs.{needs}

@@ -4,8 +4,8 @@ use mathlib.Core.Path.{_∙_}
 use Prim.Native.Nat.{_+_, _*_, _/_}
 use Rattle.cells.specs.Numbers.{put}
 use Rattle.cells.specs.Records.{ofBool}
-use Rattle.layout.specs.Places.{ringAt, ringWordOf}
-use Rattle.layout.specs.RowLaws.{bit-small, byte-small}
+use Rattle.state_rules.specs.Places.{ringAt, ringWordOf}
+use Rattle.state_rules.specs.RowLaws.{bit-small, byte-small}
 use Rattle.image.specs.Kept.{kept-ring, byte-of}
 use Rattle.image.specs.Changes.{fault-becomes}
 use borrow.Author.Needs.{needs}

@@ -4,7 +4,7 @@ use Rattle.image.specs.Changes.{nextId-becomes}
 use borrow.Author.Needs.{needs}
 use Rattle.changes.proofs.set_next_id.Statement.{statement}
 use Rattle.changes.proofs.set_next_id.Tie as tie
-use Rattle.layout.specs.Places.{nextIdAt}
+use Rattle.state_rules.specs.Places.{nextIdAt}
 
 put-u32-requires : tie.Need-put-u32-requires
 put-u32-requires c κs = search needs

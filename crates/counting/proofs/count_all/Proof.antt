@@ -1,7 +1,7 @@
 use native.Mathlib.Omega.{arith}
 use Prim.Native.Nat.{_≤_, _*_, _-_}
 use mathlib.Core.Path.{_≡_, refl}
-use Rattle.layout.specs.Places.{connectionsOf, maxLateOf}
+use Rattle.state_rules.specs.Places.{connectionsOf, maxLateOf}
 use Rattle.counting.specs.CountLaws.{TallySoFar, tally-start, tally-turn, tally-end}
 use Rattle.counting.proofs.count_all.Statement.{statement}
 use Rattle.counting.proofs.count_all.Tie as tie

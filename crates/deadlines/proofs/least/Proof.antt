@@ -4,7 +4,7 @@ use mathlib.Core.Option.{some}
 use native.Mathlib.Omega.{arith}
 use lib.ListN.{drop}
 use Rattle.rules.specs.Removal.{leastOf}
-use Rattle.layout.specs.Rows.{connsIn}
+use Rattle.state_rules.specs.Rows.{connsIn}
 use Rattle.deadlines.specs.Deadlines.{least-turn, least-end, least-whole}
 use borrow.Author.Needs.{needs}
 use Rattle.deadlines.proofs.least.Statement.{statement}

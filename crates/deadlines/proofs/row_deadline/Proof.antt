@@ -1,6 +1,6 @@
 -- One less than the due number, modulo 2^64, is the due time, or the largest number for never.
 use native.Mathlib.Omega.{arith}
-use Rattle.layout.specs.Rows.{rowAt}
+use Rattle.state_rules.specs.Rows.{rowAt}
 use Rattle.deadlines.specs.Deadlines.{row-least}
 use borrow.Author.Needs.{needs}
 use Rattle.deadlines.proofs.row_deadline.Statement.{statement}

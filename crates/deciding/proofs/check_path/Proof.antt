@@ -1,6 +1,6 @@
 use mathlib.Core.List.{[], _∷_}
 use Rattle.rules.specs.Checks.{keyCheck}
-use Rattle.layout.specs.Setups.{identityOf}
+use Rattle.state_rules.specs.Setups.{identityOf}
 use Rattle.deciding.specs.DecidedLaws.{first-stops, first-goes, first-last}
 use borrow.Author.Needs.{needs}
 use Rattle.deciding.proofs.check_path.Statement.{statement}

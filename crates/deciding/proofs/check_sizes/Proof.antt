@@ -1,7 +1,7 @@
 use mathlib.Core.List.{[], _∷_}
 use Rattle.rules.specs.State.{Setup}
 use Rattle.rules.specs.Checks.{Roles, rpiCheck, typeCheck, otSizeCheck, toSizeCheck}
-use Rattle.layout.specs.Setups.{setupFrom}
+use Rattle.state_rules.specs.Setups.{setupFrom}
 use Rattle.roles.specs.Roles.{rolesIn}
 use Rattle.deciding.specs.DecidedLaws.{first-stops, first-goes, first-last}
 use borrow.Author.Needs.{needs}

@@ -4,8 +4,8 @@ use Rattle.tables.specs.Tables.{rows}
 use Rattle.rules.specs.declared.Fixed.{Fixed}
 use Rattle.rules.specs.State.{Setup}
 use Rattle.rules.specs.Checks.{Roles, ownerCheck, roomCheck}
-use Rattle.layout.specs.Rows.{fixedsIn}
-use Rattle.layout.specs.Setups.{setupFrom}
+use Rattle.state_rules.specs.Rows.{fixedsIn}
+use Rattle.state_rules.specs.Setups.{setupFrom}
 use Rattle.roles.specs.Roles.{rolesIn}
 use Rattle.streams.specs.TableLaws.{room-rows}
 use Rattle.streams.specs.Owning.{owner-reads}

@@ -2,8 +2,8 @@ use mathlib.Core.List.{List, []}
 use mathlib.Core.Path.{ap, sym, _∙_}
 use Rattle.rules.specs.declared.Fixed.{Fixed}
 use Rattle.rules.specs.State.{Setup}
-use Rattle.layout.specs.Rows.{fixedsIn}
-use Rattle.layout.specs.Setups.{setupFrom}
+use Rattle.state_rules.specs.Rows.{fixedsIn}
+use Rattle.state_rules.specs.Setups.{setupFrom}
 use Rattle.checking.specs.Says.{stopIn}
 use Rattle.deciding.specs.DecidedLaws.{verdict-stops, verdict-goes}
 use borrow.Author.Needs.{needs}

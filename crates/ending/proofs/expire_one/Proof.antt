@@ -1,7 +1,7 @@
 use native.Mathlib.Omega.{arith}
 use mathlib.Core.Bool.{true}
 use Rattle.rules.specs.Removal.{expired}
-use Rattle.layout.specs.Places.{connectionsOf}
+use Rattle.state_rules.specs.Places.{connectionsOf}
 use Rattle.removal.specs.Turns.{found-in, fewer-none, fewer-both, fewer-kept}
 use Rattle.removal.specs.Removals.{ends-none, ends-one}
 use Rattle.ending.specs.Expiry.{turn-fault}

@@ -3,7 +3,7 @@ use native.Mathlib.Omega.{arith}
 use mathlib.Core.Path.{_≡_, sym, _∙_}
 use Prim.Native.Nat.{_≤_, _-_}
 use borrow.Author.Tests.{not-true, not-false}
-use Rattle.layout.specs.Places.{connectionsOf}
+use Rattle.state_rules.specs.Places.{connectionsOf}
 use Rattle.removal.specs.Turns.{Fewer, fewer-none, fewer-both}
 use Rattle.ending.specs.Expiry.{Going, rest-start, rest-turn, rest-end, rest-stop}
 use Rattle.ending.proofs.expire_some.Statement.{statement}

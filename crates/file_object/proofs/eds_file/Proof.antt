@@ -2,7 +2,7 @@ use Prim.Native.Nat.{ℕ}
 use mathlib.Core.List.{[]}
 use mathlib.Core.Path.{ap, _∙_}
 use Rattle.rules.specs.Upload.{initiate}
-use Rattle.layout.specs.Setups.{setupFrom}
+use Rattle.state_rules.specs.Setups.{setupFrom}
 use Rattle.positions.specs.Positions.{decUpload}
 use Rattle.uploads.specs.Lent.{stepped}
 use Rattle.file_object.specs.Files.{eds-initiate, eds-transfer, eds-alone, kept}

@@ -1,5 +1,5 @@
 use mathlib.Core.List.{[]}
-use Rattle.layout.specs.Setups.{setupFrom}
+use Rattle.state_rules.specs.Setups.{setupFrom}
 use Rattle.attributes.specs.Values.{fails}
 use Rattle.positions.specs.Positions.{decUpload}
 use Rattle.file_object.specs.Files.{file-class, file-none, file-eds, kept}

@@ -1,6 +1,6 @@
 use mathlib.Core.List.{[]}
 use Rattle.rules.specs.Objects.{fileAttributes}
-use Rattle.layout.specs.Setups.{setupFrom}
+use Rattle.state_rules.specs.Setups.{setupFrom}
 use Rattle.attributes.specs.Values.{told-wanted, fails}
 use borrow.Author.Needs.{needs}
 use Rattle.file_object.proofs.here.Statement.{statement}

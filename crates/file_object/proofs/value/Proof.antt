@@ -3,7 +3,7 @@ use mathlib.Core.Path.{refl, _∙_}
 use Rattle.cells.specs.Numbers.{bytesLe}
 use Rattle.rules.specs.Attributes.{Gives}
 use Rattle.rules.specs.Objects.{fileAttributes}
-use Rattle.layout.specs.Setups.{setupFrom}
+use Rattle.state_rules.specs.Setups.{setupFrom}
 use Rattle.attributes.specs.Told.{told}
 use Rattle.attributes.specs.Values.{value-is}
 use Rattle.file_object.specs.Files.{told-behind}

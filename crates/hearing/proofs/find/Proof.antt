@@ -3,7 +3,7 @@ use Prim.Native.Nat.{_≤_, _-_}
 use mathlib.Core.Path.{_≡_, sym, _∙_}
 use native.Mathlib.Omega.{arith}
 use Rattle.rules.specs.Lists.{place}
-use Rattle.layout.specs.Rows.{connsIn}
+use Rattle.state_rules.specs.Rows.{connsIn}
 use Rattle.searches.specs.Searches.{later-zero}
 use Rattle.hearing.specs.Decisions.{hears, placeFrom}
 use Rattle.hearing.specs.DecisionLaws.{four-passed}

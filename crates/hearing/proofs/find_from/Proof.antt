@@ -2,8 +2,8 @@
 use Prim.Native.Nat.{_≤_, _-_}
 use mathlib.Core.Path.{_≡_, refl, sym, _∙_}
 use native.Mathlib.Omega.{arith}
-use Rattle.layout.specs.Rows.{decConn}
-use Rattle.layout.specs.Places.{rowSize}
+use Rattle.state_rules.specs.Rows.{decConn}
+use Rattle.state_rules.specs.Places.{rowSize}
 use Rattle.searches.specs.Searches.{search-hit, search-miss, search-ends}
 use Rattle.hearing.specs.Decisions.{hears, placeFrom}
 use borrow.Author.Needs.{needs}

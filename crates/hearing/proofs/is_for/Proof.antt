@@ -3,7 +3,7 @@ use Rattle.hearing.specs.DecisionLaws.{other-id, same-id}
 use borrow.Author.Needs.{needs}
 use Rattle.hearing.proofs.is_for.Statement.{statement}
 use Rattle.hearing.proofs.is_for.Tie as tie
-use Rattle.layout.specs.Rows.{rowAt}
+use Rattle.state_rules.specs.Rows.{rowAt}
 
 otid-at-requires : tie.Need-otid-at-requires
 otid-at-requires c κs = search needs

@@ -2,7 +2,7 @@
 use mathlib.Core.Path.{ap, _∙_}
 use Rattle.rules.specs.Attributes.{Attributes, valueOf}
 use Rattle.rules.specs.Objects.{identityAttributes}
-use Rattle.image.specs.Image.{view}
+use Rattle.state_rules.specs.Image.{view}
 use Rattle.image.specs.Holds.{setup-ready}
 use Rattle.attributes.specs.Told.{told}
 use Rattle.attributes.specs.Values.{told-wanted, fails}

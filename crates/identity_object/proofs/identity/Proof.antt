@@ -1,6 +1,6 @@
 use Rattle.rules.specs.Attributes.{single, classAttributes}
 use Rattle.rules.specs.Objects.{identity, identityAttributes}
-use Rattle.image.specs.Image.{view}
+use Rattle.state_rules.specs.Image.{view}
 use Rattle.attributes.specs.Values.{among-class, among-none, among-here, fails}
 use borrow.Author.Needs.{needs}
 use Rattle.identity_object.proofs.identity.Statement.{statement}

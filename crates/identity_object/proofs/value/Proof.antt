@@ -2,7 +2,7 @@ use mathlib.Core.List.{[], _∷_}
 use mathlib.Core.Path.{refl, _∙_}
 use Rattle.cells.specs.Numbers.{bytesLe}
 use Rattle.rules.specs.Attributes.{Gives}
-use Rattle.layout.specs.Setups.{identityOf}
+use Rattle.state_rules.specs.Setups.{identityOf}
 use Rattle.attributes.specs.Told.{told}
 use Rattle.attributes.specs.Values.{value-is, value-number, value-none}
 use Rattle.identity_object.specs.Table.{identityTable}

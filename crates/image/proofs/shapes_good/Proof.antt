@@ -5,7 +5,7 @@ use mathlib.Core.Bool.{_&&_}
 use Prim.Native.Nat.{_≤_, _-_}
 use lib.ListN.{drop}
 use Rattle.cells.specs.Back.{all}
-use Rattle.layout.specs.Setups.{testsShapes, goodShapes}
+use Rattle.state_rules.specs.Setups.{testsShapes, goodShapes}
 use Rattle.image.specs.TestLaws.{run-begins, run-on, run-ends}
 use borrow.Author.Needs.{needs}
 use Rattle.image.proofs.shapes_good.Statement.{statement}

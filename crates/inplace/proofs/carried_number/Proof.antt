@@ -1,6 +1,6 @@
 -- A bit and twice a place below 32 stay below 64.
 use native.Mathlib.Omega.{arith}
-use Rattle.layout.specs.RowLaws.{byte-small}
+use Rattle.state_rules.specs.RowLaws.{byte-small}
 use borrow.Author.Needs.{needs}
 use Rattle.inplace.proofs.carried_number.Statement.{statement}
 use Rattle.inplace.proofs.carried_number.Tie as tie

@@ -1,7 +1,7 @@
 use mathlib.Core.Path.{_∙_}
 use native.Mathlib.Omega.{arith}
 use Prim.Native.Nat.{_-_}
-use Rattle.layout.specs.Cut.{cut-is}
+use Rattle.state_rules.specs.Cut.{cut-is}
 use borrow.Author.Needs.{needs}
 use Rattle.inplace.proofs.cut_row.Statement.{statement}
 use Rattle.inplace.proofs.cut_row.Tie as tie

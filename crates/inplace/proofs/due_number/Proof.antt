@@ -1,6 +1,6 @@
 use native.Mathlib.Omega.{arith}
 use mathlib.Core.Path.{ap}
-use Rattle.layout.specs.Rows.{ofDue}
+use Rattle.state_rules.specs.Rows.{ofDue}
 use borrow.Author.Needs.{needs}
 use Rattle.inplace.proofs.due_number.Statement.{statement}
 use Rattle.inplace.proofs.due_number.Tie as tie

@@ -1,5 +1,5 @@
 use native.Mathlib.Omega.{arith}
-use Rattle.layout.specs.RowLaws.{byte-small}
+use Rattle.state_rules.specs.RowLaws.{byte-small}
 use borrow.Author.Needs.{needs}
 use Rattle.inplace.proofs.flags_number.Statement.{statement}
 use Rattle.inplace.proofs.flags_number.Tie as tie

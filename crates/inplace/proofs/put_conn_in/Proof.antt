@@ -1,6 +1,6 @@
 -- The three parts put one after the other are the row.
 use native.Mathlib.Omega.{arith}
-use Rattle.layout.specs.RowLaws.{conn-put, bit-small}
+use Rattle.state_rules.specs.RowLaws.{conn-put, bit-small}
 use borrow.Author.Needs.{needs}
 use Rattle.inplace.proofs.put_conn_in.Statement.{statement}
 use Rattle.inplace.proofs.put_conn_in.Tie as tie

@@ -5,9 +5,9 @@ use borrow.Rule.Slice.PartMut.{putMid}
 use native.Mathlib.Omega.{arith}
 use Prim.Native.Nat.{ℕ, _+_, _*_, _-_, _/_}
 use mathlib.Core.Path.{ap, _∙_}
-use Rattle.layout.specs.Rows.{wHeard, listHeard, encHeard}
-use Rattle.layout.specs.RowLaws.{length-encHeard}
-use Rattle.layout.specs.Places.{rowSize}
+use Rattle.state_rules.specs.Rows.{wHeard, listHeard, encHeard}
+use Rattle.state_rules.specs.RowLaws.{length-encHeard}
+use Rattle.state_rules.specs.Places.{rowSize}
 use lib.Seq.{sets}
 use borrow.Author.Needs.{needs}
 use Rattle.inplace.proofs.put_heard_at.Statement.{statement}

@@ -5,9 +5,9 @@ use borrow.Rule.Slice.PartMut.{putMid}
 use native.Mathlib.Omega.{arith}
 use Prim.Native.Nat.{ℕ, _+_, _*_, _-_}
 use mathlib.Core.Path.{ap, _∙_}
-use Rattle.layout.specs.Rows.{wSent, listSent, encSent}
-use Rattle.layout.specs.RowLaws.{length-encSent}
-use Rattle.layout.specs.Places.{rowSize}
+use Rattle.state_rules.specs.Rows.{wSent, listSent, encSent}
+use Rattle.state_rules.specs.RowLaws.{length-encSent}
+use Rattle.state_rules.specs.Places.{rowSize}
 use borrow.Author.Needs.{needs}
 use Rattle.inplace.proofs.put_sent_at.Statement.{statement}
 use Rattle.inplace.proofs.put_sent_at.Tie as tie

@@ -1,10 +1,10 @@
 use native.Mathlib.Omega.{arith}
 use Prim.Native.Nat.{_+_, _*_}
 use mathlib.Core.Path.{_≡_, ap, sym, _∙_}
-use Rattle.layout.specs.RowLaws.{in-row}
-use Rattle.layout.specs.Rows.{decSent, toDue}
+use Rattle.state_rules.specs.RowLaws.{in-row}
+use Rattle.state_rules.specs.Rows.{decSent, toDue}
 use Rattle.cells.specs.Numbers.{le}
-use Rattle.layout.specs.Places.{rowSize}
+use Rattle.state_rules.specs.Places.{rowSize}
 use borrow.Author.Needs.{needs}
 use Rattle.layout.proofs.due_at.Statement.{statement}
 use Rattle.layout.proofs.due_at.Tie as tie

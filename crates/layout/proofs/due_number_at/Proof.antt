@@ -3,9 +3,9 @@ use native.Mathlib.Omega.{arith}
 use Prim.Native.Nat.{_+_, _*_}
 use mathlib.Core.Path.{_≡_, ap, sym, _∙_}
 use Rattle.cells.specs.Numbers.{le}
-use Rattle.layout.specs.RowLaws.{in-row, of-to-due}
-use Rattle.layout.specs.Rows.{decSent, rowAt}
-use Rattle.layout.specs.Places.{rowSize}
+use Rattle.state_rules.specs.RowLaws.{in-row, of-to-due}
+use Rattle.state_rules.specs.Rows.{decSent, rowAt}
+use Rattle.state_rules.specs.Places.{rowSize}
 use borrow.Author.Needs.{needs}
 use Rattle.layout.proofs.due_number_at.Statement.{statement}
 use Rattle.layout.proofs.due_number_at.Tie as tie

@@ -1,6 +1,6 @@
 -- Each field is the number that was read at its place, or what the flags and the role say.
 use mathlib.Core.Path.{ap, _∙_}
-use Rattle.layout.specs.Rows.{kindIn, outputIn, multicastIn, inputIn, decFixed}
+use Rattle.state_rules.specs.Rows.{kindIn, outputIn, multicastIn, inputIn, decFixed}
 use borrow.Author.Needs.{needs}
 use Rattle.layout.proofs.fixed_of.Statement.{statement}
 use Rattle.layout.proofs.fixed_of.Tie as tie

@@ -1,4 +1,4 @@
-use Rattle.layout.specs.Rows.{decHeard}
+use Rattle.state_rules.specs.Rows.{decHeard}
 use borrow.Author.Needs.{needs}
 use Rattle.layout.proofs.heard_of.Statement.{statement}
 use Rattle.layout.proofs.heard_of.Tie as tie

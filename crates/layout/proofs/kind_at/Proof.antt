@@ -1,5 +1,5 @@
 use mathlib.Core.Path.{ap, _∙_}
-use Rattle.layout.specs.Setups.{shapeIn, kindNamed}
+use Rattle.state_rules.specs.Setups.{shapeIn, kindNamed}
 use borrow.Author.Needs.{needs}
 use Rattle.layout.proofs.kind_at.Statement.{statement}
 use Rattle.layout.proofs.kind_at.Tie as tie

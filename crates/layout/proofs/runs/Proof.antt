@@ -1,6 +1,6 @@
 -- Whether an assembly runs is its mark's lowest bit.
 use mathlib.Core.Path.{ap}
-use Rattle.layout.specs.Bits.{runIn}
+use Rattle.state_rules.specs.Bits.{runIn}
 use borrow.Author.Needs.{needs}
 use Rattle.layout.proofs.runs.Statement.{statement}
 use Rattle.layout.proofs.runs.Tie as tie

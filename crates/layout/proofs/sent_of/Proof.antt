@@ -1,4 +1,4 @@
-use Rattle.layout.specs.Rows.{decSent}
+use Rattle.state_rules.specs.Rows.{decSent}
 use borrow.Author.Needs.{needs}
 use Rattle.layout.proofs.sent_of.Statement.{statement}
 use Rattle.layout.proofs.sent_of.Tie as tie

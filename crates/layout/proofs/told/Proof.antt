@@ -1,6 +1,6 @@
 -- Whether an event waits for an assembly is the bit above.
 use mathlib.Core.Path.{ap}
-use Rattle.layout.specs.Bits.{notifiedIn}
+use Rattle.state_rules.specs.Bits.{notifiedIn}
 use borrow.Author.Needs.{needs}
 use Rattle.layout.proofs.told.Statement.{statement}
 use Rattle.layout.proofs.told.Tie as tie

@@ -1,12 +1,12 @@
 use native.Mathlib.Omega.{arith}
 use Prim.Native.Nat.{_*_}
 use mathlib.Core.Path.{sym, _∙_}
-use Rattle.layout.specs.RowLaws.{in-row}
-use Rattle.layout.specs.Rows.{decHeard}
+use Rattle.state_rules.specs.RowLaws.{in-row}
+use Rattle.state_rules.specs.Rows.{decHeard}
 use borrow.Author.Needs.{needs}
 use Rattle.layout.proofs.until_at.Statement.{statement}
 use Rattle.layout.proofs.until_at.Tie as tie
-use Rattle.layout.specs.Places.{rowSize}
+use Rattle.state_rules.specs.Places.{rowSize}
 
 mul-u64-at : tie.Need-mul-u64-at
 mul-u64-at c = search needs

@@ -3,9 +3,9 @@ use mathlib.Core.Path.{_≡_, refl, ap, _∙_}
 use native.Mathlib.Omega.{arith}
 use lib.ListN.{length}
 use lib.Seq.{sets, length-sets}
-use Rattle.layout.specs.Places.{tableIn, connectionsOf}
-use Rattle.layout.specs.Setups.{setupOf}
-use Rattle.layout.specs.Rows.{connsIn}
+use Rattle.state_rules.specs.Places.{tableIn, connectionsOf}
+use Rattle.state_rules.specs.Setups.{setupOf}
+use Rattle.state_rules.specs.Rows.{connsIn}
 use Rattle.listing.specs.Listing.{recordAt, tellings, tell-more, table-short, table-told}
 use borrow.Author.Needs.{needs}
 use Rattle.listing.proofs.connections.Statement.{statement}

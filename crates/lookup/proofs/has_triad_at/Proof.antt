@@ -1,5 +1,5 @@
 -- One law for each way out.
-use Rattle.layout.specs.Rows.{connAt}
+use Rattle.state_rules.specs.Rows.{connAt}
 use Rattle.lookup.specs.RowTests.{triad-serial, triad-vendor, triad-last}
 use borrow.Author.Needs.{needs}
 use Rattle.lookup.proofs.has_triad_at.Statement.{statement}

@@ -1,6 +1,6 @@
 -- One law for each way out.
 use borrow.Author.Tests.{not-true, not-false}
-use Rattle.layout.specs.Rows.{connAt}
+use Rattle.state_rules.specs.Rows.{connAt}
 use Rattle.lookup.specs.RowTests.{stream-single, stream-many}
 use borrow.Author.Needs.{needs}
 use Rattle.lookup.proofs.in_stream_at.Statement.{statement}

@@ -13,7 +13,7 @@ use native.Mathlib.Omega.{arith}
 use borrow.Author.Needs.{needs}
 use Rattle.messages.proofs.file_in.Statement.{statement}
 use Rattle.messages.proofs.file_in.Tie as tie
-use Rattle.layout.specs.Places.{edsAt}
+use Rattle.state_rules.specs.Places.{edsAt}
 
 sub-u32-at : tie.Need-sub-u32-at
 sub-u32-at c = search needs

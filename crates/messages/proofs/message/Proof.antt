@@ -2,7 +2,7 @@ use Prim.Native.Nat.{_-_}
 use mathlib.Core.Path.{sym, _∙_}
 use lib.ListN.{length}
 use Rattle.wire_requests.specs.PlaceLaws.{data-inside}
-use Rattle.image.specs.Image.{view}
+use Rattle.state_rules.specs.Image.{view}
 use Rattle.image.specs.StoreLaws.{mid-long}
 use Rattle.positions.specs.Positions.{decUpload}
 use Rattle.messages.specs.Positions.{position-ok, whole-tested, sized-tested}

@@ -3,7 +3,7 @@ use Rattle.rules.specs.declared.objects.Fault.the-variants.{ServiceUnknown}
 use Rattle.rules.specs.Attributes.{Fails}
 use Rattle.rules.specs.Objects.{identity, assembly, tcpIp, ethernetLink}
 use Rattle.rules.specs.Message.{ofClass, fileIn}
-use Rattle.image.specs.Image.{view}
+use Rattle.state_rules.specs.Image.{view}
 use Rattle.attributes.specs.Values.{fails}
 use Rattle.positions.specs.Positions.{decUpload}
 use Rattle.file_object.specs.Files.{kept}

@@ -1,4 +1,4 @@
-use Rattle.image.specs.Image.{view}
+use Rattle.state_rules.specs.Image.{view}
 use Rattle.attributes.specs.Values.{fails}
 use Rattle.positions.specs.Positions.{decUpload}
 use Rattle.file_object.specs.Files.{kept}

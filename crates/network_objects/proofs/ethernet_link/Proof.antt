@@ -1,7 +1,7 @@
 use mathlib.Core.Path.{ap, _∙_}
 use Rattle.rules.specs.Attributes.{Attributes, single, classAttributes}
 use Rattle.rules.specs.Objects.{ethernetLink, ethernetAttributes}
-use Rattle.image.specs.Image.{view}
+use Rattle.state_rules.specs.Image.{view}
 use Rattle.attributes.specs.Told.{told}
 use Rattle.attributes.specs.Values.{among-class, among-none, among-here, fails}
 use Rattle.network_objects.specs.Network.{ethernet-table}

@@ -1,7 +1,7 @@
 use mathlib.Core.List.{[]}
 use mathlib.Core.Path.{refl}
 use Rattle.rules.specs.Objects.{ethernetAttributes}
-use Rattle.layout.specs.Setups.{setupFrom}
+use Rattle.state_rules.specs.Setups.{setupFrom}
 use Rattle.attributes.specs.Values.{value-is, value-none}
 use borrow.Author.Needs.{needs}
 use Rattle.network_objects.proofs.ethernet_value.Statement.{statement}

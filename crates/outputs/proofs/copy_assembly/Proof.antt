@@ -7,7 +7,7 @@ use Rattle.outputs.specs.Outputs.{assembly-short, assembly-wrote}
 use borrow.Author.Needs.{needs}
 use Rattle.outputs.proofs.copy_assembly.Statement.{statement}
 use Rattle.outputs.proofs.copy_assembly.Tie as tie
-use Rattle.layout.specs.Places.{dataFrom}
+use Rattle.state_rules.specs.Places.{dataFrom}
 
 size-at-requires : tie.Need-size-at-requires
 size-at-requires c κs = search needs

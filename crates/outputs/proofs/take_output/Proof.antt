@@ -4,7 +4,7 @@ use mathlib.Core.Path.{ap}
 use native.Mathlib.Omega.{arith}
 use native.Mathlib.Nat.{add-sub-cancel-left}
 use lib.ListN.{take, drop}
-use Rattle.layout.specs.Places.{dataFrom}
+use Rattle.state_rules.specs.Places.{dataFrom}
 use Rattle.outputs.specs.Outputs.{output-short, output-wrote}
 use borrow.Author.Needs.{needs}
 use Rattle.outputs.proofs.take_output.Statement.{statement}

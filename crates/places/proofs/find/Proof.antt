@@ -6,8 +6,8 @@ use lib.ListN.{drop}
 use Rattle.rules.specs.Lists.{place}
 use Rattle.rules.specs.Checks.{isAt}
 use Rattle.rules.specs.Host.{kindTest}
-use Rattle.layout.specs.Setups.{shapeIn, shapesOf}
-use Rattle.layout.specs.SetupLaws.{shapes-rest, shapes-end}
+use Rattle.state_rules.specs.Setups.{shapeIn, shapesOf}
+use Rattle.state_rules.specs.SetupLaws.{shapes-rest, shapes-end}
 use Rattle.searches.specs.Searches.{later, later-zero, list-hit, list-miss, list-ends}
 use Rattle.places.proofs.find.Statement.{statement}
 use Rattle.places.proofs.find.Tie as tie

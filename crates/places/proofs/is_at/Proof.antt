@@ -1,6 +1,6 @@
 -- The kind is looked at first, then the instance.
 use borrow.Author.Tests.{not-true, not-false}
-use Rattle.layout.specs.Setups.{shapeIn}
+use Rattle.state_rules.specs.Setups.{shapeIn}
 use Rattle.places.specs.PlaceLaws.{at-not, at-rest}
 use borrow.Author.Needs.{needs}
 use Rattle.places.proofs.is_at.Statement.{statement}

@@ -2,7 +2,7 @@ use native.Mathlib.Omega.{arith}
 use Prim.Native.Nat.{_≤_, _-_}
 use mathlib.Core.Path.{_≡_, refl, sym, _∙_}
 use lib.ListN.{length}
-use Rattle.layout.specs.Places.{connectionsOf}
+use Rattle.state_rules.specs.Places.{connectionsOf}
 use Rattle.image.specs.Kept.{Kept, kept-slotted}
 use Rattle.producing.specs.SendLaws.{SendSoFar, send-start, send-turn, send-end}
 use Rattle.producing.proofs.send_all.Statement.{statement}

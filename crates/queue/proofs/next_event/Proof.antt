@@ -4,8 +4,8 @@ use mathlib.Core.Path.{ap}
 use native.Mathlib.Omega.{arith}
 use native.Mathlib.Nat.{add-sub-cancel-left}
 use lib.ListN.{take, drop}
-use Rattle.layout.specs.Places.{eventsAt}
-use Rattle.layout.specs.RowLaws.{byte-small}
+use Rattle.state_rules.specs.Places.{eventsAt}
+use Rattle.state_rules.specs.RowLaws.{byte-small}
 use Rattle.queue.specs.Queue.{event-none, event-short, event-taken}
 use borrow.Author.Needs.{needs}
 use Rattle.queue.proofs.next_event.Statement.{statement}

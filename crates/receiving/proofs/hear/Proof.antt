@@ -1,7 +1,7 @@
 use native.Mathlib.Omega.{arith}
 use mathlib.Core.Path.{_≡_, sym, _∙_}
 use borrow.Author.Tests.{not-true, not-false}
-use Rattle.layout.specs.Places.{connectionsOf}
+use Rattle.state_rules.specs.Places.{connectionsOf}
 use Rattle.image.specs.Kept.{kept-slotted}
 use Rattle.receiving.specs.DecisionLaws.{cip-inside}
 use Rattle.receiving.specs.HearLaws.{hear-old, hear-plain, hear-again, hear-offered}

@@ -8,7 +8,7 @@ use lib.Dec.{eqb}
 use lib.ListN.{length, getD, take, drop, length-drop}
 use lib.Seq.{take-all}
 use Rattle.rules.specs.declared.Event.the-variants.{OutputChanged}
-use Rattle.layout.specs.Places.{connectionsOf}
+use Rattle.state_rules.specs.Places.{connectionsOf}
 use Rattle.image.specs.Kept.{kept-few}
 use Rattle.events.specs.Records.{output-is}
 use Rattle.events.specs.Pushes.{told-as}

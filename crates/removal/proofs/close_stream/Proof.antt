@@ -1,7 +1,7 @@
 use mathlib.Core.Path.{sym, _∙_}
 use Prim.Native.Nat.{_+_}
 use Rattle.cells.specs.Records.{ofBool}
-use Rattle.layout.specs.Places.{connectionsOf}
+use Rattle.state_rules.specs.Places.{connectionsOf}
 use Rattle.removal.specs.Turns.{Fewer, fewer-none}
 use Rattle.removal.specs.Listeners.{Closing, closing-start, closing-turn, closing-end, closing-less, fewer-dropped}
 use Rattle.removal.proofs.close_stream.Statement.{statement}

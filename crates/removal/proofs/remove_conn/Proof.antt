@@ -2,7 +2,7 @@ use native.Mathlib.Omega.{arith}
 use Prim.Native.Nat.{_-_}
 use lib.ListN.{drop}
 use Rattle.cells.specs.Back.{bytes-take, bytes-drop}
-use Rattle.layout.specs.Places.{tableIn, tableSize, connectionsOf}
+use Rattle.state_rules.specs.Places.{tableIn, tableSize, connectionsOf}
 use Rattle.removal.specs.Turns.{fewer-both, fewer-kept, turn-gone}
 use Rattle.removal.specs.Hands.{sent-small}
 use Rattle.removal.specs.Removals.{goes}

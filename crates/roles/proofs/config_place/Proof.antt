@@ -3,7 +3,7 @@ use mathlib.Core.Option.{none}
 use mathlib.Core.Path.{_∙_}
 use Rattle.rules.specs.State.{isConfig}
 use Rattle.rules.specs.Checks.{placeOf}
-use Rattle.layout.specs.Setups.{setupFrom}
+use Rattle.state_rules.specs.Setups.{setupFrom}
 use Rattle.roles.specs.RoleLaws.{if-is, if-not}
 use borrow.Author.Needs.{needs}
 use Rattle.roles.proofs.config_place.Statement.{statement}

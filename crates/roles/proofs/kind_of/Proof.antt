@@ -1,5 +1,5 @@
 use mathlib.Core.List.{[]}
-use Rattle.layout.specs.Setups.{setupFrom}
+use Rattle.state_rules.specs.Setups.{setupFrom}
 use Rattle.roles.specs.RoleLaws.{kind-input-only, kind-listen-only, kind-owner}
 use borrow.Author.Needs.{needs}
 use Rattle.roles.proofs.kind_of.Statement.{statement}

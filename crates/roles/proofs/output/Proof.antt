@@ -1,5 +1,5 @@
 use mathlib.Core.List.{[]}
-use Rattle.layout.specs.Setups.{setupFrom}
+use Rattle.state_rules.specs.Setups.{setupFrom}
 use Rattle.roles.specs.Roles.{placeIn}
 use Rattle.roles.specs.RoleLaws.{output-owner}
 use borrow.Author.Needs.{needs}

@@ -1,7 +1,7 @@
 use mathlib.Core.List.{[]}
 use mathlib.Core.Path.{refl}
 use borrow.Author.Tests.{not-true, not-false}
-use Rattle.layout.specs.Setups.{setupFrom}
+use Rattle.state_rules.specs.Setups.{setupFrom}
 use Rattle.roles.specs.Roles.{said}
 use Rattle.roles.specs.RoleLaws.{points-class, points-count, points-output, points-input, points-roles}
 use borrow.Author.Needs.{needs}

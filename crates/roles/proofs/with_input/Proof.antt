@@ -1,6 +1,6 @@
 use mathlib.Core.List.{[]}
 use mathlib.Core.Path.{refl}
-use Rattle.layout.specs.Setups.{setupFrom}
+use Rattle.state_rules.specs.Setups.{setupFrom}
 use Rattle.roles.specs.RoleLaws.{input-none, input-there, input-roles}
 use borrow.Author.Needs.{needs}
 use Rattle.roles.proofs.with_input.Statement.{statement}

@@ -2,8 +2,8 @@ use mathlib.Core.Path.{_≡_, refl, sym, _∙_}
 use Prim.Native.Nat.{_≤_, _-_}
 use lib.ListN.{drop}
 use Rattle.rules.specs.Lists.{any}
-use Rattle.layout.specs.Rows.{decConn, connsIn}
-use Rattle.layout.specs.Places.{rowSize}
+use Rattle.state_rules.specs.Rows.{decConn, connsIn}
+use Rattle.state_rules.specs.Places.{rowSize}
 use Rattle.searches.specs.Searches.{any-hit, any-miss, any-ends}
 use Rattle.status.specs.Status.{ownerIn}
 use borrow.Author.Needs.{needs}

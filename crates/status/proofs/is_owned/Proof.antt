@@ -2,8 +2,8 @@ use mathlib.Core.Path.{ap, sym, _∙_}
 use Prim.Native.Nat.{ℕ}
 use Rattle.tables.specs.Tables.{rows}
 use Rattle.rules.specs.Lists.{any}
-use Rattle.layout.specs.Places.{tableIn}
-use Rattle.layout.specs.Rows.{connsIn}
+use Rattle.state_rules.specs.Places.{tableIn}
+use Rattle.state_rules.specs.Rows.{connsIn}
 use Rattle.status.specs.Status.{ownerIn, owned-rows}
 use borrow.Author.Needs.{needs}
 use Rattle.status.proofs.is_owned.Statement.{statement}

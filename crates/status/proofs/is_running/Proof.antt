@@ -4,9 +4,9 @@ use lib.ListN.{drop}
 use Rattle.tables.specs.Tables.{rows}
 use Rattle.rules.specs.Lists.{any}
 use Rattle.rules.specs.Objects.{running}
-use Rattle.layout.specs.Places.{tableIn, rowSize, connectionsOf}
-use Rattle.layout.specs.Rows.{decConn, connsIn}
-use Rattle.image.specs.Image.{view}
+use Rattle.state_rules.specs.Places.{tableIn, rowSize, connectionsOf}
+use Rattle.state_rules.specs.Rows.{decConn, connsIn}
+use Rattle.state_rules.specs.Image.{view}
 use Rattle.searches.specs.Searches.{any-hit, any-miss, any-ends}
 use Rattle.status.specs.Status.{runsIn, running-rows}
 use borrow.Author.Needs.{needs}

@@ -1,8 +1,8 @@
 -- A row of another kind does not run; an owner's row runs where its output does.
 use borrow.Author.Tests.{not-true, not-false}
-use Rattle.layout.specs.Places.{tableIn}
-use Rattle.layout.specs.Rows.{connAt}
-use Rattle.image.specs.Image.{view}
+use Rattle.state_rules.specs.Places.{tableIn}
+use Rattle.state_rules.specs.Rows.{connAt}
+use Rattle.state_rules.specs.Image.{view}
 use Rattle.status.specs.Status.{row-other, row-owner}
 use borrow.Author.Needs.{needs}
 use Rattle.status.proofs.running_at.Statement.{statement}

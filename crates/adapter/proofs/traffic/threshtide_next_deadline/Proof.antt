@@ -2,7 +2,7 @@ use mathlib.Core.Path.{_≡_, sym, _∙_}
 use native.Mathlib.Omega.{arith}
 use borrow.Author.Tests.{not-true, not-false}
 use Rattle.rules.specs.Removal.{deadlineAnswer}
-use Rattle.image.specs.Image.{view}
+use Rattle.state_rules.specs.Image.{view}
 use Rattle.image.specs.Holds.{ready-tested, holds-tested}
 use Rattle.image.specs.Lift.{read-fails, read-done}
 use borrow.Author.Needs.{needs}

@@ -3,7 +3,7 @@ use native.Mathlib.Omega.{arith}
 use borrow.Author.Tests.{not-true, not-false}
 use lib.ListN.{length}
 use Rattle.rules.specs.Producing.{produceCall}
-use Rattle.image.specs.Image.{view}
+use Rattle.state_rules.specs.Image.{view}
 use Rattle.image.specs.Holds.{ready-tested, slotted-tested, holds-tested}
 use Rattle.image.specs.Lift.{out-fails, out-kept, out-done}
 use Rattle.producing.specs.CallLaws.{late-number, late-state, late-bytes}

@@ -2,7 +2,7 @@ use mathlib.Core.Path.{_≡_, ap, sym, _∙_}
 use native.Mathlib.Omega.{arith}
 use borrow.Author.Tests.{not-true, not-false}
 use Rattle.rules.specs.Receiving.{receiveCall}
-use Rattle.image.specs.Image.{view, store}
+use Rattle.state_rules.specs.Image.{view, store}
 use Rattle.image.specs.Holds.{ready-tested, slotted-tested, holds-tested}
 use Rattle.image.specs.Lift.{lifted-fails, lifted-kept, lifted-done}
 use Rattle.receiving.specs.CallLaws.{late-number, late-state, done-number, done-state}

@@ -1,4 +1,4 @@
-use Rattle.layout.specs.Setups.{identityOf}
+use Rattle.state_rules.specs.Setups.{identityOf}
 use Rattle.checking.specs.Says.{stopIn}
 use Rattle.checking.specs.KeyLaws.{key-there, key-none}
 use borrow.Author.Needs.{needs}

@@ -1,4 +1,4 @@
-use Rattle.layout.specs.Setups.{identityOf}
+use Rattle.state_rules.specs.Setups.{identityOf}
 use Rattle.checking.specs.KeyLaws.{revision-any, revision-no, revision-minor}
 use borrow.Author.Needs.{needs}
 use Rattle.checking.proofs.key.revision_ok.Statement.{statement}

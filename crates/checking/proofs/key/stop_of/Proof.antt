@@ -1,5 +1,5 @@
 use borrow.Author.Tests.{not-true, not-false}
-use Rattle.layout.specs.Setups.{identityOf}
+use Rattle.state_rules.specs.Setups.{identityOf}
 use Rattle.checking.specs.KeyLaws.{key-vendor, key-product, key-device, key-yes, key-revision}
 use borrow.Author.Needs.{needs}
 use Rattle.checking.proofs.key.stop_of.Statement.{statement}

@@ -1,6 +1,6 @@
 use mathlib.Core.List.{[]}
 use borrow.Author.Tests.{not-true, not-false}
-use Rattle.layout.specs.Setups.{setupFrom}
+use Rattle.state_rules.specs.Setups.{setupFrom}
 use Rattle.checking.specs.RequestLaws.{rpi-ot, rpi-to, rpi-yes}
 use borrow.Author.Needs.{needs}
 use Rattle.checking.proofs.request.rpi.Statement.{statement}

@@ -3,7 +3,7 @@ use native.Mathlib.Omega.{arith}
 use mathlib.Core.Path.{refl}
 use lib.ListN.{length}
 use Rattle.rules.specs.declared.Event.the-variants.{Configured}
-use Rattle.layout.specs.Places.{connectionsOf}
+use Rattle.state_rules.specs.Places.{connectionsOf}
 use Rattle.image.specs.Kept.{kept-few}
 use Rattle.events.specs.Records.{configured-is}
 use Rattle.events.specs.Pushes.{told-as}

@@ -1,5 +1,5 @@
 -- The connection, its data and the fault mark, one after the other.
-use Rattle.layout.specs.Places.{connectionsOf}
+use Rattle.state_rules.specs.Places.{connectionsOf}
 use Prim.Native.Nat.{_+_}
 use Rattle.opening.specs.StepLaws.{room-kept, open-kept, open-done}
 use borrow.Author.Needs.{needs}

@@ -1,5 +1,5 @@
 use mathlib.Core.List.{[]}
-use Rattle.layout.specs.Setups.{setupFrom}
+use Rattle.state_rules.specs.Setups.{setupFrom}
 use Rattle.checking.specs.Says.{stopIn}
 use Rattle.roles.specs.SizeLaws.{config-nowhere, config-place}
 use borrow.Author.Needs.{needs}

@@ -1,5 +1,5 @@
 use mathlib.Core.List.{[]}
-use Rattle.layout.specs.Setups.{setupFrom}
+use Rattle.state_rules.specs.Setups.{setupFrom}
 use Rattle.roles.specs.SizeLaws.{length-fits, length-other}
 use borrow.Author.Needs.{needs}
 use Rattle.roles.proofs.sizes.length_at.Statement.{statement}

@@ -1,7 +1,7 @@
 use mathlib.Core.List.{[]}
 use mathlib.Core.Path.{ap}
 use Rattle.rules.specs.State.{isOwner}
-use Rattle.layout.specs.Setups.{setupFrom}
+use Rattle.state_rules.specs.Setups.{setupFrom}
 use Rattle.checking.specs.Says.{stopIn}
 use Rattle.roles.specs.Roles.{rolesIn}
 use Rattle.roles.specs.SizeLaws.{ot-owner, ot-beat}

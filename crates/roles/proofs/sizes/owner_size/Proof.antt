@@ -1,7 +1,7 @@
 use mathlib.Core.List.{[]}
 use Rattle.rules.specs.State.{shapeAt}
 use Rattle.rules.specs.declared.Stop.the-variants.{OwnerSize}
-use Rattle.layout.specs.Setups.{setupFrom}
+use Rattle.state_rules.specs.Setups.{setupFrom}
 use Rattle.roles.specs.SizeLaws.{size-fits, size-other}
 use borrow.Author.Needs.{needs}
 use Rattle.roles.proofs.sizes.owner_size.Statement.{statement}

@@ -2,7 +2,7 @@ use mathlib.Core.List.{[]}
 use Rattle.rules.specs.State.{shapeAt}
 use Rattle.rules.specs.Checks.{toSizeCheck}
 use Rattle.rules.specs.declared.Stop.the-variants.{InputSize}
-use Rattle.layout.specs.Setups.{setupFrom}
+use Rattle.state_rules.specs.Setups.{setupFrom}
 use Rattle.roles.specs.SizeLaws.{size-fits, size-other}
 use borrow.Author.Needs.{needs}
 use Rattle.roles.proofs.sizes.to_size.Statement.{statement}

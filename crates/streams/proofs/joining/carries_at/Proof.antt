@@ -1,7 +1,7 @@
 -- One law for each way out.
 use mathlib.Core.Path.{sym, _∙_}
 use borrow.Author.Tests.{not-true, not-false}
-use Rattle.layout.specs.Rows.{rowAt, decFixed}
+use Rattle.state_rules.specs.Rows.{rowAt, decFixed}
 use Rattle.streams.specs.Joining.{carries-single, carries-listener, carries-other, carries-any, carries-equal}
 use borrow.Author.Needs.{needs}
 use Rattle.streams.proofs.joining.carries_at.Statement.{statement}

@@ -4,8 +4,8 @@ use native.Mathlib.Omega.{arith}
 use lib.ListN.{drop}
 use Rattle.rules.specs.Lists.{find}
 use Rattle.rules.specs.Checks.{streamFound}
-use Rattle.layout.specs.Rows.{decFixed, fixedsIn}
-use Rattle.layout.specs.Places.{rowSize}
+use Rattle.state_rules.specs.Rows.{decFixed, fixedsIn}
+use Rattle.state_rules.specs.Places.{rowSize}
 use Rattle.searches.specs.Searches.{find-hit, find-miss, find-ends}
 use Rattle.streams.specs.Joining.{carriesFor}
 use borrow.Author.Needs.{needs}

@@ -1,5 +1,5 @@
 use borrow.Author.Tests.{not-true, not-false}
-use Rattle.layout.specs.Rows.{fixedsIn}
+use Rattle.state_rules.specs.Rows.{fixedsIn}
 use Rattle.streams.specs.Joining.{stream-own, stream-first}
 use borrow.Author.Needs.{needs}
 use Rattle.streams.proofs.joining.stream_of.Statement.{statement}

@@ -4,8 +4,8 @@ use native.Mathlib.Omega.{arith}
 use lib.ListN.{drop}
 use Rattle.rules.specs.Lists.{any}
 use Rattle.rules.specs.Checks.{owns}
-use Rattle.layout.specs.Rows.{decFixed, fixedsIn}
-use Rattle.layout.specs.Places.{rowSize}
+use Rattle.state_rules.specs.Rows.{decFixed, fixedsIn}
+use Rattle.state_rules.specs.Places.{rowSize}
 use Rattle.searches.specs.Searches.{any-hit, any-miss, any-ends}
 use borrow.Author.Needs.{needs}
 use Rattle.streams.proofs.owning.owned.Statement.{statement}

@@ -1,8 +1,8 @@
 -- A reader owns nothing; a free output stops nothing; an owned one stops the open with its instance.
 use borrow.Author.Tests.{not-true, not-false}
 use mathlib.Core.List.{[]}
-use Rattle.layout.specs.Rows.{fixedsIn}
-use Rattle.layout.specs.Setups.{setupFrom}
+use Rattle.state_rules.specs.Rows.{fixedsIn}
+use Rattle.state_rules.specs.Setups.{setupFrom}
 use Rattle.records.specs.Shapes.{shapeOf}
 use Rattle.streams.specs.Owning.{owner-other, owner-free, owner-taken}
 use borrow.Author.Needs.{needs}

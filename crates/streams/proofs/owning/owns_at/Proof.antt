@@ -1,6 +1,6 @@
 -- One law for each way out.
 use borrow.Author.Tests.{not-true, not-false}
-use Rattle.layout.specs.Rows.{rowAt, decFixed}
+use Rattle.state_rules.specs.Rows.{rowAt, decFixed}
 use Rattle.streams.specs.Owning.{owns-not, owns-same}
 use borrow.Author.Needs.{needs}
 use Rattle.streams.proofs.owning.owns_at.Statement.{statement}

@@ -18,7 +18,7 @@ use Rattle.rules.specs.declared.Due.{Due}
 use Rattle.rules.specs.declared.Due.the-variants.{Never, At}
 use Rattle.rules.specs.declared.Sent.{Sent}
 use Rattle.rules.specs.declared.Conn.{Conn}
-use Rattle.layout.specs.Places.{rowSize}
+use Rattle.state_rules.specs.Places.{rowSize}
 
 -- the row at a place of the table's region
 abbrev pub rowAt : List ℕ → ℕ → List ℕ

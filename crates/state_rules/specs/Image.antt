@@ -12,10 +12,10 @@ use Rattle.tables.specs.Ring.{storeRing, ringOf}
 use Rattle.tables.specs.Slots.{storeSlots}
 use Rattle.tables.specs.Regions.{joined}
 use Rattle.rules.specs.State.{Shape, Content, State}
-use Rattle.layout.specs.Places.{setupIn, headIn, wHead, marksIn, tableIn, ringIn, dataIn, edsIn, stateSize, rowSize, headUsed, nextIdOf, ringWordOf, ringBound, firstOf, waitingOf, connectionsOf, faultOf, producedOf, lateOf, maxLateOf}
-use Rattle.layout.specs.Setups.{setupOf, goodSetup, goodShapes}
-use Rattle.layout.specs.Rows.{encConn, connsIn}
-use Rattle.layout.specs.Bits.{wordOf, runIn, notifiedIn, markOver}
+use Rattle.state_rules.specs.Places.{setupIn, headIn, wHead, marksIn, tableIn, ringIn, dataIn, edsIn, stateSize, rowSize, headUsed, nextIdOf, ringWordOf, ringBound, firstOf, waitingOf, connectionsOf, faultOf, producedOf, lateOf, maxLateOf}
+use Rattle.state_rules.specs.Setups.{setupOf, goodSetup, goodShapes}
+use Rattle.state_rules.specs.Rows.{encConn, connsIn}
+use Rattle.state_rules.specs.Bits.{wordOf, runIn, notifiedIn, markOver}
 
 -- ---- the view
 

@@ -5,8 +5,8 @@ use mathlib.Core.Path.{_≡_, ap, _∙_}
 use native.Mathlib.Omega.{arith}
 use Rattle.cells.specs.Records.{toBool, ofBool, to-of}
 use Rattle.cells.specs.Back.{of-to}
-use Rattle.layout.specs.Places.{ringBound}
-use Rattle.layout.specs.RowLaws.{bit-small}
+use Rattle.state_rules.specs.Places.{ringBound}
+use Rattle.state_rules.specs.RowLaws.{bit-small}
 
 -- ---- the ring's word: events that wait, the oldest one's slot, the fault mark; one comparison for the three
 

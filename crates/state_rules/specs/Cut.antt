@@ -6,9 +6,9 @@ use native.Mathlib.Omega.{arith}
 use lib.ListN.{length, take, drop, replicate, length-drop}
 use lib.Seq.{sets, sets-eq, length-sets, paste, take-paste, drop-paste, length-paste, drop-drop}
 use Rattle.tables.specs.Grow.{cutRow}
-use Rattle.layout.specs.Places.{tableSize, rowSize}
-use Rattle.layout.specs.Rows.{encConn}
-use Rattle.layout.specs.RowLaws.{length-encConn}
+use Rattle.state_rules.specs.Places.{tableSize, rowSize}
+use Rattle.state_rules.specs.Rows.{encConn}
+use Rattle.state_rules.specs.RowLaws.{length-encConn}
 
 unfoldable pub cut : ℕ → ℕ → List ℕ → List ℕ
 cut n i r = cutRow rowSize encConn length-encConn n i r

@@ -9,9 +9,9 @@ use native.Mathlib.Omega.{arith}
 use borrow.Author.Tests.{leb-true, le-leb}
 use Rattle.cells.specs.Back.{all, all-at, all-cons, all-nil}
 use Rattle.rules.specs.State.{Shape}
-use Rattle.layout.specs.Places.{assembliesOf}
-use Rattle.layout.specs.Setups.{shapeIn, shapesOf, testsShapes, goodShapes}
-use Rattle.layout.specs.Listed.{listed, length-listed, listed-at, listed-rest, listed-end}
+use Rattle.state_rules.specs.Places.{assembliesOf}
+use Rattle.state_rules.specs.Setups.{shapeIn, shapesOf, testsShapes, goodShapes}
+use Rattle.state_rules.specs.Listed.{listed, length-listed, listed-at, listed-rest, listed-end}
 
 all-listed : (f : ℕ → Bool) (n : ℕ) → ((i : ℕ) → i < n → f i ≡ true) → all (listed f n) ≡ true
 unfolding listed

@@ -6,11 +6,11 @@ use Prim.Native.Nat.{ℕ}
 use lib.ListN.{replicate}
 use Rattle.cells.specs.Numbers.{bytesLe, le, leOf}
 use Rattle.cells.specs.Back.{all}
-use Rattle.layout.specs.Listed.{listed}
-use Rattle.layout.specs.Setups.{shapeIn, shapesOf, goodSetup, goodShapes}
+use Rattle.state_rules.specs.Listed.{listed}
+use Rattle.state_rules.specs.Setups.{shapeIn, shapesOf, goodSetup, goodShapes}
 use Rattle.rules.specs.declared.Kind.the-variants.{Owner, InputOnly, ListenOnly}
 use Rattle.rules.specs.declared.AssemblyKind.the-variants.{Input, Output, Config}
-use Rattle.layout.specs.Rows.{kindIn, outputIn}
+use Rattle.state_rules.specs.Rows.{kindIn, outputIn}
 
 -- a setup's region by what is tested of it: the number of assemblies, the transfer limit, the lengths of product name and EDS name, the
 -- EDS mark; 16.8: all else is 255, but the greatest RPI is 0, below the least

@@ -24,8 +24,8 @@ use Rattle.rules.specs.declared.Due.{Due}
 use Rattle.rules.specs.declared.Due.the-variants.{Never, At}
 use Rattle.rules.specs.declared.Sent.{Sent}
 use Rattle.rules.specs.declared.Conn.{Conn}
-use Rattle.layout.specs.Places.{rowSize}
-use Rattle.layout.specs.Rows.{wSent, wHeard, wFixed, ofDue, toDue, carriedOf, flagsOf, multicastIn, inputIn, anyIn, anycipIn, roleOf, kindIn, outputIn, RoleFits, RowFits, listSent, listHeard, listFixed, asSent, asHeard, asFixed, encSent, encHeard, encFixed, encConn, decSent, decHeard, decFixed, decConn}
+use Rattle.state_rules.specs.Places.{rowSize}
+use Rattle.state_rules.specs.Rows.{wSent, wHeard, wFixed, ofDue, toDue, carriedOf, flagsOf, multicastIn, inputIn, anyIn, anycipIn, roleOf, kindIn, outputIn, RoleFits, RowFits, listSent, listHeard, listFixed, asSent, asHeard, asFixed, encSent, encHeard, encFixed, encConn, decSent, decHeard, decFixed, decConn}
 
 -- ---- due times, roles and flags are numbers
 

@@ -11,9 +11,9 @@ use Rattle.cells.specs.Back.{all, all-at}
 use Rattle.tables.specs.Tables.{rows}
 use Rattle.tables.specs.Store.{storeRows}
 use Rattle.tables.specs.Ring.{ringOf}
-use Rattle.layout.specs.Places.{headIn, stateSize, rowSize}
-use Rattle.layout.specs.Bits.{markOver}
-use Rattle.image.specs.Image.{view, headOf, tableOf, goodHead, testsState, tested}
+use Rattle.state_rules.specs.Places.{headIn, stateSize, rowSize}
+use Rattle.state_rules.specs.Bits.{markOver}
+use Rattle.state_rules.specs.Image.{view, headOf, tableOf, goodHead, testsState, tested}
 
 -- a state's bytes up to the marks by what is tested of the head: next id, the ring's word, connections
 abbrev pub headed : ℕ → ℕ → ℕ → List ℕ

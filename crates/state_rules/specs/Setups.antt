@@ -10,8 +10,8 @@ use Rattle.cells.specs.Back.{all}
 use Rattle.rules.specs.declared.AssemblyKind.{AssemblyKind}
 use Rattle.rules.specs.declared.AssemblyKind.the-variants.{Input, Output, Config}
 use Rattle.rules.specs.State.{Identity, Shape, Setup}
-use Rattle.layout.specs.Places.{setupIn, edsIn, instancesAt, sizesAt, kindsAt, assembliesOf}
-use Rattle.layout.specs.Listed.{listed}
+use Rattle.state_rules.specs.Places.{setupIn, edsIn, instancesAt, sizesAt, kindsAt, assembliesOf}
+use Rattle.state_rules.specs.Listed.{listed}
 
 -- a kind: 2 is an output, 3 a configuration, any other number an input
 abbrev pub kindNamed : ℕ → AssemblyKind

@@ -1,2 +1,0 @@
--- The examples that a wrong reading of a rule breaks.
-pub mod Examples

@@ -1,0 +1,2 @@
+pub mod LayoutExamples
+pub mod ImageExamples

@@ -1,0 +1,9 @@
+pub mod Places
+pub mod Listed
+pub mod Setups
+pub mod SetupLaws
+pub mod Rows
+pub mod RowLaws
+pub mod Bits
+pub mod Cut
+pub mod Image
