@@ -14,34 +14,6 @@
 extern "C" {
 #endif
 
-/* Closes a connection. Yes: 10 reply bytes. No: 1, 4, 9, 8. */
-uint64_t threshtide_close(
-    uint8_t *state,
-    size_t state_len,
-    const uint8_t *request,
-    size_t request_len,
-    uint8_t *out,
-    size_t out_len);
-
-/* Removes what was silent for longer than its timeout; how many went stands in bits 8 and up. No: 1, 3. */
-uint64_t threshtide_expire(uint8_t *state, size_t state_len, uint64_t time);
-
-/* How many bytes an upload position has; all zero is none. */
-uint64_t threshtide_upload_size(void);
-
-/* The reply to an explicit message; an upload of the EDS moves its position. No: 1, 8. */
-uint64_t threshtide_message(
-    const uint8_t *state,
-    size_t state_len,
-    uint8_t *upload,
-    size_t upload_len,
-    uint32_t local,
-    uint32_t mask,
-    const uint8_t *message,
-    size_t message_len,
-    uint8_t *out,
-    size_t out_len);
-
 /* How many bytes a host has to lend as the state. */
 uint64_t threshtide_state_size(void);
 
@@ -74,6 +46,65 @@ uint64_t threshtide_stats(const uint8_t *state, size_t state_len, uint8_t *out, 
 /* The connections in table order, a record of 32 bytes each. No: 1, 8. */
 uint64_t threshtide_connections(const uint8_t *state, size_t state_len, uint8_t *out, size_t out_len);
 
+/* Sets a state up from a block of 192 bytes and an EDS; ids begin at the seed. No: 1, 2. */
+uint64_t threshtide_setup(
+    uint8_t *state,
+    size_t state_len,
+    const uint8_t *block,
+    size_t block_len,
+    const uint8_t *eds,
+    size_t eds_len,
+    uint32_t seed);
+
+/* Closes a connection. Yes: 10 reply bytes. No: 1, 4, 9, 8. */
+uint64_t threshtide_close(
+    uint8_t *state,
+    size_t state_len,
+    const uint8_t *request,
+    size_t request_len,
+    uint8_t *out,
+    size_t out_len);
+
+/* Removes what was silent for longer than its timeout; how many went stands in bits 8 and up. No: 1, 3. */
+uint64_t threshtide_expire(uint8_t *state, size_t state_len, uint64_t time);
+
+/* The time when a packet is due or a connection lives no longer, 8 bytes. No: 1, 9, 8. */
+uint64_t threshtide_next_deadline(const uint8_t *state, size_t state_len, uint8_t *out, size_t out_len);
+
+/* A frame from an address; one of no use is ignored. No: 1, 3. */
+uint64_t threshtide_receive(
+    uint8_t *state,
+    size_t state_len,
+    uint64_t time,
+    uint32_t from,
+    const uint8_t *frame,
+    size_t frame_len);
+
+/* All packets that are due, one behind the other; their length stands in bits 8 and up. No: 1, 3, 8. */
+uint64_t threshtide_produce(uint8_t *state, size_t state_len, uint64_t time, uint8_t *out, size_t out_len);
+
+/* How many bytes an upload position has; all zero is none. */
+uint64_t threshtide_upload_size(void);
+
+/* The reply to an explicit message; an upload of the EDS moves its position. No: 1, 8. */
+uint64_t threshtide_message(
+    const uint8_t *state,
+    size_t state_len,
+    uint8_t *upload,
+    size_t upload_len,
+    uint32_t local,
+    uint32_t mask,
+    const uint8_t *message,
+    size_t message_len,
+    uint8_t *out,
+    size_t out_len);
+
+/* What a path holds, a record of 32 bytes. No: 4, 8. */
+uint64_t threshtide_path(const uint8_t *path, size_t path_len, uint8_t *out, size_t out_len);
+
+/* What an explicit message asks, a record of 20 bytes. No: 4, 8. */
+uint64_t threshtide_request(const uint8_t *message, size_t message_len, uint8_t *out, size_t out_len);
+
 /* Opens a connection. Yes: 26 reply bytes; multicast in bits 8 to 15, port in 16 to 31, address in 32 to 63. No: 1, 3, 4, 5, 8. */
 uint64_t threshtide_open(
     uint8_t *state,
@@ -99,37 +130,6 @@ uint64_t threshtide_open_refusal(
     size_t request_len,
     uint8_t *out,
     size_t out_len);
-
-/* What a path holds, a record of 32 bytes. No: 4, 8. */
-uint64_t threshtide_path(const uint8_t *path, size_t path_len, uint8_t *out, size_t out_len);
-
-/* What an explicit message asks, a record of 20 bytes. No: 4, 8. */
-uint64_t threshtide_request(const uint8_t *message, size_t message_len, uint8_t *out, size_t out_len);
-
-/* Sets a state up from a block of 192 bytes and an EDS; ids begin at the seed. No: 1, 2. */
-uint64_t threshtide_setup(
-    uint8_t *state,
-    size_t state_len,
-    const uint8_t *block,
-    size_t block_len,
-    const uint8_t *eds,
-    size_t eds_len,
-    uint32_t seed);
-
-/* The time when a packet is due or a connection lives no longer, 8 bytes. No: 1, 9, 8. */
-uint64_t threshtide_next_deadline(const uint8_t *state, size_t state_len, uint8_t *out, size_t out_len);
-
-/* A frame from an address; one of no use is ignored. No: 1, 3. */
-uint64_t threshtide_receive(
-    uint8_t *state,
-    size_t state_len,
-    uint64_t time,
-    uint32_t from,
-    const uint8_t *frame,
-    size_t frame_len);
-
-/* All packets that are due, one behind the other; their length stands in bits 8 and up. No: 1, 3, 8. */
-uint64_t threshtide_produce(uint8_t *state, size_t state_len, uint64_t time, uint8_t *out, size_t out_len);
 
 #ifdef __cplusplus
 }

@@ -1,8 +1,8 @@
 // The C functions. Each tests the lent state and calls one function down; docs/INTERFACE.md says what a host gives and gets.
-pub mod ends;
-pub mod explicit;
-pub mod host;
-pub mod opens;
-pub mod routes;
-pub mod start;
-pub mod traffic;
+pub mod app_calls;
+pub mod app_setup;
+pub mod conn_calls;
+pub mod io_calls;
+pub mod msg_calls;
+pub mod msg_routes;
+pub mod open_calls;

@@ -13,9 +13,9 @@ use Rattle.rules.specs.Setup.{fresh}
 use Rattle.rules.specs.Calls
 use Rattle.rules.specs.Calls.{Call, answer, next, run}
 use Rattle.state_rules.specs.Image.{view, tested}
-use Rattle.isolation.specs.Demand.{Same-expiries, Answered-alike, All-answered-alike, Never-owned, other, demand-3, inputs-equal}
-use Rattle.starting.specs.Block.{setupGiven, setupCall}
-use Rattle.starting.specs.Calls.{setup-fresh}
+use Rattle.rules_isolation.specs.Demand.{Same-expiries, Answered-alike, All-answered-alike, Never-owned, other, demand-3, inputs-equal}
+use Rattle.app_starting.specs.Block.{setupGiven, setupCall}
+use Rattle.app_starting.specs.Calls.{setup-fresh}
 use Rattle.host_runs.specs.Contracts.{Said, Answers}
 use Rattle.host_runs.specs.HostCalls.{HostCall, contractOf, callOf}
 use Rattle.host_promises.specs.Rows.{conns, conns-view}

@@ -9,11 +9,11 @@ use mathlib.Core.Path.{_≡_, refl, ap, _∙_}
 use native.Mathlib.Omega.{arith}
 use lib.ListN.{getD, replicate, length-replicate}
 use lib.Seq.{sets}
-use Rattle.cells.specs.Numbers.{le, leOf, put, bytesLe}
-use Rattle.cells.specs.BigEndian.{bytesBe}
-use Rattle.cells.specs.Records.{encFields}
-use Rattle.cells.specs.Back.{all}
-use Rattle.tables.specs.Tables.{rows}
+use Rattle.base_cells.specs.Numbers.{le, leOf, put, bytesLe}
+use Rattle.base_cells.specs.BigEndian.{bytesBe}
+use Rattle.base_cells.specs.Records.{encFields}
+use Rattle.base_cells.specs.Back.{all}
+use Rattle.base_tables.specs.Tables.{rows}
 use Rattle.wire_rules.specs.Items.{startOf, stepAt, itemsFrom, itemsOf}
 use Rattle.wire_rules.specs.Frames.{ioOf, ioFrame}
 use Rattle.wire_rules.specs.Segments.{portAt, logicalAt, keyOf, keyAt, dataAt, segAt, segsFrom, segsOf}
@@ -37,10 +37,10 @@ use Rattle.rules.specs.Calls.{answer, run}
 use Rattle.rules.proofs.Examples.{setup, start, owner, heard}
 use Rattle.state_rules.specs.Places.{marksAt, stateSize}
 use Rattle.state_rules.specs.Image.{view}
-use Rattle.image.specs.Lift.{lifted, liftedOut}
-use Rattle.lastword.specs.Clearing.{Heard-lately}
-use Rattle.starting.specs.Block.{decShape, markedBlock, setupGiven, kindGiven, accepted, started, setupCall}
-use Rattle.starting.specs.Calls.{set-up}
+use Rattle.state_image.specs.Lift.{lifted, liftedOut}
+use Rattle.rules_lastword.specs.Clearing.{Heard-lately}
+use Rattle.app_starting.specs.Block.{decShape, markedBlock, setupGiven, kindGiven, accepted, started, setupCall}
+use Rattle.app_starting.specs.Calls.{set-up}
 use Rattle.adapter.specs.Origins.{originOf}
 use Rattle.host_runs.specs.Contracts.{Said, Met}
 use Rattle.host_runs.specs.HostCalls.{HostCall, contractOf, callOf, CCall}

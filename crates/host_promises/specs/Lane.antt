@@ -11,7 +11,7 @@ use lib.Dec.{leb}
 use lib.ListN.{length, drop, getD, replicate}
 use lib.Seq.{sets, sets-eq}
 use borrow.Author.Tests.{eqb-true, lt-ltb, le-leb, lt-leb, leb-true, leb-false}
-use Rattle.cells.specs.Records.{ofBool, toBool, to-of}
+use Rattle.base_cells.specs.Records.{ofBool, toBool, to-of}
 use Rattle.rules_laws.specs.ListLaws.{by-cases, clash}
 use Rattle.rules.specs.State.{Setup, State, shapeAt, contentAt, isOutput}
 use Rattle.rules.specs.Answers.{Answer, Wrote, Refused, NoRoom, timely, fitting, isYes, answerNumber, answerBytes}
@@ -20,11 +20,11 @@ use Rattle.rules.specs.Checks.{placeOf}
 use Rattle.rules.specs.Calls
 use Rattle.rules.specs.Calls.{Call, answer, next, run}
 use Rattle.state_rules.specs.Image.{view, tested}
-use Rattle.steps.specs.Steps.{log, News, Opening, Closing, Hearing, Expiring, Nothing, news, learnt, history, history-next, run-next}
-use Rattle.lastword.specs.Words.{Word, wordOf, noWord, inRun, holds, opens, early}
-use Rattle.lastword.specs.LastWord.{lane-obeys, host-reads-the-word}
-use Rattle.lastword.specs.Clearing.{Heard-lately, in-run-was-heard}
-use Rattle.starting.specs.Block.{setupGiven, setupCall}
+use Rattle.rules_steps.specs.Steps.{log, News, Opening, Closing, Hearing, Expiring, Nothing, news, learnt, history, history-next, run-next}
+use Rattle.rules_lastword.specs.Words.{Word, wordOf, noWord, inRun, holds, opens, early}
+use Rattle.rules_lastword.specs.LastWord.{lane-obeys, host-reads-the-word}
+use Rattle.rules_lastword.specs.Clearing.{Heard-lately, in-run-was-heard}
+use Rattle.app_starting.specs.Block.{setupGiven, setupCall}
 use Rattle.host_runs.specs.Contracts.{Said, Met, Told}
 use Rattle.host_runs.specs.HostCalls.{HostCall, contractOf, callOf, CCall, contract}
 use Rattle.host_runs.specs.Steps.{agrees}

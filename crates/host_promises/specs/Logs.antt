@@ -9,8 +9,8 @@ use lib.Dec.{eqb, leb}
 use lib.ListN.{length, drop}
 use lib.Seq.{sets, sets-eq}
 use borrow.Author.Tests.{eq-eqb, eqb-false, leb-true}
-use Rattle.cells.specs.Numbers.{le, bytesLe}
-use Rattle.cells.specs.Records.{encFields, le-mid}
+use Rattle.base_cells.specs.Numbers.{le, bytesLe}
+use Rattle.base_cells.specs.Records.{encFields, le-mid}
 use Rattle.wire_rules.specs.declared.OpenAnswer.the-variants.{Open, NoOpen}
 use Rattle.wire_rules.specs.Replies.{openReply}
 use Rattle.rules_laws.specs.ListLaws.{by-cases, clash, either-way}
@@ -21,11 +21,11 @@ use Rattle.rules.specs.Answers
 use Rattle.rules.specs.Opening.{openAsked, askedAnswer, planAnswer, replyOf, verdictOf, openAnswer, openCall}
 use Rattle.rules.specs.Calls
 use Rattle.rules.specs.Calls.{Call, answer, next, run}
-use Rattle.steps.specs.Names.{ForwardOpen, OpenAnswer, Origin, Plan, Verdict}
-use Rattle.steps.specs.Steps.{log, Nothing, news, Reading, learnt, history, acceptance}
-use Rattle.starting.specs.Block.{accepted}
-use Rattle.positions.specs.Positions.{decUpload}
-use Rattle.lastword.specs.Knows.{id-told}
+use Rattle.rules_steps.specs.Names.{ForwardOpen, OpenAnswer, Origin, Plan, Verdict}
+use Rattle.rules_steps.specs.Steps.{log, Nothing, news, Reading, learnt, history, acceptance}
+use Rattle.app_starting.specs.Block.{accepted}
+use Rattle.msg_positions.specs.Positions.{decUpload}
+use Rattle.rules_lastword.specs.Knows.{id-told}
 use Rattle.adapter.specs.Origins.{originOf}
 use Rattle.host_runs.specs.Contracts.{Said, Answers}
 use Rattle.host_runs.specs.HostCalls.{HostCall, contractOf, callOf, CCall, contract, nextC, answerC}

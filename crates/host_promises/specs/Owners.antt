@@ -9,8 +9,8 @@ use lib.Dec.{leb}
 use lib.ListN.{length, getD, drop}
 use lib.Seq.{sets, sets-eq, getD-drop, getD-take}
 use borrow.Author.Tests.{leb-true}
-use Rattle.cells.specs.Numbers.{le, le-1}
-use Rattle.cells.specs.Records.{toBool, ofBool, to-of}
+use Rattle.base_cells.specs.Numbers.{le, le-1}
+use Rattle.base_cells.specs.Records.{toBool, ofBool, to-of}
 use Rattle.rules_laws.specs.ListLaws.{by-cases}
 use Rattle.rules.specs.State.{Shape, Content, noContent, State, contentAt, shapeAt, isOutput}
 use Rattle.rules.specs.Answers.{Wrote, Refused, NoRoom, timely, answerNumber, answerBytes}
@@ -25,9 +25,9 @@ use Rattle.state_rules.specs.Places.{setupIn, marksIn, dataIn, marksAt, connect
 use Rattle.state_rules.specs.Setups.{setupOf}
 use Rattle.state_rules.specs.Bits.{runIn}
 use Rattle.state_rules.specs.Image.{view, tested, contentsOf}
-use Rattle.image.specs.Fits.{few-assemblies, length-assemblies, is-sound}
-use Rattle.image.specs.TestLaws.{assemblies-in}
-use Rattle.faults.specs.RunBit.{ownerOf, Owned, run-has-owner, run-is-heard}
+use Rattle.state_image.specs.Fits.{few-assemblies, length-assemblies, is-sound}
+use Rattle.state_image.specs.TestLaws.{assemblies-in}
+use Rattle.rules_faults.specs.RunBit.{ownerOf, Owned, run-has-owner, run-is-heard}
 use Rattle.host_runs.specs.Contracts.{Said, Met, Told}
 use Rattle.host_runs.specs.HostCalls.{HostCall, contractOf, CCall}
 use Rattle.host_runs.specs.Steps.{agrees}

@@ -9,11 +9,11 @@ use Rattle.rules.specs.State.{State}
 use Rattle.rules.specs.Calls
 use Rattle.rules.specs.Calls.{Call, next, run}
 use Rattle.state_rules.specs.Image.{view, tested}
-use Rattle.ids.specs.declared.Triad.{Triad}
+use Rattle.base_ids.specs.declared.Triad.{Triad}
 use Rattle.rules.specs.declared.Conn.{Conn}
-use Rattle.isolation.specs.Survive.{in-table}
-use Rattle.isolation.specs.Demand
-use Rattle.isolation.specs.Demand.{Paired, removes, Removes-alike, Same-expiries, owned-by, Never-owned}
+use Rattle.rules_isolation.specs.Survive.{in-table}
+use Rattle.rules_isolation.specs.Demand
+use Rattle.rules_isolation.specs.Demand.{Paired, removes, Removes-alike, Same-expiries, owned-by, Never-owned}
 use Rattle.host_runs.specs.Contracts.{Said, Met}
 use Rattle.host_runs.specs.HostCalls.{HostCall, contractOf, callOf, CCall}
 use Rattle.host_runs.specs.Steps.{Agrees, agrees}

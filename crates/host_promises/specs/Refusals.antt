@@ -9,22 +9,22 @@ use lib.Dec.{eqb}
 use lib.ListN.{length}
 use lib.Seq.{sets}
 use borrow.Author.Tests.{eqb-true, eqb-false}
-use Rattle.cells.specs.Back.{Bytes}
+use Rattle.base_cells.specs.Back.{Bytes}
 use Rattle.rules_laws.specs.ListLaws.{by-cases}
 use Rattle.rules.specs.State.{State}
 use Rattle.rules.specs.Answers.{Answer, Done, Wrote, Accepted, Gone, Refused, Failed, isYes, answerNumber, answerBytes}
 use Rattle.rules.specs.Message.{messageAnswer, messageCall}
 use Rattle.state_rules.specs.Places.{stateSize}
-use Rattle.routing.specs.Answered.{answered}
+use Rattle.msg_routing.specs.Answered.{answered}
 use Rattle.state_rules.specs.Image.{view, store, tested}
-use Rattle.image.specs.ViewLaws.{store-view}
-use Rattle.image.specs.Lift.{lifted-fails, lifted-passes, out-fails, read-fails}
-use Rattle.starting.specs.Block.{accepted}
-use Rattle.starting.specs.Calls.{other-size, bad-setup, set-up}
-use Rattle.positions.specs.Positions.{decUpload}
-use Rattle.messages.specs.Positions.{positionTested, whole-tested}
-use Rattle.messages.specs.Lifted.{liftedMessage}
-use Rattle.faults.specs.Bounds.{refused-leaves}
+use Rattle.state_image.specs.ViewLaws.{store-view}
+use Rattle.state_image.specs.Lift.{lifted-fails, lifted-passes, out-fails, read-fails}
+use Rattle.app_starting.specs.Block.{accepted}
+use Rattle.app_starting.specs.Calls.{other-size, bad-setup, set-up}
+use Rattle.msg_positions.specs.Positions.{decUpload}
+use Rattle.msg_answering.specs.Positions.{positionTested, whole-tested}
+use Rattle.msg_answering.specs.Lifted.{liftedMessage}
+use Rattle.rules_faults.specs.Bounds.{refused-leaves}
 use Rattle.host_runs.specs.Contracts.{Said, Contract, Sets, Changes, Writes, Reads, Says, Replies, Met, nextBy, answerBy}
 use Rattle.host_runs.specs.HostCalls.{contractOf, callOf, CCall, contract}
 use Rattle.host_runs.specs.Steps.{same-next, same-answer, out-passes, read-passes}

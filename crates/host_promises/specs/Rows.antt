@@ -5,16 +5,16 @@ use mathlib.Core.List.{List, [], _∷_}
 use mathlib.Core.Path.{_≡_, refl, sym, subst}
 use native.Mathlib.Omega.{arith}
 use lib.ListN.{length, getD}
-use Rattle.tables.specs.Tables.{rows, row-at, length-rows}
+use Rattle.base_tables.specs.Tables.{rows, row-at, length-rows}
 use Rattle.rules.specs.Lists.{any}
 use Rattle.rules_laws.specs.ListLaws.{by-cases}
 use Rattle.rules.specs.State.{State}
 use Rattle.state_rules.specs.Places.{tableIn, stateSize, rowSize, waitingOf, connectionsOf}
 use Rattle.state_rules.specs.Rows.{decConn, connAt, connsIn}
 use Rattle.state_rules.specs.Image.{view}
-use Rattle.image.specs.Fits.{is-long, few-events, few-conns}
+use Rattle.state_image.specs.Fits.{is-long, few-events, few-conns}
 use Rattle.rules.specs.declared.Conn.{Conn}
-use Rattle.faults.specs.Streams.{All-fed, streams-are-fed}
+use Rattle.rules_faults.specs.Streams.{All-fed, streams-are-fed}
 use Rattle.host_runs.specs.Runs.{Held, held-passes, held-reached}
 
 -- the connection in a row, and those in use

@@ -7,16 +7,16 @@ use mathlib.Core.Path.{_≡_, ap, sym, subst, _∙_}
 use native.Mathlib.Omega.{arith}
 use lib.Dec.{leb}
 use lib.ListN.{length, getD, replicate}
-use Rattle.cells.specs.Back.{Bytes}
+use Rattle.base_cells.specs.Back.{Bytes}
 use Rattle.rules_laws.specs.ListLaws.{by-cases}
 use Rattle.rules.specs.State.{Setup, State}
 use Rattle.rules.specs.Answers.{Wrote, Refused, NoRoom, answerNumber}
 use Rattle.rules.specs.Message.{replyRoom, messageReply, messageAnswer}
-use Rattle.positions.specs.Positions.{decUpload}
+use Rattle.msg_positions.specs.Positions.{decUpload}
 use Rattle.state_rules.specs.Image.{view, tested}
-use Rattle.messages.specs.Positions.{positionTested}
-use Rattle.messages.specs.Lifted.{liftedMessage}
-use Rattle.messages.specs.Accepted.{zeros-pass, message-accepted, message-bytes}
+use Rattle.msg_answering.specs.Positions.{positionTested}
+use Rattle.msg_answering.specs.Lifted.{liftedMessage}
+use Rattle.msg_answering.specs.Accepted.{zeros-pass, message-accepted, message-bytes}
 use Rattle.host_runs.specs.Contracts.{Said, Met}
 use Rattle.host_runs.specs.HostCalls.{HostCall, contractOf, CCall}
 use Rattle.host_runs.specs.Steps.{same-next, suits, agrees}

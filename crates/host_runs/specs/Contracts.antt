@@ -10,12 +10,12 @@ use Rattle.rules.specs.State.{State}
 use Rattle.rules.specs.Answers.{Answer, Done, Refused, BadSetup, answerNumber, answerBytes}
 use Rattle.rules.specs.Setup.{fresh}
 use Rattle.rules.specs.Message.{messageCall}
-use Rattle.routing.specs.Answered.{answered}
-use Rattle.image.specs.Lift.{lifted, liftedOut, liftedRead}
-use Rattle.starting.specs.Block.{setupGiven, accepted, setupCall}
-use Rattle.positions.specs.Positions.{decUpload, encUpload}
-use Rattle.messages.specs.Positions.{positionTested}
-use Rattle.messages.specs.Lifted.{liftedMessage}
+use Rattle.msg_routing.specs.Answered.{answered}
+use Rattle.state_image.specs.Lift.{lifted, liftedOut, liftedRead}
+use Rattle.app_starting.specs.Block.{setupGiven, accepted, setupCall}
+use Rattle.msg_positions.specs.Positions.{decUpload, encUpload}
+use Rattle.msg_answering.specs.Positions.{positionTested}
+use Rattle.msg_answering.specs.Lifted.{liftedMessage}
 
 -- what a host is answered: the number, and what stands afterwards in the output and in the upload position that it lent
 pub record Said : Type 0 where

@@ -13,7 +13,7 @@ use Rattle.rules.specs.Host.{setInputCall, outputCall, assemblyAnswer, nextEven
 use Rattle.rules.specs.Routing.{pathAnswer, requestAnswer}
 use Rattle.rules.specs.Calls
 use Rattle.rules.specs.Calls.{Call, answer, next}
-use Rattle.positions.specs.Positions.{decUpload}
+use Rattle.msg_positions.specs.Positions.{decUpload}
 use Rattle.adapter.specs.Origins.{originOf}
 use Rattle.host_runs.specs.Contracts.{Contract, Sets, Changes, Writes, Reads, Says, Replies, nextBy, answerBy}
 

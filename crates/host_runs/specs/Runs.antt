@@ -10,8 +10,8 @@ use Rattle.rules.specs.State.{Setup, State}
 use Rattle.rules.specs.Setup.{fresh}
 use Rattle.rules.specs.Calls.{Call, next, run}
 use Rattle.state_rules.specs.Image.{view, tested}
-use Rattle.starting.specs.Block.{setupGiven, accepted, setupCall}
-use Rattle.starting.specs.Calls.{setup-fresh}
+use Rattle.app_starting.specs.Block.{setupGiven, accepted, setupCall}
+use Rattle.app_starting.specs.Calls.{setup-fresh}
 use Rattle.host_runs.specs.Contracts.{Said, Met, Answers}
 use Rattle.host_runs.specs.HostCalls.{callOf, CCall, contract, nextC, answerC}
 use Rattle.host_runs.specs.Steps.{agrees}

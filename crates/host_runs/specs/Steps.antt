@@ -11,21 +11,21 @@ use Rattle.rules.specs.State.{State}
 use Rattle.rules.specs.Answers.{Answer, answerNumber, answerBytes}
 use Rattle.rules.specs.Message.{messageCall}
 use Rattle.rules.specs.Calls.{answer, next}
-use Rattle.routing.specs.Answered.{answered}
+use Rattle.msg_routing.specs.Answered.{answered}
 use Rattle.state_rules.specs.Image.{view, store, tested}
-use Rattle.image.specs.Fits.{Suits, is-long}
-use Rattle.image.specs.ViewLaws.{suits-view, view-store}
-use Rattle.image.specs.Passes.{tested-store}
-use Rattle.image.specs.Lift.{liftedOut, liftedRead, lifted-passes, lifted-tested, lifted-view}
-use Rattle.starting.specs.Block.{accepted}
-use Rattle.starting.specs.Fresh.{view-started, tested-started}
-use Rattle.starting.specs.Calls.{bad-setup, set-up}
-use Rattle.messages.specs.Lifted.{liftedMessage}
-use Rattle.application.specs.Left.{input-suits, output-suits, event-suits}
-use Rattle.receiving.specs.Accepted.{receive-suits}
-use Rattle.producing.specs.Accepted.{produce-suits}
-use Rattle.ending.specs.Accepted.{close-suits, expire-suits}
-use Rattle.opening.specs.Accepted.{open-suits}
+use Rattle.state_image.specs.Fits.{Suits, is-long}
+use Rattle.state_image.specs.ViewLaws.{suits-view, view-store}
+use Rattle.state_image.specs.Passes.{tested-store}
+use Rattle.state_image.specs.Lift.{liftedOut, liftedRead, lifted-passes, lifted-tested, lifted-view}
+use Rattle.app_starting.specs.Block.{accepted}
+use Rattle.app_starting.specs.Fresh.{view-started, tested-started}
+use Rattle.app_starting.specs.Calls.{bad-setup, set-up}
+use Rattle.msg_answering.specs.Lifted.{liftedMessage}
+use Rattle.app_answers.specs.Left.{input-suits, output-suits, event-suits}
+use Rattle.io_receiving.specs.Accepted.{receive-suits}
+use Rattle.io_producing.specs.Accepted.{produce-suits}
+use Rattle.conn_ending.specs.Accepted.{close-suits, expire-suits}
+use Rattle.open_answering.specs.Accepted.{open-suits}
 use Rattle.adapter.specs.Origins.{originOf}
 use Rattle.host_runs.specs.Contracts.{Said, Contract, Sets, Changes, Writes, Reads, Says, Replies, Met, nextBy, answerBy, Answers}
 use Rattle.host_runs.specs.HostCalls.{HostCall, contractOf, callOf, CCall, contract, nextC, answerC}

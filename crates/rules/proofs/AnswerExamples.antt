@@ -4,8 +4,8 @@ use mathlib.Core.List.{List, [], _∷_, map}
 use mathlib.Core.Bool.{true, false}
 use Prim.Native.Nat.{ℕ, _-_, _^_}
 use lib.ListN.{set}
-use Rattle.cells.specs.Numbers.{le, leOf, bytesLe}
-use Rattle.cells.specs.Records.{encFields}
+use Rattle.base_cells.specs.Numbers.{le, leOf, bytesLe}
+use Rattle.base_cells.specs.Records.{encFields}
 use Rattle.wire_rules.specs.Examples.{Example, _is_, Hold}
 use Rattle.wire_rules.specs.Params.{paramsAt}
 use Rattle.wire_rules.specs.Opens.{triadAt, wayAt, placeAt, fieldsOf, openWith, widthOf, openOf, closeOf}

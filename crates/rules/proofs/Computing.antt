@@ -1,8 +1,8 @@
 -- What an example says to let the definitions compute: `unfolding openings` stands for every definition that an open goes through.
 use mathlib.Core.Bool.{Bool, true}
-use Rattle.cells.specs.Numbers.{le, leOf, bytesLe}
-use Rattle.cells.specs.BigEndian.{bytesBe}
-use Rattle.cells.specs.Records.{encFields}
+use Rattle.base_cells.specs.Numbers.{le, leOf, bytesLe}
+use Rattle.base_cells.specs.BigEndian.{bytesBe}
+use Rattle.base_cells.specs.Records.{encFields}
 use Rattle.wire_rules.specs.Items.{startOf, stepAt, itemsFrom, itemsOf}
 use Rattle.wire_rules.specs.Frames.{ioOf, ioFrame}
 use Rattle.wire_rules.specs.Segments.{portAt, logicalAt, keyOf, keyAt, dataAt, segAt, segsFrom, segsOf}

@@ -4,7 +4,7 @@ use mathlib.Core.List.{List, [], _∷_, _++_, map}
 use mathlib.Core.Bool.{Bool, true, false}
 use Prim.Native.Nat.{ℕ}
 use lib.ListN.{getD, replicate}
-use Rattle.cells.specs.Numbers.{bytesLe, le, leOf}
+use Rattle.base_cells.specs.Numbers.{bytesLe, le, leOf}
 use Rattle.wire_rules.specs.Examples.{Example, _is_, Hold}
 use Rattle.rules.specs.State.{Kind, Owner, InputOnly, ListenOnly, Info, Opened, Closed, TimedOut, Configured, OutputChanged, Events, contentAt, withCounters, withEvents}
 use Rattle.rules.specs.Answers.{Wrote, Refused, NoAssembly, TooLong, NoRoom, NothingThere}

@@ -6,9 +6,9 @@ use mathlib.Core.Bool.{Bool, true, false}
 use mathlib.Core.Path.{_≡_, refl}
 use Prim.Native.Nat.{ℕ}
 use lib.ListN.{length, replicate}
-use Rattle.cells.specs.Numbers.{bytesLe, le, leOf}
-use Rattle.cells.specs.Records.{sum, encFields}
-use Rattle.cells.specs.Back.{all}
+use Rattle.base_cells.specs.Numbers.{bytesLe, le, leOf}
+use Rattle.base_cells.specs.Records.{sum, encFields}
+use Rattle.base_cells.specs.Back.{all}
 use Rattle.wire_rules.specs.Segments.{logicalAt, between, segAt, stepAt, segsFrom, segsOf}
 use Rattle.wire_rules.specs.ConnectionPath.{gather}
 use Rattle.wire_rules.specs.Requests.{attributeIn, requestWith, requestOf}

@@ -4,7 +4,7 @@ use mathlib.Core.List.{List, [], _∷_, _++_, map}
 use mathlib.Core.Bool.{true, false}
 use lib.ListN.{set, replicate}
 use Prim.Native.Nat.{ℕ}
-use Rattle.cells.specs.Numbers.{bytesLe}
+use Rattle.base_cells.specs.Numbers.{bytesLe}
 use Rattle.wire_rules.specs.declared.NetType.the-variants.{Null, Reserved}
 use Rattle.rules.specs.State
 use Rattle.rules.specs.State.{State, Conn, withTable}

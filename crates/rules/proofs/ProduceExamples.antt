@@ -2,8 +2,8 @@
 use mathlib.Core.Path.{refl}
 use mathlib.Core.List.{List, [], _∷_, _++_}
 use Prim.Native.Nat.{ℕ, _-_, _^_}
-use Rattle.cells.specs.Numbers.{bytesLe}
-use Rattle.cells.specs.BigEndian.{bytesBe}
+use Rattle.base_cells.specs.Numbers.{bytesLe}
+use Rattle.base_cells.specs.BigEndian.{bytesBe}
 use Rattle.wire_rules.specs.Frames.{ioFrame}
 use Rattle.wire_rules.specs.Examples.{Example, _is_, Hold}
 use Rattle.rules.specs.State.{Owner, InputOnly, ListenOnly, Never, At, Setup, State}

@@ -5,7 +5,7 @@ use mathlib.Core.Bool.{true, false}
 use Prim.Native.Nat.{ℕ, _<_}
 use lib.ListN.{length}
 use borrow.Author.Tests.{lt-leb}
-use Rattle.cells.specs.Numbers.{le, leOf, bytesLe}
+use Rattle.base_cells.specs.Numbers.{le, leOf, bytesLe}
 use Rattle.wire_rules.specs.Items.{Items, wellFormed, broken, startOf, stepAt, itemsFrom, itemsOf}
 use Rattle.wire_rules.specs.Frames.{ioOfItems, ioOf, ioFrame}
 use Rattle.wire_rules.specs.Examples.{Example, _is_, Hold}

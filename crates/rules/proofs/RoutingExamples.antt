@@ -2,8 +2,8 @@
 use mathlib.Core.List.{List, [], _∷_, map}
 use mathlib.Core.Path.{_≡_, refl}
 use Prim.Native.Nat.{ℕ}
-use Rattle.cells.specs.Numbers.{bytesLe, le, leOf}
-use Rattle.cells.specs.Records.{encFields}
+use Rattle.base_cells.specs.Numbers.{bytesLe, le, leOf}
+use Rattle.base_cells.specs.Records.{encFields}
 use Rattle.wire_rules.specs.Segments.{portAt, logicalAt, keyOf, keyAt, dataAt, between, segAt, stepAt, segsFrom, segsOf}
 use Rattle.wire_rules.specs.ConnectionPath
 use Rattle.wire_rules.specs.ConnectionPath.{gather, last, connectionPath, pathOf}

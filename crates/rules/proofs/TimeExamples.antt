@@ -3,7 +3,7 @@ use mathlib.Core.Path.{_≡_, refl}
 use mathlib.Core.List.{List, [], _∷_, map}
 use mathlib.Core.Bool.{true, false}
 use Prim.Native.Nat.{ℕ, _+_, _^_}
-use Rattle.cells.specs.Numbers.{le, leOf, bytesLe}
+use Rattle.base_cells.specs.Numbers.{le, leOf, bytesLe}
 use Rattle.wire_rules.specs.Examples.{Example, _is_, Hold}
 use Rattle.wire_rules.specs.declared.ForwardOpen.{ForwardOpen}
 use Rattle.rules.specs.State.{InputOnly, ListenOnly, Never, At, Conn, Origin, Plan, State, withFault}

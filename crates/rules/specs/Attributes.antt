@@ -4,7 +4,7 @@ use mathlib.Core.Bool.{cond}
 use Prim.Native.Nat.{ℕ}
 use lib.Dec.{eqb}
 use lib.ListN.{length}
-use Rattle.cells.specs.Numbers.{bytesLe}
+use Rattle.base_cells.specs.Numbers.{bytesLe}
 pub use Rattle.wire_rules.specs.declared.FirstAttribute.{FirstAttribute}
 pub use Rattle.wire_rules.specs.declared.FirstAttribute.the-variants.{Number, NoAttribute}
 pub use Rattle.rules.specs.declared.objects.Fault.{Fault}

@@ -4,8 +4,8 @@ use mathlib.Core.Bool.{cond}
 use Prim.Native.Nat.{ℕ, _+_, _%_}
 use lib.Dec.{ltb}
 use lib.ListN.{length, drop, replicate}
-use Rattle.cells.specs.Numbers.{bytesLe}
-use Rattle.cells.specs.Records.{ofBool}
+use Rattle.base_cells.specs.Numbers.{bytesLe}
+use Rattle.base_cells.specs.Records.{ofBool}
 use Rattle.rules.specs.State.{Kind, Owner, InputOnly, ListenOnly, Fixed, Info, Event, Opened, Closed, TimedOut, Configured, OutputChanged, Setup, shapeAt, Events, isOwner}
 
 -- 12.11: what the host is told of a connection

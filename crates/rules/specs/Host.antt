@@ -5,8 +5,8 @@ use mathlib.Core.Bool.{Bool, false, cond}
 use Prim.Native.Nat.{ℕ, zero, suc, _+_, _-_}
 use lib.Dec.{leb}
 use lib.ListN.{length, replicate}
-use Rattle.cells.specs.Numbers.{bytesLe}
-use Rattle.cells.specs.Records.{ofBool}
+use Rattle.base_cells.specs.Numbers.{bytesLe}
+use Rattle.base_cells.specs.Records.{ofBool}
 use Rattle.rules.specs.Lists.{changeAt, joined}
 use Rattle.rules.specs.State.{AssemblyKind, isInput, isOutput, isConfig, Setup, shapeAt, Content, contentAt, Counters, State, withContents, withEvents}
 use Rattle.rules.specs.Answers.{Answer, Done, Wrote, Refused, NoAssembly, TooLong, NothingThere, fitting, settled}

@@ -6,8 +6,8 @@ use mathlib.Core.Bool.{Bool, cond, _&&_}
 use Prim.Native.Nat.{ℕ, _+_, _*_, _^_, max}
 use lib.Dec.{eqb}
 use lib.ListN.{length}
-use Rattle.cells.specs.Numbers.{bytesLe}
-use Rattle.cells.specs.Records.{encFields, ofBool}
+use Rattle.base_cells.specs.Numbers.{bytesLe}
+use Rattle.base_cells.specs.Records.{encFields, ofBool}
 use Rattle.rules.specs.Lists.{any, place}
 use Rattle.rules.specs.State.{isOwner, Shape, Setup, Content, State, contentAt}
 use Rattle.rules.specs.Attributes.{FirstAttribute, Outcome, Fails, ObjectUnknown, Attributes, single, among, classAttributes, shortString, fileName, taggedText}

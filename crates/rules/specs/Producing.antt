@@ -4,8 +4,8 @@ use mathlib.Core.Bool.{Bool, false, cond}
 use Prim.Native.Nat.{ℕ, _+_, _-_, _%_, _^_, min, max}
 use lib.Dec.{eqb, leb}
 use lib.ListN.{length, getD}
-use Rattle.cells.specs.BigEndian.{bytesBe}
-use Rattle.cells.specs.Records.{ofBool}
+use Rattle.base_cells.specs.BigEndian.{bytesBe}
+use Rattle.base_cells.specs.Records.{ofBool}
 use Rattle.wire_rules.specs.Frames.{ioFrame}
 use Rattle.rules.specs.Lists.{keep, joined}
 use Rattle.rules.specs.State.{Fixed, Due, Never, At, Sent, Conn, withSent, Setup, Content, noContent, Counters, State}

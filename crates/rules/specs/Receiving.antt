@@ -5,7 +5,7 @@ use mathlib.Core.Bool.{Bool, true, cond, not, _&&_, _||_, Bool·beq}
 use Prim.Native.Nat.{ℕ, _+_, _-_, _%_, _^_}
 use lib.Dec.{eqb, leb, ltb}
 use lib.ListN.{length, take, drop, getD}
-use Rattle.cells.specs.Numbers.{le}
+use Rattle.base_cells.specs.Numbers.{le}
 use Rattle.wire_rules.specs.declared.IoFrame.{IoFrame}
 use Rattle.wire_rules.specs.declared.IoFrame.the-variants.{Io, NotIo, Broken}
 use Rattle.wire_rules.specs.Frames.{ioOf}

@@ -5,7 +5,7 @@ use mathlib.Core.Bool.{Bool, true, false, cond, not, _&&_, _||_}
 use Prim.Native.Nat.{ℕ, _-_, min}
 use lib.Dec.{eqb, ltb}
 use lib.ListN.{length}
-use Rattle.cells.specs.Numbers.{bytesLe}
+use Rattle.base_cells.specs.Numbers.{bytesLe}
 use Rattle.wire_rules.specs.declared.CloseAnswer.{CloseAnswer}
 use Rattle.wire_rules.specs.declared.CloseAnswer.the-variants.{Close, NoClose}
 use Rattle.wire_rules.specs.Opens.{closeOf}

@@ -1,7 +1,7 @@
 -- What a host needs to route bytes by itself: what a path says, and what an explicit message asks. Neither touches the state.
 use mathlib.Core.List.{List, [], _∷_}
 use Prim.Native.Nat.{ℕ}
-use Rattle.cells.specs.Records.{encFields, ofBool}
+use Rattle.base_cells.specs.Records.{encFields, ofBool}
 use Rattle.wire_rules.specs.declared.Key.{Key}
 use Rattle.wire_rules.specs.declared.ConnectionPath.{ConnectionPath}
 use Rattle.wire_rules.specs.declared.PathAnswer as paths

@@ -6,9 +6,9 @@ use mathlib.Core.Bool.{Bool, true, false, _&&_}
 use Prim.Native.Nat.{ℕ}
 use lib.Dec.{eqb}
 use lib.ListN.{getD}
-pub use Rattle.ids.specs.declared.OtId.{OtId}
-pub use Rattle.ids.specs.declared.ToId.{ToId}
-pub use Rattle.ids.specs.declared.Triad.{Triad}
+pub use Rattle.base_ids.specs.declared.OtId.{OtId}
+pub use Rattle.base_ids.specs.declared.ToId.{ToId}
+pub use Rattle.base_ids.specs.declared.Triad.{Triad}
 pub use Rattle.rules.specs.declared.AssemblyKind.{AssemblyKind}
 pub use Rattle.rules.specs.declared.AssemblyKind.the-variants.{Input, Output, Config}
 pub use Rattle.rules.specs.declared.Kind.{Kind}

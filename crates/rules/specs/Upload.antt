@@ -5,9 +5,9 @@ use mathlib.Core.Bool.{Bool, true, false, cond}
 use Prim.Native.Nat.{ℕ, _+_, _-_, _%_, _^_, min, max}
 use lib.Dec.{eqb, leb}
 use lib.ListN.{length, take, drop}
-use Rattle.cells.specs.Numbers.{bytesLe}
-use Rattle.cells.specs.Records.{sum}
-use Rattle.cells.specs.Back.{all}
+use Rattle.base_cells.specs.Numbers.{bytesLe}
+use Rattle.base_cells.specs.Records.{sum}
+use Rattle.base_cells.specs.Back.{all}
 use Rattle.rules.specs.State.{Setup}
 use Rattle.rules.specs.Attributes.{Outcome, Gives, Fails, StateConflict, NotEnoughData}
 pub use Rattle.rules.specs.declared.objects.Last.{Last}

@@ -3,9 +3,9 @@
 // the rules, in its order and words.
 pub mod objects;
 
-use ids::OtId;
-use ids::ToId;
-use ids::Triad;
+use base_ids::OtId;
+use base_ids::ToId;
+use base_ids::Triad;
 use wire_rules::NetType;
 
 // What an assembly is for: 1, 2 and 3 in numbers.

@@ -8,9 +8,9 @@ use native.Mathlib.Omega.{arith}
 use lib.Dec.{eqb}
 use lib.ListN.{length, getD, take, drop, length-append, length-take}
 use borrow.Author.Tests.{le-leb, lt-leb, leb-true, lt-ltb}
-use Rattle.cells.specs.Numbers.{bytesLe}
-use Rattle.cells.specs.Records.{encFields}
-use Rattle.cells.specs.Back.{all, all-at}
+use Rattle.base_cells.specs.Numbers.{bytesLe}
+use Rattle.base_cells.specs.Records.{encFields}
+use Rattle.base_cells.specs.Back.{all, all-at}
 use Rattle.wire_rules.specs.declared.Object.{Object}
 use Rattle.wire_rules.specs.declared.Object.the-variants.{Named, NoObject}
 use Rattle.wire_rules.specs.declared.RequestAnswer.{RequestAnswer}

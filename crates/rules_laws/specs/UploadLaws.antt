@@ -8,7 +8,7 @@ use lib.Dec.{eqb, leb}
 use lib.ListN.{length, getD, take, drop}
 use lib.Seq.{take-add, take-all}
 use borrow.Author.Tests.{leb-true, leb-false, eqb-true, eq-eqb, ne-eqb}
-use Rattle.cells.specs.Numbers.{bytesLe}
+use Rattle.base_cells.specs.Numbers.{bytesLe}
 use Rattle.rules.specs.declared.objects.Fault.{Fault}
 use Rattle.rules.specs.Attributes.{Outcome, Gives, Fails}
 use Rattle.rules.specs.declared.objects.Last.{Last}

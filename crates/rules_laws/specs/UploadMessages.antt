@@ -5,7 +5,7 @@ use mathlib.Core.Bool.{true}
 use mathlib.Core.Path.{_≡_, refl, ap, sym, _∙_}
 use Prim.Native.Nat.{ℕ, zero, suc, _*_, _≤_}
 use lib.ListN.{length, drop}
-use Rattle.cells.specs.Numbers.{bytesLe}
+use Rattle.base_cells.specs.Numbers.{bytesLe}
 use Rattle.wire_rules.specs.Segments.{logicalAt, between, segAt, stepAt, segsFrom, segsOf}
 use Rattle.wire_rules.specs.ConnectionPath.{gather}
 use Rattle.wire_rules.specs.declared.Object.the-variants.{Named}

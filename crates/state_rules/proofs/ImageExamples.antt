@@ -5,12 +5,12 @@ use mathlib.Core.Path.{_≡_, refl}
 use Prim.Native.Nat.{ℕ}
 use lib.ListN.{length, replicate, take}
 use borrow.Author.Tests.{eqb-true}
-use Rattle.cells.specs.Numbers.{bytesLe, le, leOf}
-use Rattle.cells.specs.Records.{encFields}
-use Rattle.cells.specs.Back.{all, all-at}
-use Rattle.tables.specs.Tables.{rows}
-use Rattle.tables.specs.Store.{storeRows}
-use Rattle.tables.specs.Ring.{ringOf}
+use Rattle.base_cells.specs.Numbers.{bytesLe, le, leOf}
+use Rattle.base_cells.specs.Records.{encFields}
+use Rattle.base_cells.specs.Back.{all, all-at}
+use Rattle.base_tables.specs.Tables.{rows}
+use Rattle.base_tables.specs.Store.{storeRows}
+use Rattle.base_tables.specs.Ring.{ringOf}
 use Rattle.state_rules.specs.Places.{headIn, stateSize, rowSize}
 use Rattle.state_rules.specs.Bits.{markOver}
 use Rattle.state_rules.specs.Image.{view, headOf, tableOf, goodHead, testsState, tested}

@@ -4,8 +4,8 @@ use mathlib.Core.List.{List, [], _∷_, _++_, map}
 use mathlib.Core.Path.{_≡_, refl}
 use Prim.Native.Nat.{ℕ}
 use lib.ListN.{replicate}
-use Rattle.cells.specs.Numbers.{bytesLe, le, leOf}
-use Rattle.cells.specs.Back.{all}
+use Rattle.base_cells.specs.Numbers.{bytesLe, le, leOf}
+use Rattle.base_cells.specs.Back.{all}
 use Rattle.state_rules.specs.Listed.{listed}
 use Rattle.state_rules.specs.Setups.{shapeIn, shapesOf, goodSetup, goodShapes}
 use Rattle.rules.specs.declared.Kind.the-variants.{Owner, InputOnly, ListenOnly}

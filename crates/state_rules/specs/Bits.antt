@@ -3,8 +3,8 @@ use Prim.Native.Nat.{ℕ, _+_, _*_, _/_, _%_, _≤_, _<_}
 use mathlib.Core.Bool.{Bool}
 use mathlib.Core.Path.{_≡_, ap, _∙_}
 use native.Mathlib.Omega.{arith}
-use Rattle.cells.specs.Records.{toBool, ofBool, to-of}
-use Rattle.cells.specs.Back.{of-to}
+use Rattle.base_cells.specs.Records.{toBool, ofBool, to-of}
+use Rattle.base_cells.specs.Back.{of-to}
 use Rattle.state_rules.specs.Places.{ringBound}
 use Rattle.state_rules.specs.RowLaws.{bit-small}
 

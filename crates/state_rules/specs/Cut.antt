@@ -5,7 +5,7 @@ use mathlib.Core.Path.{_≡_, refl, ap, ap₂, sym, _∙_}
 use native.Mathlib.Omega.{arith}
 use lib.ListN.{length, take, drop, replicate, length-drop}
 use lib.Seq.{sets, sets-eq, length-sets, paste, take-paste, drop-paste, length-paste, drop-drop}
-use Rattle.tables.specs.Grow.{cutRow}
+use Rattle.base_tables.specs.Grow.{cutRow}
 use Rattle.state_rules.specs.Places.{tableSize, rowSize}
 use Rattle.state_rules.specs.Rows.{encConn}
 use Rattle.state_rules.specs.RowLaws.{length-encConn}

@@ -4,13 +4,13 @@ use mathlib.Core.Bool.{Bool}
 use mathlib.Core.List.{List, [], _∷_, _++_, map}
 use lib.Dec.{eqb, leb, ltb}
 use lib.ListN.{length, getD, take, drop, replicate}
-use Rattle.cells.specs.Records.{encFields, toBool}
-use Rattle.cells.specs.Back.{all}
-use Rattle.tables.specs.Tables.{rows}
-use Rattle.tables.specs.Store.{storeRows}
-use Rattle.tables.specs.Ring.{storeRing, ringOf}
-use Rattle.tables.specs.Slots.{storeSlots}
-use Rattle.tables.specs.Regions.{joined}
+use Rattle.base_cells.specs.Records.{encFields, toBool}
+use Rattle.base_cells.specs.Back.{all}
+use Rattle.base_tables.specs.Tables.{rows}
+use Rattle.base_tables.specs.Store.{storeRows}
+use Rattle.base_tables.specs.Ring.{storeRing, ringOf}
+use Rattle.base_tables.specs.Slots.{storeSlots}
+use Rattle.base_tables.specs.Regions.{joined}
 use Rattle.rules.specs.State.{Shape, Content, State}
 use Rattle.state_rules.specs.Places.{setupIn, headIn, wHead, marksIn, tableIn, ringIn, dataIn, edsIn, stateSize, rowSize, headUsed, nextIdOf, ringWordOf, ringBound, firstOf, waitingOf, connectionsOf, faultOf, producedOf, lateOf, maxLateOf}
 use Rattle.state_rules.specs.Setups.{setupOf, goodSetup, goodShapes}

@@ -2,7 +2,7 @@
 use Prim.Native.Nat.{ℕ, _+_, _/_, _%_}
 use mathlib.Core.List.{List, [], _∷_}
 use borrow.Rule.Slice.PartMut.{midOf}
-use Rattle.cells.specs.Numbers.{le}
+use Rattle.base_cells.specs.Numbers.{le}
 
 -- ---- where each region begins, and its size
 

@@ -9,12 +9,12 @@ use lib.Seq.{sets, take-all, take-add, drop-drop}
 use lib.Dec.{eqb, ltb}
 use borrow.Author.Tests.{ltb-true, ltb-false, eqb-true, eqb-false, lt-ltb, le-ltb, ne-eqb}
 use mir.Val.{boolByte}
-use Rattle.cells.specs.Numbers.{le, le-1, sets-left, sets-append, le-take, le-drop}
-use Rattle.cells.specs.Records.{encFields, decFields, putFields, putFields-eq, dec-enc, length-encFields, toBool, ofBool, to-of, sum}
-use Rattle.cells.specs.Back.{Bytes, enc-dec, of-to}
-use Rattle.tables.specs.Store.{sets-right}
-use Rattle.tables.specs.Ring.{by-cases}
-use Rattle.tables.specs.Slots.{sets-whole}
+use Rattle.base_cells.specs.Numbers.{le, le-1, sets-left, sets-append, le-take, le-drop}
+use Rattle.base_cells.specs.Records.{encFields, decFields, putFields, putFields-eq, dec-enc, length-encFields, toBool, ofBool, to-of, sum}
+use Rattle.base_cells.specs.Back.{Bytes, enc-dec, of-to}
+use Rattle.base_tables.specs.Store.{sets-right}
+use Rattle.base_tables.specs.Ring.{by-cases}
+use Rattle.base_tables.specs.Slots.{sets-whole}
 use Rattle.rules.specs.State.{withHeard, withSent, isOwner, isListener}
 use Rattle.rules.specs.declared.Kind.{Kind}
 use Rattle.rules.specs.declared.Kind.the-variants.{Owner, InputOnly, ListenOnly}

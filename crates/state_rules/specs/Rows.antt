@@ -6,10 +6,10 @@ use mathlib.Core.List.{List, [], _∷_, _++_}
 use mathlib.Core.Path.{_≡_}
 use lib.Dec.{eqb, ltb}
 use lib.ListN.{getD, take, drop}
-use Rattle.cells.specs.Numbers.{le}
-use Rattle.cells.specs.Pick.{pick}
-use Rattle.cells.specs.Records.{encFields, decFields, toBool, ofBool}
-use Rattle.tables.specs.Tables.{rows}
+use Rattle.base_cells.specs.Numbers.{le}
+use Rattle.base_cells.specs.Pick.{pick}
+use Rattle.base_cells.specs.Records.{encFields, decFields, toBool, ofBool}
+use Rattle.base_tables.specs.Tables.{rows}
 use Rattle.rules.specs.declared.Kind.{Kind}
 use Rattle.rules.specs.declared.Kind.the-variants.{Owner, InputOnly, ListenOnly}
 use Rattle.rules.specs.declared.Fixed.{Fixed}

@@ -7,7 +7,7 @@ use lib.Dec.{leb}
 use lib.ListN.{length, getD, drop}
 use native.Mathlib.Omega.{arith}
 use borrow.Author.Tests.{leb-true, le-leb}
-use Rattle.cells.specs.Back.{all, all-at, all-cons, all-nil}
+use Rattle.base_cells.specs.Back.{all, all-at, all-cons, all-nil}
 use Rattle.rules.specs.State.{Shape}
 use Rattle.state_rules.specs.Places.{assembliesOf}
 use Rattle.state_rules.specs.Setups.{shapeIn, shapesOf, testsShapes, goodShapes}

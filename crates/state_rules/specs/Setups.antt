@@ -5,8 +5,8 @@ use mathlib.Core.List.{List, [], _∷_}
 use mathlib.Core.Option.{Option, none, some}
 use lib.Dec.{eqb, leb, ltb}
 use lib.ListN.{take, drop}
-use Rattle.cells.specs.Numbers.{le}
-use Rattle.cells.specs.Back.{all}
+use Rattle.base_cells.specs.Numbers.{le}
+use Rattle.base_cells.specs.Back.{all}
 use Rattle.rules.specs.declared.AssemblyKind.{AssemblyKind}
 use Rattle.rules.specs.declared.AssemblyKind.the-variants.{Input, Output, Config}
 use Rattle.rules.specs.State.{Identity, Shape, Setup}

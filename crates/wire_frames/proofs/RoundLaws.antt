@@ -8,11 +8,11 @@ use native.Mathlib.Omega.{arith}
 use native.Mathlib.Nat.{add-zero}
 use native.Mathlib.Decide.{decLe}
 use borrow.Author.Tests.{le-leb}
-use Rattle.cells.specs.Numbers.{le, bytesLe, length-bytesLe, slice-sets, take-sets, drop-sets-add}
-use Rattle.cells.specs.Records.{sum, encFields, decFields, dec-enc, length-encFields}
-use Rattle.cells.specs.Writes.{written-all}
-use Rattle.cells.specs.declared.Written.{Written}
-use Rattle.cells.specs.declared.Written.the-variants.{Bytes, NoRoom}
+use Rattle.base_cells.specs.Numbers.{le, bytesLe, length-bytesLe, slice-sets, take-sets, drop-sets-add}
+use Rattle.base_cells.specs.Records.{sum, encFields, decFields, dec-enc, length-encFields}
+use Rattle.base_cells.specs.Writes.{written-all}
+use Rattle.base_cells.specs.declared.Written.{Written}
+use Rattle.base_cells.specs.declared.Written.the-variants.{Bytes, NoRoom}
 use Rattle.wire_rules.specs.Frames.{otId, ioOf, ioFrame}
 use Rattle.wire_rules.specs.Writing.{frameWritten, behind, frameAppended}
 use Rattle.wire_items.specs.Head.{Head}

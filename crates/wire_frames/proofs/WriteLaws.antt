@@ -7,11 +7,11 @@ use lib.Seq.{sets, take-all}
 use native.Mathlib.Omega.{arith}
 use borrow.Author.Tests.{le-leb, lt-leb}
 use borrow.Rule.Slice.PartMut.{midOf, putMid}
-use Rattle.cells.specs.Numbers.{length-bytesLe, sets-append}
-use Rattle.cells.specs.Records.{encFields, putFields, putFields-eq, length-encFields, sum}
-use Rattle.cells.specs.Writes.{written-all, written-none}
-use Rattle.cells.specs.declared.Written.{Written}
-use Rattle.cells.specs.declared.Written.the-variants.{Bytes, NoRoom}
+use Rattle.base_cells.specs.Numbers.{length-bytesLe, sets-append}
+use Rattle.base_cells.specs.Records.{encFields, putFields, putFields-eq, length-encFields, sum}
+use Rattle.base_cells.specs.Writes.{written-all, written-none}
+use Rattle.base_cells.specs.declared.Written.{Written}
+use Rattle.base_cells.specs.declared.Written.the-variants.{Bytes, NoRoom}
 use Rattle.wire_rules.specs.Frames.{ioFrame}
 use Rattle.wire_rules.specs.Writing.{frameWritten, behind, frameAppended}
 use Rattle.wire_rules.specs.Writing.{frontWidths, frontValues}

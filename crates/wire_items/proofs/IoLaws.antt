@@ -7,9 +7,9 @@ use lib.ListN.{length}
 use lib.Dec.{eqb, leb}
 use native.Mathlib.Omega.{arith}
 use borrow.Author.Tests.{le-leb, lt-leb, eq-eqb, ne-eqb, leb-true, eqb-true}
-use Rattle.cells.specs.Pick.{pick}
-use Rattle.cells.specs.Numbers.{le}
-use Rattle.cells.specs.Back.{all-at, all-fails, all-cons, all-nil}
+use Rattle.base_cells.specs.Pick.{pick}
+use Rattle.base_cells.specs.Numbers.{le}
+use Rattle.base_cells.specs.Back.{all-at, all-fails, all-cons, all-nil}
 use Rattle.wire_rules.specs.Items.{itemEnd, stepAt, Part, Items, wellFormed, broken, cons, itemsFrom, itemsOf, wholeOf}
 use Rattle.wire_rules.specs.Frames.{otId, firstTwo, ioOfItems, ioOf}
 use Rattle.wire_items.specs.Head.{headTests, ioHead, Head, otherOf}

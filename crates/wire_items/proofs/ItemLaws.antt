@@ -7,8 +7,8 @@ use lib.ListN.{length}
 use lib.Dec.{eqb, leb}
 use native.Mathlib.Omega.{arith}
 use borrow.Author.Tests.{le-leb, lt-leb, eq-eqb, ne-eqb}
-use Rattle.cells.specs.Pick.{pick}
-use Rattle.cells.specs.Numbers.{le}
+use Rattle.base_cells.specs.Pick.{pick}
+use Rattle.base_cells.specs.Numbers.{le}
 use Rattle.wire_rules.specs.Items.{cursor, startOf, itemEnd, stepAt, stepAfter, itemOf, Part, Items, wellFormed, broken, cons, itemsFrom, itemsOf, wholeOf}
 use Rattle.wire_rules.specs.declared.Cursor.{Cursor}
 use Rattle.wire_rules.specs.declared.Start.the-variants.{At, NoCount}

@@ -8,8 +8,8 @@ use lib.Dec.{eqb, leb}
 use native.Mathlib.Omega.{arith}
 use native.Mathlib.Decide.{decLe}
 use borrow.Author.Tests.{eqb-true, leb-true, le-leb, eq-eqb}
-use Rattle.cells.specs.Pick.{pick}
-use Rattle.cells.specs.Numbers.{le}
+use Rattle.base_cells.specs.Pick.{pick}
+use Rattle.base_cells.specs.Numbers.{le}
 use Rattle.wire_rules.specs.Items.{cursor, itemEnd, stepAt, stepAfter, itemOf, Part, Items, wellFormed, broken, cons, follow, itemsFrom, itemsOf, wholeOf}
 use Rattle.wire_rules.specs.declared.Cursor.{Cursor}
 use Rattle.wire_rules.specs.declared.Step.the-variants.{Item, End, Broken}

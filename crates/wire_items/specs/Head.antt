@@ -5,8 +5,8 @@ use mathlib.Core.Path.{_≡_}
 use mathlib.Core.List.{List, [], _∷_}
 use lib.ListN.{length}
 use lib.Dec.{leb, eqb}
-use Rattle.cells.specs.Numbers.{le}
-use Rattle.cells.specs.Back.{all}
+use Rattle.base_cells.specs.Numbers.{le}
+use Rattle.base_cells.specs.Back.{all}
 use Rattle.wire_rules.specs.declared.Whole.{Whole}
 use Rattle.wire_rules.specs.declared.Whole.the-variants.{Good, BrokenAt}
 use Rattle.wire_rules.specs.declared.IoFrame.{IoFrame}

@@ -1,6 +1,6 @@
 // The items of a frame (rules 3.2 to 3.11): a 16-bit count, then kind, size, bytes; the last must end with the data. A list that
 // is not well formed has an offset: that of the first item or count that does not fit, or of the first spare byte after the last item.
-use ids::OtId;
+use base_ids::OtId;
 use wire_rules::Cursor;
 use wire_rules::IoFrame;
 use wire_rules::Start;
@@ -9,7 +9,7 @@ use wire_rules::Whole;
 ghost use mathlib.Core.Path.{_≡_};
 ghost use Prim.Native.Nat.{ℕ, _+_, _≤_, _<_};
 ghost use lib.ListN.{length};
-ghost use Rattle.cells.specs.Numbers.{le};
+ghost use Rattle.base_cells.specs.Numbers.{le};
 ghost use Rattle.wire_rules.specs.Items.{startOf, stepAt, itemsFrom, itemsOf, wholeOf};
 ghost use Rattle.wire_rules.specs.Frames.{ioOf};
 ghost use Rattle.wire_items.specs.Head.{ioHead, Head, otherOf};
@@ -19,7 +19,7 @@ fn size_at(s: &[u8], at: usize) -> usize
     requires { ⌜ at + 2 ≤ length (now s) ⌝ }
     ensures { λ r. ⌜ (r ≡ le 2 (now (s .entry)) at) × (r < 65536) ⌝ }
 {
-    cells::u16_at(s, at) as usize
+    base_cells::u16_at(s, at) as usize
 }
 
 // The cursor at the first item.
@@ -56,7 +56,7 @@ pub fn step_at(s: &[u8], at: usize, left: usize) -> Step
         return Step::Broken(at);
     }
     Step::Item {
-        kind: cells::u16_at(s, at),
+        kind: base_cells::u16_at(s, at),
         start: at + 4,
         len,
         next: Cursor {
@@ -113,13 +113,13 @@ fn io_head(s: &[u8]) -> bool
     if size_at(s, 0) < 2 {
         return false;
     }
-    if cells::u16_at(s, 2) != 0x8002 {
+    if base_cells::u16_at(s, 2) != 0x8002 {
         return false;
     }
-    if cells::u16_at(s, 4) != 8 {
+    if base_cells::u16_at(s, 4) != 8 {
         return false;
     }
-    if cells::u16_at(s, 14) != 0xB1 {
+    if base_cells::u16_at(s, 14) != 0xB1 {
         return false;
     }
     true
@@ -141,8 +141,8 @@ fn from_head(s: &[u8]) -> IoFrame
                 return IoFrame::NotIo;
             }
             IoFrame::Io {
-                id: OtId(cells::u32_at(s, 6)),
-                sequence: cells::u32_at(s, 10),
+                id: OtId(base_cells::u32_at(s, 6)),
+                sequence: base_cells::u32_at(s, 10),
                 start: 18,
                 len,
             }

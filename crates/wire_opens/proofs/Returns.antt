@@ -5,8 +5,8 @@ use mathlib.Core.Bool.{Bool, true, false}
 use mathlib.Core.List.{List}
 use lib.ListN.{length}
 use borrow.Author.Tests.{le-leb, lt-leb}
-use Rattle.ids.specs.declared.Triad.{Triad}
-use Rattle.cells.specs.Numbers.{le}
+use Rattle.base_ids.specs.declared.Triad.{Triad}
+use Rattle.base_cells.specs.Numbers.{le}
 use Rattle.wire_rules.specs.Params.{smallParams, largeParams, paramsAt}
 use Rattle.wire_rules.specs.Opens.{limit, widthOf, triadAt, fieldsOf, openWith, openOf, closeOf}
 use Rattle.wire_rules.specs.declared.ForwardOpen.{ForwardOpen}

@@ -8,9 +8,9 @@ use borrow.Author.Tests.{leb-true, le-leb}
 use lib.Dec.{leb}
 use lib.ListN.{length, length-append}
 use lib.Seq.{take-append-le}
-use Rattle.cells.specs.Pick.{pick}
-use Rattle.cells.specs.Numbers.{le, le-same}
-use Rattle.ids.specs.declared.Triad.{Triad}
+use Rattle.base_cells.specs.Pick.{pick}
+use Rattle.base_cells.specs.Numbers.{le, le-same}
+use Rattle.base_ids.specs.declared.Triad.{Triad}
 use Rattle.wire_rules.specs.Params.{paramsAt}
 use Rattle.wire_rules.specs.Opens.{limit, widthOf, triadAt, wayAt, placeAt, fieldsOf, openWith, openOf, closeOf}
 use Rattle.wire_rules.specs.declared.ForwardOpen.{ForwardOpen}

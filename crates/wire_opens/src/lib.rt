@@ -10,12 +10,12 @@ use wire_rules::Way;
 ghost use mathlib.Core.Path.{_≡_};
 ghost use Prim.Native.Nat.{_+_, _*_, _≤_};
 ghost use lib.ListN.{length};
-ghost use Rattle.cells.specs.Numbers.{le};
+ghost use Rattle.base_cells.specs.Numbers.{le};
 ghost use Rattle.wire_rules.specs.Params.{netOf, smallParams, largeParams, paramsAt};
 ghost use Rattle.wire_rules.specs.Opens.{triadAt, wayAt, fieldsOf, openWith, openOf, closeOf};
-use ids::OtId;
-use ids::ToId;
-use ids::Triad;
+use base_ids::OtId;
+use base_ids::ToId;
+use base_ids::Triad;
 
 // Service data up to 65,536 bytes.
 const LIMIT: usize = 65536;
@@ -56,9 +56,9 @@ fn params_at(s: &[u8], at: usize, large: bool) -> NetParams
     ensures { λ r. ⌜ r ≡ paramsAt large (now (s .entry)) at ⌝ }
 {
     if large {
-        large_params(cells::u32_at(s, at))
+        large_params(base_cells::u32_at(s, at))
     } else {
-        small_params(cells::u16_at(s, at) as u32)
+        small_params(base_cells::u16_at(s, at) as u32)
     }
 }
 
@@ -67,9 +67,9 @@ fn triad_at(s: &[u8], at: usize) -> Triad
     ensures { λ r. ⌜ r ≡ triadAt (now (s .entry)) at ⌝ }
 {
     Triad {
-        serial: cells::u16_at(s, at),
-        vendor: cells::u16_at(s, at + 2),
-        originator: cells::u32_at(s, at + 4),
+        serial: base_cells::u16_at(s, at),
+        vendor: base_cells::u16_at(s, at + 2),
+        originator: base_cells::u32_at(s, at + 4),
     }
 }
 
@@ -78,7 +78,7 @@ fn way_at(s: &[u8], at: usize, large: bool) -> Way
     ensures { λ r. ⌜ r ≡ wayAt large (now (s .entry)) at ⌝ }
 {
     Way {
-        rpi: cells::u32_at(s, at),
+        rpi: base_cells::u32_at(s, at),
         params: params_at(s, at + 4, large),
     }
 }
@@ -88,7 +88,7 @@ fn path_len(s: &[u8], at: usize) -> usize
     requires { ⌜ at + 1 ≤ length (now s) ⌝ }
     ensures { λ r. ⌜ (r ≡ 2 * le 1 (now (s .entry)) at) × (r ≤ 510) ⌝ }
 {
-    let words = cells::u8_at(s, at);
+    let words = base_cells::u8_at(s, at);
     2 * (words as usize)
 }
 
@@ -98,13 +98,13 @@ fn fields(s: &[u8], large: bool, w: usize) -> ForwardOpen
     ensures { λ r. ⌜ r ≡ fieldsOf large (now (s .entry)) w ⌝ }
 {
     ForwardOpen {
-        otid: OtId(cells::u32_at(s, 2)),
-        toid: ToId(cells::u32_at(s, 6)),
+        otid: OtId(base_cells::u32_at(s, 2)),
+        toid: ToId(base_cells::u32_at(s, 6)),
         triad: triad_at(s, 10),
-        multiplier: cells::u8_at(s, 18),
+        multiplier: base_cells::u8_at(s, 18),
         ot: way_at(s, 22, large),
         to: way_at(s, 26 + w, large),
-        transport: cells::u8_at(s, 30 + w + w),
+        transport: base_cells::u8_at(s, 30 + w + w),
         path: Place {
             start: 32 + w + w,
             len: path_len(s, 31 + w + w),

@@ -7,7 +7,7 @@ use lib.ListN.{length, getD}
 use lib.Dec.{T, ltb, ltb→lt, eqb}
 use native.Mathlib.Nat.{min-eq-right}
 use native.Mathlib.Omega.{arith}
-use Rattle.cells.specs.Pick.{pick}
+use Rattle.base_cells.specs.Pick.{pick}
 use Rattle.wire_rules.specs.ConnectionPath.{gather, some, last, connectionPath}
 use Rattle.wire_paths.specs.Adding.{withBar, withKey, withClass, withNumber, withData, added}
 use Rattle.wire_rules.specs.declared.Key.{Key}

@@ -7,8 +7,8 @@ use lib.ListN.{length, getD}
 use lib.Dec.{T, leb, leb→le, eqb}
 use native.Mathlib.Omega.{arith}
 use borrow.Author.Tests.{le-leb, lt-leb, eq-eqb, ne-eqb, lt-ltb, le-ltb}
-use Rattle.cells.specs.Pick.{pick}
-use Rattle.cells.specs.Numbers.{le}
+use Rattle.base_cells.specs.Pick.{pick}
+use Rattle.base_cells.specs.Numbers.{le}
 use Rattle.wire_rules.specs.Segments.{evenUp, portOffset, linkOffset, linkSize, portOf, portAt, logicalAt, keyOf, keyAt, dataAt, between, segAt, pathMax, stepAt}
 use Rattle.wire_rules.specs.declared.Key.{Key}
 use Rattle.wire_rules.specs.declared.Seg.{Seg}

@@ -2,7 +2,7 @@
 use Prim.Native.Nat.{ℕ, _+_}
 use mathlib.Core.Bool.{true}
 use lib.Dec.{ltb, eqb}
-use Rattle.cells.specs.Pick.{pick}
+use Rattle.base_cells.specs.Pick.{pick}
 use Rattle.wire_rules.specs.declared.Key.{Key}
 use Rattle.wire_rules.specs.declared.Seg.{Seg}
 use Rattle.wire_rules.specs.declared.Seg.the-variants.{Port, Class, Instance, Point, Attribute, Keyed, Data}

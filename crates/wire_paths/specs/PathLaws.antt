@@ -8,7 +8,7 @@ use lib.ListN.{length, getD}
 use lib.Dec.{T, leb, leb→le, ltb, eqb}
 use native.Mathlib.Omega.{arith}
 use borrow.Author.Tests.{ltb-true, ltb-false, eqb-true, eqb-false, le-ltb, eq-eqb}
-use Rattle.cells.specs.Pick.{pick}
+use Rattle.base_cells.specs.Pick.{pick}
 use Rattle.wire_rules.specs.Segments.{upTo, evenUp, portOffset, linkOffset, linkSize, portAt, logicalAt, keyAt, dataAt, between, segAt, pathMax, stepAt, Segs, segs, broken, cons, follow, segsFrom, segsOf}
 use Rattle.wire_rules.specs.ConnectionPath.{gather, last, place, connectionPath, pathRead, pathOf}
 use Rattle.wire_rules.specs.declared.ConnectionPath.{ConnectionPath}

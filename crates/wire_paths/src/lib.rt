@@ -14,8 +14,8 @@ ghost use Rattle.wire_paths.specs.Logical.{named};
 ghost use mathlib.Core.List.{[]};
 ghost use Rattle.wire_rules.specs.ConnectionPath.{connectionPath, pathOf};
 ghost use Rattle.wire_paths.specs.Adding.{withNumber, added};
-use cells::u16_at;
-use cells::u32_at;
+use base_cells::u16_at;
+use base_cells::u32_at;
 
 fn wide(b: u8) -> usize
     ensures { λ r. ⌜ (r ≡ b) × (r < 256) ⌝ }

@@ -7,11 +7,11 @@ use lib.Bits.{bitOr, or-block, or-zero-r}
 use lib.Dec.{T}
 use lib.ListN.{length, take, set, length-take}
 use lib.Seq.{sets, take-nil, take-take, take-length, length-take-le}
-use Rattle.cells.specs.Numbers.{put, bytesLe}
-use Rattle.cells.specs.Records.{sum, encFields, putFields, Laid, putFields-eq, length-encFields}
-use Rattle.cells.specs.Writes.{written, written-all, written-none}
-use Rattle.cells.specs.declared.Written.{Written}
-use Rattle.cells.specs.declared.Written.the-variants.{Bytes, NoRoom}
+use Rattle.base_cells.specs.Numbers.{put, bytesLe}
+use Rattle.base_cells.specs.Records.{sum, encFields, putFields, Laid, putFields-eq, length-encFields}
+use Rattle.base_cells.specs.Writes.{written, written-all, written-none}
+use Rattle.base_cells.specs.declared.Written.{Written}
+use Rattle.base_cells.specs.declared.Written.the-variants.{Bytes, NoRoom}
 use Rattle.wire_rules.specs.Replies.{withBit7, extended, replyHead}
 
 -- a put over what was written before; and one of a value that is known by another name

@@ -7,10 +7,10 @@ use native.Mathlib.Nat.{zero-add}
 use lib.Dec.{T}
 use lib.ListN.{length, drop, length-take}
 use lib.Seq.{sets, sets-eq}
-use Rattle.cells.specs.Records.{sum, encFields, decFields, Laid, length-encFields, dec-enc}
-use Rattle.ids.specs.declared.OtId.{OtId}
-use Rattle.ids.specs.declared.ToId.{ToId}
-use Rattle.ids.specs.declared.Triad.{Triad}
+use Rattle.base_cells.specs.Records.{sum, encFields, decFields, Laid, length-encFields, dec-enc}
+use Rattle.base_ids.specs.declared.OtId.{OtId}
+use Rattle.base_ids.specs.declared.ToId.{ToId}
+use Rattle.base_ids.specs.declared.Triad.{Triad}
 use Rattle.wire_rules.specs.Replies.{openReply, openReplyWidths, openReplyFields, openRefusal, closeReply, triadReplyWidths, triadReplyFields, triadReply, extended, replyHeadWidths, replyHeadFields, replyHead}
 
 pub read-back : (ws vs : List ℕ) → T (Laid ws vs) → (out : List ℕ) → sum ws ≤ length out → decFields ws (sets out 0 (encFields ws vs)) 0 ≡ vs

@@ -4,29 +4,29 @@ ghost use mathlib.Core.Path.{_≡_};
 ghost use Prim.Native.Nat.{_+_, _≤_};
 ghost use mathlib.Core.List.{[], _∷_};
 ghost use lib.ListN.{length};
-ghost use Rattle.cells.specs.Records.{putFields};
-ghost use Rattle.cells.specs.Writes.{written};
+ghost use Rattle.base_cells.specs.Records.{putFields};
+ghost use Rattle.base_cells.specs.Writes.{written};
 ghost use Rattle.wire_rules.specs.Replies.{triadWidths, triadFields, withBit7, headWidths, headFields, openReply, triadReply, openRefusal, closeReply, replyHead};
-use cells::Written;
-use ids::OtId;
-use ids::ToId;
-use ids::Triad;
+use base_cells::Written;
+use base_ids::OtId;
+use base_ids::ToId;
+use base_ids::Triad;
 
 fn put_triad(s: &mut [u8], at: usize, triad: Triad)
     requires { ⌜ at + 8 ≤ length (now s) ⌝ }
     ensures { λ _. ⌜ now (s .exit) ≡ putFields triadWidths (now (s .entry)) at (triadFields triad) ⌝ }
 {
-    cells::put_u16(s, at, triad.serial);
-    cells::put_u16(s, at + 2, triad.vendor);
-    cells::put_u32(s, at + 2 + 2, triad.originator);
+    base_cells::put_u16(s, at, triad.serial);
+    base_cells::put_u16(s, at + 2, triad.vendor);
+    base_cells::put_u32(s, at + 2 + 2, triad.originator);
 }
 
 fn put_zeros(s: &mut [u8], at: usize)
     requires { ⌜ at + 2 ≤ length (now s) ⌝ }
     ensures { λ _. ⌜ now (s .exit) ≡ putFields (1 ∷ 1 ∷ []) (now (s .entry)) at (0 ∷ 0 ∷ []) ⌝ }
 {
-    cells::put_u8(s, at, 0);
-    cells::put_u8(s, at + 1, 0);
+    base_cells::put_u8(s, at, 0);
+    base_cells::put_u8(s, at + 1, 0);
 }
 
 // The reply data of an accepted open.
@@ -43,11 +43,11 @@ pub fn open_reply(
     if out.len() < 26 {
         return Written::NoRoom;
     }
-    cells::put_u32(out, 0, otid.0);
-    cells::put_u32(out, 4, toid.0);
+    base_cells::put_u32(out, 0, otid.0);
+    base_cells::put_u32(out, 4, toid.0);
     put_triad(out, 8, triad);
-    cells::put_u32(out, 16, otrpi);
-    cells::put_u32(out, 20, torpi);
+    base_cells::put_u32(out, 16, otrpi);
+    base_cells::put_u32(out, 20, torpi);
     put_zeros(out, 24);
     Written::Bytes(26)
 }
@@ -87,10 +87,10 @@ fn put_head(s: &mut [u8], service: u8, general: u8, words: u8)
     requires { ⌜ 4 ≤ length (now s) ⌝ }
     ensures { λ _. ⌜ now (s .exit) ≡ putFields headWidths (now (s .entry)) 0 (headFields service general words) ⌝ }
 {
-    cells::put_u8(s, 0, reply_service(service));
-    cells::put_u8(s, 1, 0);
-    cells::put_u8(s, 2, general);
-    cells::put_u8(s, 3, words);
+    base_cells::put_u8(s, 0, reply_service(service));
+    base_cells::put_u8(s, 1, 0);
+    base_cells::put_u8(s, 2, general);
+    base_cells::put_u8(s, 3, words);
 }
 
 fn head_alone(out: &mut [u8], service: u8, general: u8) -> Written
@@ -110,7 +110,7 @@ fn head_one(out: &mut [u8], service: u8, general: u8, first: u16) -> Written
         return Written::NoRoom;
     }
     put_head(out, service, general, 1);
-    cells::put_u16(out, 4, first);
+    base_cells::put_u16(out, 4, first);
     Written::Bytes(6)
 }
 
@@ -121,8 +121,8 @@ fn head_two(out: &mut [u8], service: u8, general: u8, first: u16, second: u16) -
         return Written::NoRoom;
     }
     put_head(out, service, general, 2);
-    cells::put_u16(out, 4, first);
-    cells::put_u16(out, 6, second);
+    base_cells::put_u16(out, 4, first);
+    base_cells::put_u16(out, 6, second);
     Written::Bytes(8)
 }
 

@@ -7,7 +7,7 @@ use lib.ListN.{length, getD, take, drop}
 use lib.Dec.{ltb, leb}
 use native.Mathlib.Omega.{arith}
 use borrow.Author.Tests.{leb-true}
-use Rattle.cells.specs.Pick.{pick}
+use Rattle.base_cells.specs.Pick.{pick}
 use Rattle.wire_rules.specs.Segments.{Segs, segs, broken, segsOf}
 use Rattle.wire_rules.specs.Requests.{messageMax, requestWith, requestOf}
 use Rattle.wire_rules.specs.declared.Request.{Request}

@@ -2,9 +2,9 @@
 use mathlib.Core.Path.{_≡_, refl}
 use mathlib.Core.List.{[], _∷_}
 use lib.ListN.{replicate}
-use Rattle.cells.specs.Numbers.{bytesLe}
-use Rattle.cells.specs.Writes.{written}
-use Rattle.cells.specs.declared.Written.the-variants.{Bytes, NoRoom}
+use Rattle.base_cells.specs.Numbers.{bytesLe}
+use Rattle.base_cells.specs.Writes.{written}
+use Rattle.base_cells.specs.declared.Written.the-variants.{Bytes, NoRoom}
 use Rattle.wire_rules.specs.Frames.{ioFrame}
 use Rattle.wire_rules.specs.Writing.{frameWritten, frameAppended}
 

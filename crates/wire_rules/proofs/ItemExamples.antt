@@ -3,7 +3,7 @@ use Prim.Native.Nat.{ℕ}
 use mathlib.Core.Path.{_≡_, refl}
 use mathlib.Core.List.{List, [], _∷_, map}
 use lib.ListN.{replicate}
-use Rattle.cells.specs.Numbers.{le, leOf, bytesLe}
+use Rattle.base_cells.specs.Numbers.{le, leOf, bytesLe}
 use Rattle.wire_rules.specs.Items.{Part, Items, wellFormed, broken, cursor, startOf, stepAt, itemsFrom, itemsOf, stepAfter, itemOf}
 use Rattle.wire_rules.specs.Frames.{otId, ioOfItems, ioOf, ioFrame}
 use Rattle.wire_rules.specs.declared.Step.the-variants.{Item, End}

@@ -4,8 +4,8 @@ use mathlib.Core.Path.{_≡_, refl}
 use mathlib.Core.Bool.{Bool, true, false}
 use mathlib.Core.List.{List, [], _∷_, _++_, map}
 use lib.ListN.{replicate}
-use Rattle.cells.specs.Numbers.{le, leOf}
-use Rattle.ids.specs.declared.Triad.{Triad}
+use Rattle.base_cells.specs.Numbers.{le, leOf}
+use Rattle.base_ids.specs.declared.Triad.{Triad}
 use Rattle.wire_rules.specs.Params.{netOf, smallParams, largeParams, paramsAt}
 use Rattle.wire_rules.specs.Opens.{triadAt, wayAt, placeAt, fieldsOf, openWith, widthOf, openOf, closeOf}
 use Rattle.wire_rules.specs.declared.NetType.the-variants.{Null, Multicast, PointToPoint, Reserved}

@@ -4,7 +4,7 @@ use mathlib.Core.Path.{_≡_, refl}
 use mathlib.Core.Bool.{Bool, true, false}
 use mathlib.Core.List.{List, [], _∷_, map}
 use lib.ListN.{replicate}
-use Rattle.cells.specs.Numbers.{le, leOf}
+use Rattle.base_cells.specs.Numbers.{le, leOf}
 use Rattle.wire_rules.specs.Segments.{Segs, segs, broken, portOffset, linkOffset, linkSize, portOf, portAt, logicalAt, keyOf, keyAt, dataAt, between, segAt, stepAt, segsFrom, segsOf}
 use Rattle.wire_rules.specs.ConnectionPath.{gather, some, last, noKey, connectionPath, pathOf}
 use Rattle.wire_rules.specs.declared.Key.{Key}

@@ -1,9 +1,9 @@
 -- Replies worked out byte by byte.
 use mathlib.Core.Path.{_≡_, refl}
 use mathlib.Core.List.{[], _∷_}
-use Rattle.cells.specs.Numbers.{bytesLe}
-use Rattle.cells.specs.Records.{encFields}
-use Rattle.ids.specs.declared.Triad.{Triad}
+use Rattle.base_cells.specs.Numbers.{bytesLe}
+use Rattle.base_cells.specs.Records.{encFields}
+use Rattle.base_ids.specs.declared.Triad.{Triad}
 use Rattle.wire_rules.specs.Replies.{openReply, triadReply, openRefusal, closeReply, replyHead}
 
 abbrev triad : Triad

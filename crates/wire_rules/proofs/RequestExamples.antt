@@ -3,7 +3,7 @@ use Prim.Native.Nat.{ℕ}
 use mathlib.Core.Path.{_≡_, refl}
 use mathlib.Core.List.{List, [], _∷_}
 use lib.ListN.{replicate}
-use Rattle.cells.specs.Numbers.{le, leOf}
+use Rattle.base_cells.specs.Numbers.{le, leOf}
 use Rattle.wire_rules.specs.Segments.{Segs, segs, broken, portOffset, linkOffset, linkSize, portOf, portAt, logicalAt, keyOf, keyAt, dataAt, between, segAt, stepAt, segsFrom, segsOf}
 use Rattle.wire_rules.specs.ConnectionPath.{gather}
 use Rattle.wire_rules.specs.Requests.{objectIn, attributeIn, firstAttribute, requestWith, requestOf}

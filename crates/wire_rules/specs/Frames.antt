@@ -3,9 +3,9 @@ use Prim.Native.Nat.{ℕ, _+_}
 use mathlib.Core.List.{List, [], _∷_, _++_}
 use lib.ListN.{length}
 use lib.Dec.{leb, eqb}
-use Rattle.cells.specs.Pick.{pick}
-use Rattle.cells.specs.Numbers.{le, bytesLe}
-use Rattle.ids.specs.declared.OtId.{OtId}
+use Rattle.base_cells.specs.Pick.{pick}
+use Rattle.base_cells.specs.Numbers.{le, bytesLe}
+use Rattle.base_ids.specs.declared.OtId.{OtId}
 use Rattle.wire_rules.specs.Items.{Part, Items, wellFormed, broken, itemsOf}
 use Rattle.wire_rules.specs.declared.IoFrame.{IoFrame}
 use Rattle.wire_rules.specs.declared.IoFrame.the-variants.{Io, NotIo, Broken}

@@ -3,8 +3,8 @@ use Prim.Native.Nat.{ℕ, zero, suc, _+_}
 use mathlib.Core.List.{List, [], _∷_}
 use lib.ListN.{length}
 use lib.Dec.{leb, eqb}
-use Rattle.cells.specs.Pick.{pick}
-use Rattle.cells.specs.Numbers.{le}
+use Rattle.base_cells.specs.Pick.{pick}
+use Rattle.base_cells.specs.Numbers.{le}
 use Rattle.wire_rules.specs.declared.Cursor.{Cursor}
 use Rattle.wire_rules.specs.declared.Start.{Start}
 use Rattle.wire_rules.specs.declared.Start.the-variants.{At, NoCount}

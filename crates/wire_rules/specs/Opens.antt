@@ -4,9 +4,9 @@ use mathlib.Core.Bool.{Bool, true, false}
 use mathlib.Core.List.{List}
 use lib.ListN.{length}
 use lib.Dec.{leb}
-use Rattle.ids.specs.declared.Triad.{Triad}
-use Rattle.cells.specs.Pick.{pick}
-use Rattle.cells.specs.Numbers.{le}
+use Rattle.base_ids.specs.declared.Triad.{Triad}
+use Rattle.base_cells.specs.Pick.{pick}
+use Rattle.base_cells.specs.Numbers.{le}
 use Rattle.wire_rules.specs.Params.{paramsAt}
 use Rattle.wire_rules.specs.declared.Way.{Way}
 use Rattle.wire_rules.specs.declared.Place.{Place}

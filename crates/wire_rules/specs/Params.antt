@@ -3,7 +3,7 @@ use Prim.Native.Nat.{ℕ, zero, suc, _/_, _%_, _^_}
 use mathlib.Core.Bool.{Bool, true, false}
 use mathlib.Core.List.{List}
 use lib.Dec.{eqb}
-use Rattle.cells.specs.Numbers.{le}
+use Rattle.base_cells.specs.Numbers.{le}
 use Rattle.wire_rules.specs.declared.NetType.{NetType}
 use Rattle.wire_rules.specs.declared.NetType.the-variants.{Null, Multicast, PointToPoint, Reserved}
 use Rattle.wire_rules.specs.declared.NetParams.{NetParams}

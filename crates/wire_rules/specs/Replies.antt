@@ -2,10 +2,10 @@
 use Prim.Native.Nat.{ℕ, _+_, _%_}
 use mathlib.Core.List.{List, [], _∷_, _++_, map}
 use lib.ListN.{length, take}
-use Rattle.cells.specs.Records.{encFields}
-use Rattle.ids.specs.declared.OtId.{OtId}
-use Rattle.ids.specs.declared.ToId.{ToId}
-use Rattle.ids.specs.declared.Triad.{Triad}
+use Rattle.base_cells.specs.Records.{encFields}
+use Rattle.base_ids.specs.declared.OtId.{OtId}
+use Rattle.base_ids.specs.declared.ToId.{ToId}
+use Rattle.base_ids.specs.declared.Triad.{Triad}
 
 -- serial (2 bytes), vendor (2), originator serial (4)
 abbrev pub triadWidths : List ℕ

@@ -3,7 +3,7 @@ use Prim.Native.Nat.{ℕ, _+_, _*_}
 use mathlib.Core.List.{List, [], _∷_}
 use lib.ListN.{length, getD, take, drop}
 use lib.Dec.{ltb, leb}
-use Rattle.cells.specs.Pick.{pick}
+use Rattle.base_cells.specs.Pick.{pick}
 use Rattle.wire_rules.specs.Segments.{Segs, segs, broken, segsOf}
 use Rattle.wire_rules.specs.ConnectionPath.{gather}
 use Rattle.wire_rules.specs.declared.Seg.{Seg}

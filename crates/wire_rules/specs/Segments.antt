@@ -4,8 +4,8 @@ use mathlib.Core.Bool.{Bool, false}
 use mathlib.Core.List.{List, [], _∷_}
 use lib.ListN.{length, getD}
 use lib.Dec.{ltb, leb, eqb}
-use Rattle.cells.specs.Pick.{pick}
-use Rattle.cells.specs.Numbers.{le}
+use Rattle.base_cells.specs.Pick.{pick}
+use Rattle.base_cells.specs.Numbers.{le}
 use Rattle.wire_rules.specs.declared.Key.{Key}
 use Rattle.wire_rules.specs.declared.Seg.{Seg}
 use Rattle.wire_rules.specs.declared.Seg.the-variants.{Port, Class, Instance, Point, Attribute, Keyed, Data}

@@ -2,7 +2,7 @@
 use Prim.Native.Nat.{ℕ, _/_, _%_}
 use mathlib.Core.Bool.{Bool, false}
 use lib.Dec.{eqb}
-use Rattle.cells.specs.Pick.{pick}
+use Rattle.base_cells.specs.Pick.{pick}
 
 -- 5.15: the transport class: the low four bits
 abbrev pub transportClass : ℕ → ℕ

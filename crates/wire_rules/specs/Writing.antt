@@ -3,10 +3,10 @@ use Prim.Native.Nat.{ℕ, _+_}
 use mathlib.Core.List.{List, [], _∷_, _++_}
 use lib.ListN.{length, take, drop}
 use lib.Dec.{leb}
-use Rattle.cells.specs.Pick.{pick}
-use Rattle.cells.specs.Writes.{written}
-use Rattle.cells.specs.declared.Written.{Written}
-use Rattle.cells.specs.declared.Written.the-variants.{NoRoom}
+use Rattle.base_cells.specs.Pick.{pick}
+use Rattle.base_cells.specs.Writes.{written}
+use Rattle.base_cells.specs.declared.Written.{Written}
+use Rattle.base_cells.specs.declared.Written.the-variants.{NoRoom}
 use Rattle.wire_rules.specs.Frames.{ioFrame}
 
 -- 3.13: an item's size has 16 bits: there is no room in it for more than 65,535 bytes

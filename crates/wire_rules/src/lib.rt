@@ -1,8 +1,8 @@
 // What bytes on the wire say: the definitions of items, paths, requests, opens, closes and replies (docs/RULES.md, chapters 3 to 5), and the
 // types that code passes them in. This crate has types and definitions, no code; specs/ has one file for each.
-use ids::OtId;
-use ids::ToId;
-use ids::Triad;
+use base_ids::OtId;
+use base_ids::ToId;
+use base_ids::Triad;
 
 // A place in a list and how many items are to come.
 pub struct Cursor {

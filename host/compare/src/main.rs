@@ -19,7 +19,7 @@ Drives ciplink and the library with the same calls and compares every answer and
                     documented  ciplink with D1 in its text as the rules have it: nothing may be found
   --shrink SECONDS  for how long to shorten a run that shows a difference (default 20)
   --tally           print how often each call and answer came
-  --record FILE     compare nothing: write calls and what ciplink answers to them, for crates/replay
+  --record FILE     compare nothing: write calls and what ciplink answers to them, for crates/run_replay
                     (runs of at most --calls calls, default 150, until the file has --size bytes, default 250,000)
 ";
 

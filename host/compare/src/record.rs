@@ -1,4 +1,4 @@
-//! A recorded sample: calls with what ciplink answered to each, in the form that crates/replay reads.
+//! A recorded sample: calls with what ciplink answered to each, in the form that crates/run_replay reads.
 //!
 //! A record is 56 bytes of numbers, little-endian, and the bytes they speak of:
 //!

@@ -4,36 +4,6 @@
 //! bits 8 and up (docs/INTERFACE.md).
 
 unsafe extern "C" {
-    /// Closes a connection. Yes: 10 reply bytes. No: 1, 4, 9, 8.
-    pub fn threshtide_close(
-        state: *mut u8,
-        state_len: usize,
-        request: *const u8,
-        request_len: usize,
-        out: *mut u8,
-        out_len: usize,
-    ) -> u64;
-
-    /// Removes what was silent for longer than its timeout; how many went stands in bits 8 and up. No: 1, 3.
-    pub fn threshtide_expire(state: *mut u8, state_len: usize, time: u64) -> u64;
-
-    /// How many bytes an upload position has; all zero is none.
-    pub fn threshtide_upload_size() -> u64;
-
-    /// The reply to an explicit message; an upload of the EDS moves its position. No: 1, 8.
-    pub fn threshtide_message(
-        state: *const u8,
-        state_len: usize,
-        upload: *mut u8,
-        upload_len: usize,
-        local: u32,
-        mask: u32,
-        message: *const u8,
-        message_len: usize,
-        out: *mut u8,
-        out_len: usize,
-    ) -> u64;
-
     /// How many bytes a host has to lend as the state.
     pub fn threshtide_state_size() -> u64;
 
@@ -89,45 +59,6 @@ unsafe extern "C" {
         out_len: usize,
     ) -> u64;
 
-    /// Opens a connection. Yes: 26 reply bytes; multicast in bits 8 to 15, port in 16 to 31, address in 32 to 63. No: 1, 3, 4, 5, 8.
-    pub fn threshtide_open(
-        state: *mut u8,
-        state_len: usize,
-        time: u64,
-        service: u8,
-        request: *const u8,
-        request_len: usize,
-        peer: u32,
-        local: u32,
-        mask: u32,
-        given: bool,
-        address: u32,
-        port: u16,
-        ioport: u16,
-        out: *mut u8,
-        out_len: usize,
-    ) -> u64;
-
-    /// The 10 bytes of data of a refused open's reply. No: 4, 8.
-    pub fn threshtide_open_refusal(
-        service: u8,
-        request: *const u8,
-        request_len: usize,
-        out: *mut u8,
-        out_len: usize,
-    ) -> u64;
-
-    /// What a path holds, a record of 32 bytes. No: 4, 8.
-    pub fn threshtide_path(path: *const u8, path_len: usize, out: *mut u8, out_len: usize) -> u64;
-
-    /// What an explicit message asks, a record of 20 bytes. No: 4, 8.
-    pub fn threshtide_request(
-        message: *const u8,
-        message_len: usize,
-        out: *mut u8,
-        out_len: usize,
-    ) -> u64;
-
     /// Sets a state up from a block of 192 bytes and an EDS; ids begin at the seed. No: 1, 2.
     pub fn threshtide_setup(
         state: *mut u8,
@@ -138,6 +69,19 @@ unsafe extern "C" {
         eds_len: usize,
         seed: u32,
     ) -> u64;
+
+    /// Closes a connection. Yes: 10 reply bytes. No: 1, 4, 9, 8.
+    pub fn threshtide_close(
+        state: *mut u8,
+        state_len: usize,
+        request: *const u8,
+        request_len: usize,
+        out: *mut u8,
+        out_len: usize,
+    ) -> u64;
+
+    /// Removes what was silent for longer than its timeout; how many went stands in bits 8 and up. No: 1, 3.
+    pub fn threshtide_expire(state: *mut u8, state_len: usize, time: u64) -> u64;
 
     /// The time when a packet is due or a connection lives no longer, 8 bytes. No: 1, 9, 8.
     pub fn threshtide_next_deadline(
@@ -162,6 +106,62 @@ unsafe extern "C" {
         state: *mut u8,
         state_len: usize,
         time: u64,
+        out: *mut u8,
+        out_len: usize,
+    ) -> u64;
+
+    /// How many bytes an upload position has; all zero is none.
+    pub fn threshtide_upload_size() -> u64;
+
+    /// The reply to an explicit message; an upload of the EDS moves its position. No: 1, 8.
+    pub fn threshtide_message(
+        state: *const u8,
+        state_len: usize,
+        upload: *mut u8,
+        upload_len: usize,
+        local: u32,
+        mask: u32,
+        message: *const u8,
+        message_len: usize,
+        out: *mut u8,
+        out_len: usize,
+    ) -> u64;
+
+    /// What a path holds, a record of 32 bytes. No: 4, 8.
+    pub fn threshtide_path(path: *const u8, path_len: usize, out: *mut u8, out_len: usize) -> u64;
+
+    /// What an explicit message asks, a record of 20 bytes. No: 4, 8.
+    pub fn threshtide_request(
+        message: *const u8,
+        message_len: usize,
+        out: *mut u8,
+        out_len: usize,
+    ) -> u64;
+
+    /// Opens a connection. Yes: 26 reply bytes; multicast in bits 8 to 15, port in 16 to 31, address in 32 to 63. No: 1, 3, 4, 5, 8.
+    pub fn threshtide_open(
+        state: *mut u8,
+        state_len: usize,
+        time: u64,
+        service: u8,
+        request: *const u8,
+        request_len: usize,
+        peer: u32,
+        local: u32,
+        mask: u32,
+        given: bool,
+        address: u32,
+        port: u16,
+        ioport: u16,
+        out: *mut u8,
+        out_len: usize,
+    ) -> u64;
+
+    /// The 10 bytes of data of a refused open's reply. No: 4, 8.
+    pub fn threshtide_open_refusal(
+        service: u8,
+        request: *const u8,
+        request_len: usize,
         out: *mut u8,
         out_len: usize,
     ) -> u64;

@@ -3,7 +3,7 @@ use native.Mathlib.Omega.{arith}
 use borrow.Author.Needs.{needs}
 use Rattle.wire_replies.proofs.WriteLaws.{none-put, all-put}
 use Rattle.wire_rules.specs.Replies.{replyHead, headWidths, headFields}
-use Rattle.cells.specs.Records.{sum}
+use Rattle.base_cells.specs.Records.{sum}
 use Rattle.wire_replies.proofs.head_alone.Statement.{statement}
 use Rattle.wire_replies.proofs.head_alone.Tie as tie
 

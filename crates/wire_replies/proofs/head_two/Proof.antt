@@ -4,7 +4,7 @@ use native.Mathlib.Omega.{arith}
 use borrow.Author.Needs.{needs}
 use Rattle.wire_replies.proofs.WriteLaws.{none-put, all-put, put-on}
 use Rattle.wire_rules.specs.Replies.{replyHead, headWidths, headFields}
-use Rattle.cells.specs.Records.{sum}
+use Rattle.base_cells.specs.Records.{sum}
 use Rattle.wire_replies.proofs.head_two.Statement.{statement}
 use Rattle.wire_replies.proofs.head_two.Tie as tie
 

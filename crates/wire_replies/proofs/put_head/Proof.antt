@@ -1,5 +1,5 @@
 use Rattle.wire_replies.proofs.WriteLaws.{value-as}
-use Rattle.cells.specs.Records.{puts, done, step}
+use Rattle.base_cells.specs.Records.{puts, done, step}
 use borrow.Author.Needs.{needs}
 use Rattle.wire_replies.proofs.put_head.Statement.{statement}
 use Rattle.wire_replies.proofs.put_head.Tie as tie

@@ -5,7 +5,7 @@ use native.Mathlib.Omega.{arith}
 use borrow.Author.Needs.{needs}
 use Rattle.wire_replies.proofs.WriteLaws.{none-put, all-put}
 use Rattle.wire_rules.specs.Replies.{triadReply, triadReplyWidths, triadReplyFields}
-use Rattle.cells.specs.Records.{sum, putFields}
+use Rattle.base_cells.specs.Records.{sum, putFields}
 use Rattle.wire_replies.proofs.triad_reply.Statement.{statement}
 use Rattle.wire_replies.proofs.triad_reply.Tie as tie
 

@@ -1,3 +1,0 @@
-// What the application's calls share: their answers. Each call is a crate of its own: `inputs`, `outputs`,
-// `queue`, `counts`, `listing`. Each is given a state that passed the state test; its contract is the call of the rules, lifted to bytes.
-pub mod answers;
