@@ -6,24 +6,24 @@ use wire_rules::SegStep;
 fn say_segment(s: Seg) {
     match s {
         Seg::Port { port, start, len } => {
-            text::number(b"port ", port as usize, b", link of ");
-            text::number(b"", len, b" bytes at ");
-            text::number(b"", start, b"\n");
+            text::number(b"port ", port as usize);
+            text::number(b", link of ", len);
+            text::number(b" bytes at ", start);
         }
-        Seg::Class(v) => text::number(b"class ", v as usize, b"\n"),
-        Seg::Instance(v) => text::number(b"instance ", v as usize, b"\n"),
-        Seg::Point(v) => text::number(b"point ", v as usize, b"\n"),
-        Seg::Attribute(v) => text::number(b"attribute ", v as usize, b"\n"),
+        Seg::Class(v) => text::number(b"class ", v as usize),
+        Seg::Instance(v) => text::number(b"instance ", v as usize),
+        Seg::Point(v) => text::number(b"point ", v as usize),
+        Seg::Attribute(v) => text::number(b"attribute ", v as usize),
         Seg::Keyed(k) => {
-            text::number(b"key, vendor ", k.vendor as usize, b", device ");
-            text::number(b"", k.device as usize, b", product ");
-            text::number(b"", k.product as usize, b", revision ");
-            text::number(b"", k.major as usize, b".");
-            text::number(b"", k.minor as usize, b"\n");
+            text::number(b"key, vendor ", k.vendor as usize);
+            text::number(b", device ", k.device as usize);
+            text::number(b", product ", k.product as usize);
+            text::number(b", revision ", k.major as usize);
+            text::number(b".", k.minor as usize);
         }
         Seg::Data { start, len } => {
-            text::number(b"data of ", len, b" bytes at ");
-            text::number(b"", start, b"\n");
+            text::number(b"data of ", len);
+            text::number(b" bytes at ", start);
         }
     }
 }
@@ -32,9 +32,10 @@ fn say_cut(name: &[u8], path: &[u8]) {
     text::input(name, path.len());
     match wire_paths::next_segment(path, 0) {
         SegStep::Segment { seg, next: _ } => say_segment(seg),
-        SegStep::End => text::words(b"the end\n"),
-        SegStep::Broken(o) => text::number(b"broken at ", o, b"\n"),
+        SegStep::End => text::words(b"the end"),
+        SegStep::Broken(o) => text::number(b"broken at ", o),
     }
+    text::words(b"\n");
 }
 
 pub fn say_cuts(name: &[u8], path: &[u8]) {

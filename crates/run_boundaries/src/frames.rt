@@ -14,12 +14,13 @@ pub fn say_frame(name: &[u8], frame: &[u8]) {
             start,
             len,
         } => {
-            text::number(b"an I/O frame, its payload of ", len, b" bytes at ");
-            text::number(b"", start, b"\n");
+            text::number(b"an I/O frame, its payload of ", len);
+            text::number(b" bytes at ", start);
         }
-        IoFrame::NotIo => text::words(b"not an I/O frame\n"),
-        IoFrame::Broken(o) => text::number(b"broken at ", o, b"\n"),
+        IoFrame::NotIo => text::words(b"not an I/O frame"),
+        IoFrame::Broken(o) => text::number(b"broken at ", o),
     }
+    text::words(b"\n");
 }
 
 // The frame that carries the data, as our own writer makes it.
@@ -32,15 +33,19 @@ pub fn say_data(name: &[u8], data: &[u8]) {
                 say_frame(name, &room[start..n]);
             }
         }
-        Written::NoRoom => text::number(b"no frame carries data of ", data.len(), b"\n"),
+        Written::NoRoom => {
+            text::number(b"no frame carries data of ", data.len());
+            text::words(b"\n");
+        }
     }
 }
 
 pub fn say_items(name: &[u8], frame: &[u8]) {
     text::input(name, frame.len());
     match wire_items::check_items(frame) {
-        Whole::Good => text::words(b"a list of items\n"),
-        Whole::BrokenAt(o) => text::number(b"broken at ", o, b"\n"),
+        Whole::Good => text::words(b"a list of items"),
+        Whole::BrokenAt(o) => text::number(b"broken at ", o),
     }
+    text::words(b"\n");
     say_frame(b"the same frame", frame);
 }

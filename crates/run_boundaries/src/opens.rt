@@ -9,25 +9,27 @@ pub fn say_open(name: &[u8], request: &[u8], large: bool) {
     match wire_opens::decode_open(request, large) {
         OpenAnswer::Open(o) => {
             let path = o.path;
-            text::number(b"an open, its path at ", path.start, b"\n");
+            text::number(b"an open, its path at ", path.start);
         }
-        OpenAnswer::NoOpen => text::words(b"does not parse\n"),
+        OpenAnswer::NoOpen => text::words(b"does not parse"),
     }
+    text::words(b"\n");
 }
 
 pub fn say_close_or_path(name: &[u8], bytes: &[u8], path: bool) {
     text::input(name, bytes.len());
     if path {
         match wire_paths::parse_path(bytes) {
-            PathAnswer::Parsed(_) => text::words(b"parses\n"),
-            PathAnswer::Unparsed(o) => text::number(b"does not parse at ", o, b"\n"),
+            PathAnswer::Parsed(_) => text::words(b"parses"),
+            PathAnswer::Unparsed(o) => text::number(b"does not parse at ", o),
         }
     } else {
         match wire_opens::decode_close(bytes) {
-            CloseAnswer::Close(_) => text::words(b"a close\n"),
-            CloseAnswer::NoClose => text::words(b"does not parse\n"),
+            CloseAnswer::Close(_) => text::words(b"a close"),
+            CloseAnswer::NoClose => text::words(b"does not parse"),
         }
     }
+    text::words(b"\n");
 }
 
 // The timeout at a multiplier, of the least RPI that counts and of the greatest.
@@ -37,11 +39,14 @@ pub fn say_timeout(name: &[u8], multiplier: &[u8]) {
     }
     let m = base_cells::u8_at(multiplier, 0);
     text::words(name);
-    text::number(b" ", m as usize, b": at RPI 1 the timeout is ");
+    text::number(b" ", m as usize);
     text::number(
-        b"",
+        b": at RPI 1 the timeout is ",
         wire_numbers::timeout(1, m) as usize,
-        b", at RPI 4294967295 ",
     );
-    text::number(b"", wire_numbers::timeout(4294967295, m) as usize, b"\n");
+    text::number(
+        b", at RPI 4294967295 ",
+        wire_numbers::timeout(4294967295, m) as usize,
+    );
+    text::words(b"\n");
 }

@@ -5,13 +5,13 @@ pub fn words(s: &[u8]) {
     io::write_all(STDOUT_FILENO, s);
 }
 
-pub fn number(before: &[u8], n: usize, after: &[u8]) {
+pub fn number(before: &[u8], n: usize) {
     words(before);
     io::print_decimal(STDOUT_FILENO, n as u64);
-    words(after);
 }
 
 pub fn input(name: &[u8], n: usize) {
     words(name);
-    number(b" of ", n, b" bytes: ");
+    number(b" of ", n);
+    words(b" bytes: ");
 }
