@@ -16,7 +16,7 @@ fn fill(s: &mut [u8], seed: u32) -> u32 {
 
 // Bytes brought to one of n numbers from the least on: those at a place and so far apart up to an end.
 fn mend(s: &mut [u8], place: usize, end: usize, apart: usize, n: u8, least: u8)
-    requires { ⌜ (end ≤ 240) × (1 ≤ apart) × (apart ≤ 5) × (1 ≤ n) ⌝ }
+    requires { ⌜ (end ≤ 240) × (1 ≤ apart) × (apart ≤ 2) × (1 ≤ n) ⌝ }
 {
     if s.len() < end {
         return;
@@ -34,7 +34,7 @@ fn mend_setup(s: &mut [u8]) {
     mend(s, 1, 2, 1, 1, 1);
     mend(s, 2, 4, 1, 33, 0);
     mend(s, 6, 8, 1, 1, 0);
-    mend(s, 113, 190, state_layout::SHAPE, 2, 0);
+    mend(s, state_layout::SIZES + 1, state_layout::KINDS, 2, 2, 0);
 }
 
 // The head: the next id, the ring's word, and the number of connections.
