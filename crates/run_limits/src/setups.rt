@@ -5,8 +5,10 @@ use adapter::app_setup::threshtide_setup;
 // What is lent is full of this before a call, so that a byte written shows.
 pub const FILL: u8 = 170;
 
-// The block's assemblies: an instance, its size and its kind in 5 bytes, one behind the other.
-const ASSEMBLIES: usize = 110;
+// The block's assemblies stand one behind the other, in 5 bytes each: the first one's instance, size and kind.
+const INSTANCE: usize = 110;
+const SIZE: usize = 112;
+const KIND: usize = 114;
 const ASSEMBLY: usize = 5;
 
 // 16 assemblies of 4 bytes, instances 100 to 115: input, output, configuration, and again. A transfer limit of 255, no names, no EDS.
@@ -16,9 +18,9 @@ pub fn good_block(b: &mut [u8; 193]) {
     b[1] = 255;
     let mut i: usize = 0;
     while i < 16 {
-        b[ASSEMBLIES + i * ASSEMBLY] = (100 + i) as u8;
-        b[ASSEMBLIES + 2 + i * ASSEMBLY] = 4;
-        b[ASSEMBLIES + 4 + i * ASSEMBLY] = (1 + i % 3) as u8;
+        b[INSTANCE + i * ASSEMBLY] = (100 + i) as u8;
+        b[SIZE + i * ASSEMBLY] = 4;
+        b[KIND + i * ASSEMBLY] = (1 + i % 3) as u8;
         i += 1;
     }
 }
