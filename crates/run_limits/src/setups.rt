@@ -7,8 +7,11 @@ pub const FILL: u8 = 170;
 
 // The block's assemblies stand one behind the other, in 5 bytes each: the first one's instance, size and kind.
 const INSTANCE: usize = 110;
+
 const SIZE: usize = 112;
+
 const KIND: usize = 114;
+
 const ASSEMBLY: usize = 5;
 
 // 16 assemblies of 4 bytes, instances 100 to 115: input, output, configuration, and again. A transfer limit of 255, no names, no EDS.
