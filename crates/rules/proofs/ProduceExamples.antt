@@ -1,5 +1,5 @@
 -- Packets out, computed: chapter 10 of the rules, each line with its rule.
-use mathlib.Core.Path.{refl}
+use mathlib.Core.Path.{_≡_, refl}
 use mathlib.Core.List.{List, [], _∷_, _++_}
 use Prim.Native.Nat.{ℕ, _-_, _^_}
 use Rattle.base_cells.specs.Numbers.{bytesLe}
@@ -119,3 +119,10 @@ lateness =
 pub lateness-counted : Hold lateness
 unfolding produceCall produceAnswer produceEffect packets packet frameSent sent counters ioFrame bytesLe bytesBe
 lateness-counted = (refl, (refl, (refl, (refl, (refl, (refl, (refl, tt)))))))
+
+-- nothing but the table and the counters: 11.4, the fault mark stays
+pub produce-leaves : (t : ℕ) (st : State) →
+    (produceEffect t st .contents ≡ st .contents) × (produceEffect t st .events ≡ st .events) × (produceEffect t st .fault ≡ st .fault) ×
+    (produceEffect t st .nextId ≡ st .nextId)
+unfolding produceEffect
+produce-leaves t st = (refl, refl, refl, refl)
