@@ -16,7 +16,7 @@ fn tell(s: &[u8], i: usize, out: &mut [u8])
     requires { ⌜ Ready (now s) × (i < connectionsOf (now s)) × (i * 32 + 32 ≤ length (now out)) ⌝ }
     ensures { λ _. ⌜ now (out .exit) ≡ sets (now (out .entry)) (i * 32) (recordAt (now (s .entry)) i) ⌝ }
 {
-    let f = state_layout::fixed_at(&s[state_layout::TABLE..state_layout::EVENTS], i);
+    let f = state_rows::fixed_at(&s[state_layout::TABLE..state_layout::EVENTS], i);
     let a = i * 32;
     let e = a + 32;
     state_records::put_record(&mut out[a..e], 0, &s[0..state_layout::SETUP_SIZE], f);

@@ -19,8 +19,8 @@ fn in_stream_at(r: &[u8], i: usize, id: ToId) -> bool
     requires { ⌜ (i < 32) × (tableSize ≤ length (now r)) ⌝ }
     ensures { λ x. ⌜ x ≡ inStream id (connAt (now (r .entry)) i) ⌝ }
 {
-    let toid = state_layout::toid_at(r, i);
-    if !state_layout::multicast_at(r, i) {
+    let toid = state_fields::toid_at(r, i);
+    if !state_fields::multicast_at(r, i) {
         return false;
     }
     toid.0 == id.0
@@ -32,7 +32,7 @@ fn feeds_at(r: &[u8], i: usize, id: ToId) -> bool
     ensures { λ x. ⌜ x ≡ feeds id (connAt (now (r .entry)) i) ⌝ }
 {
     if in_stream_at(r, i, id) {
-        return !state_layout::listens_at(r, i);
+        return !state_fields::listens_at(r, i);
     }
     false
 }
@@ -41,7 +41,7 @@ fn has_triad_at(r: &[u8], i: usize, t: Triad) -> bool
     requires { ⌜ (i < 32) × (tableSize ≤ length (now r)) ⌝ }
     ensures { λ x. ⌜ x ≡ connTriad t (connAt (now (r .entry)) i) ⌝ }
 {
-    let x = state_layout::triad_at(r, i);
+    let x = state_fields::triad_at(r, i);
     if t.serial != x.serial {
         return false;
     }
@@ -55,7 +55,7 @@ fn expired_at(r: &[u8], i: usize, time: u64) -> bool
     requires { ⌜ (i < 32) × (tableSize ≤ length (now r)) ⌝ }
     ensures { λ x. ⌜ x ≡ expired time (connAt (now (r .entry)) i) ⌝ }
 {
-    state_layout::until_at(r, i) < time
+    state_fields::until_at(r, i) < time
 }
 
 // ---- whether any has expired
@@ -78,7 +78,7 @@ pub fn any_expired(r: &[u8], n: usize, time: u64) -> bool
     let mut m: u64 = 18446744073709551615;
     let mut i = 0;
     while i < n {
-        m = lesser(m, state_layout::until_at(r, i));
+        m = lesser(m, state_fields::until_at(r, i));
         i += 1;
     }
     m < time

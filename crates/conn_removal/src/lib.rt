@@ -61,7 +61,7 @@ fn close_first(s: &mut [u8], id: ToId) -> bool
     match conn_lookup::find_stream(&s[state_layout::TABLE..state_layout::EVENTS], n, id) {
         Found::Nowhere => false,
         Found::At(j) => {
-            let f = state_layout::fixed_at(&s[state_layout::TABLE..state_layout::EVENTS], j);
+            let f = state_rows::fixed_at(&s[state_layout::TABLE..state_layout::EVENTS], j);
             state_changes::remove_row(s, j);
             state_events::tell(s, 2, f);
             true
@@ -148,8 +148,8 @@ pub fn remove_conn(s: &mut [u8], i: usize, what: u8)
     requires { ⌜ Ready (now s) × (i < connectionsOf (now s)) ⌝ }
     ensures { λ _. ⌜ Fewer (now (s .entry)) (now (s .exit)) × Turns (now (s .entry)) (now (s .exit)) (goneAt what i) ⌝ }
 {
-    let f = state_layout::fixed_at(&s[state_layout::TABLE..state_layout::EVENTS], i);
-    let x = state_layout::sent_at(&s[state_layout::TABLE..state_layout::EVENTS], i);
+    let f = state_rows::fixed_at(&s[state_layout::TABLE..state_layout::EVENTS], i);
+    let x = state_rows::sent_at(&s[state_layout::TABLE..state_layout::EVENTS], i);
     state_changes::remove_row(s, i);
     finish(s, what, f, x);
 }

@@ -69,7 +69,7 @@ fn count_row(s: &[u8], i: usize, time: u64, limit: u64, k: Tally) -> Tally
     requires { ⌜ Ready (now s) × Slotted (now s) × (i < connectionsOf (now s)) × (k .need ≤ 17440) × (k .count ≤ 32) × (k .late ≤ 32) ⌝ }
     ensures { λ r. ⌜ (r .need ≤ k .need + 545) × (r .count ≤ k .count + 1) × (r .late ≤ k .late + 1) × Tallies time limit i (now (s .entry)) k r ⌝ }
 {
-    let d = state_layout::due_at(&s[state_layout::TABLE..state_layout::EVENTS], i);
+    let d = state_fields::due_at(&s[state_layout::TABLE..state_layout::EVENTS], i);
     match d {
         Due::Never => k,
         Due::At(t) => {
@@ -78,7 +78,7 @@ fn count_row(s: &[u8], i: usize, time: u64, limit: u64, k: Tally) -> Tally
             }
             let p = io_packets::data_of(
                 s,
-                state_layout::input_at(&s[state_layout::TABLE..state_layout::EVENTS], i),
+                state_fields::input_at(&s[state_layout::TABLE..state_layout::EVENTS], i),
             );
             add_packet(k, 33 + p.size, time - t, limit)
         }
@@ -106,7 +106,7 @@ pub fn any_due(r: &[u8], n: usize, time: u64) -> bool
     while i < n {
         m = lesser(
             m,
-            std::num::wrapping_sub_u64(state_layout::due_number_at(r, i), 1),
+            std::num::wrapping_sub_u64(state_fields::due_number_at(r, i), 1),
         );
         i += 1;
     }

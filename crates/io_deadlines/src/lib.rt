@@ -23,8 +23,8 @@ fn row_deadline(r: &[u8], i: usize) -> u64
     requires { ⌜ (i < 32) × (tableSize ≤ length (now r)) ⌝ }
     ensures { λ x. ⌜ x ≡ deadlineOf (connAt (now (r .entry)) i) ⌝ }
 {
-    let until = state_layout::until_at(r, i);
-    let due = state_layout::due_number_at(r, i);
+    let until = state_fields::until_at(r, i);
+    let due = state_fields::due_number_at(r, i);
     lesser(until, std::num::wrapping_sub_u64(due, 1))
 }
 

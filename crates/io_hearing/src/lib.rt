@@ -20,11 +20,11 @@ fn is_for(r: &[u8], i: usize, id: OtId, from: u32) -> bool
     requires { ⌜ (i < 32) × (tableSize ≤ length (now r)) ⌝ }
     ensures { λ x. ⌜ x ≡ hears id from (connAt (now (r .entry)) i) ⌝ }
 {
-    let x = state_layout::otid_at(r, i);
+    let x = state_fields::otid_at(r, i);
     if x.0 != id.0 {
         return false;
     }
-    state_layout::originator_at(r, i) == from
+    state_fields::originator_at(r, i) == from
 }
 
 // Without a jump.
@@ -42,10 +42,10 @@ fn any_of_four(r: &[u8], i: usize, id: OtId) -> bool
     requires { ⌜ (i + 4 ≤ 32) × (tableSize ≤ length (now r)) ⌝ }
     ensures { λ x. ⌜ x ≡ idInFour id (now (r .entry)) i ⌝ }
 {
-    let a = state_layout::otid_at(r, i);
-    let b = state_layout::otid_at(r, i + 1);
-    let c = state_layout::otid_at(r, i + 2);
-    let d = state_layout::otid_at(r, i + 3);
+    let a = state_fields::otid_at(r, i);
+    let b = state_fields::otid_at(r, i + 1);
+    let c = state_fields::otid_at(r, i + 2);
+    let d = state_fields::otid_at(r, i + 3);
     either(
         either(a.0 == id.0, b.0 == id.0),
         either(c.0 == id.0, d.0 == id.0),

@@ -15,12 +15,12 @@ fn send_row(s: &mut [u8], out: &mut [u8], at: usize, i: usize, time: u64) -> usi
     requires { ⌜ Ready (now s) × Slotted (now s) × (i < connectionsOf (now s)) × (at ≤ length (now out)) × (time < 9223372036854775808) ⌝ }
     ensures { λ r. ⌜ (at + r ≤ length (now (out .entry))) × Kept (connectionsOf (now (s .entry))) (now (s .entry)) (now (s .exit)) × Sends time i at (now (s .entry)) (now (s .exit)) (now (out .entry)) (now (out .exit)) r ⌝ }
 {
-    let x = state_layout::sent_at(&s[state_layout::TABLE..state_layout::EVENTS], i);
+    let x = state_rows::sent_at(&s[state_layout::TABLE..state_layout::EVENTS], i);
     let d = x.due;
     if !io_packets::is_due(d, time) {
         return 0;
     }
-    let f = state_layout::fixed_at(&s[state_layout::TABLE..state_layout::EVENTS], i);
+    let f = state_rows::fixed_at(&s[state_layout::TABLE..state_layout::EVENTS], i);
     let p = io_packets::data_of(s, f.input);
     if out.len() - at < 33 + p.size {
         return 0;

@@ -92,11 +92,11 @@ fn hear(s: &mut [u8], i: usize, time: u64, q: u32, d: &[u8])
     requires { ⌜ Ready (now s) × Slotted (now s) × (i < connectionsOf (now s)) × (time < 9223372036854775808) ⌝ }
     ensures { λ _. ⌜ Hears i time q (now (d .entry)) (now (s .entry)) (now (s .exit)) ⌝ }
 {
-    let h = state_layout::heard_at(&s[state_layout::TABLE..state_layout::EVENTS], i);
+    let h = state_rows::heard_at(&s[state_layout::TABLE..state_layout::EVENTS], i);
     if !io_hearing::is_newer(h, q) {
         return;
     }
-    let f = state_layout::fixed_at(&s[state_layout::TABLE..state_layout::EVENTS], i);
+    let f = state_rows::fixed_at(&s[state_layout::TABLE..state_layout::EVENTS], i);
     let k = f.kind;
     let until = lives_until(time, f.otrpi, f.multiplier);
     if !io_hearing::has_cip(k, d) {

@@ -15,7 +15,7 @@ fn owner_at(r: &[u8], i: usize) -> bool
     requires { ⌜ (i < 32) × (tableSize ≤ length (now r)) ⌝ }
     ensures { λ x. ⌜ x ≡ ownerIn (connAt (now (r .entry)) i) ⌝ }
 {
-    let f = state_layout::fixed_at(r, i);
+    let f = state_rows::fixed_at(r, i);
     let k = f.kind;
     state_layout::is_owner(k)
 }
@@ -58,7 +58,7 @@ fn running_at(s: &[u8], i: usize) -> bool
     requires { ⌜ Passed (now s) × (i < connectionsOf (now s)) ⌝ }
     ensures { λ x. ⌜ x ≡ runsIn (view (now (s .entry))) (connAt (tableIn (now (s .entry))) i) ⌝ }
 {
-    let f = state_layout::fixed_at(&s[state_layout::TABLE..state_layout::EVENTS], i);
+    let f = state_rows::fixed_at(&s[state_layout::TABLE..state_layout::EVENTS], i);
     let k = f.kind;
     if !state_layout::is_owner(k) {
         return false;

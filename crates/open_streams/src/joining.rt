@@ -32,12 +32,12 @@ fn carries_at(t: &[u8], i: usize, listens: bool, input: u8, rpi: u32) -> bool
     requires { ⌜ (i < 32) × (tableSize ≤ length (now t)) ⌝ }
     ensures { λ x. ⌜ x ≡ carriesFor listens input rpi (decFixed (rowAt (now (t .entry)) i)) ⌝ }
 {
-    let found = state_layout::input_at(t, i);
-    let torpi = state_layout::torpi_at(t, i);
-    if !state_layout::multicast_at(t, i) {
+    let found = state_fields::input_at(t, i);
+    let torpi = state_fields::torpi_at(t, i);
+    if !state_fields::multicast_at(t, i) {
         return false;
     }
-    if state_layout::listens_at(t, i) {
+    if state_fields::listens_at(t, i) {
         return false;
     }
     if found != input {
@@ -53,7 +53,7 @@ fn stream_at(t: &[u8], i: usize) -> Stream
     requires { ⌜ (i < 32) × (tableSize ≤ length (now t)) ⌝ }
     ensures { λ x. ⌜ x ≡ streamFound (some (decFixed (rowAt (now (t .entry)) i))) ⌝ }
 {
-    let f = state_layout::fixed_at(t, i);
+    let f = state_rows::fixed_at(t, i);
     let toid = f.toid;
     let dest = f.dest;
     Stream::Joins {

@@ -18,8 +18,8 @@ fn owns_at(t: &[u8], i: usize, output: u8) -> bool
     requires { ⌜ (i < 32) × (tableSize ≤ length (now t)) ⌝ }
     ensures { λ x. ⌜ x ≡ owns output (decFixed (rowAt (now (t .entry)) i)) ⌝ }
 {
-    let found = state_layout::output_at(t, i);
-    if !state_layout::owns_at(t, i) {
+    let found = state_fields::output_at(t, i);
+    if !state_fields::owns_at(t, i) {
         return false;
     }
     found == output
