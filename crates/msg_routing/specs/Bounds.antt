@@ -11,7 +11,7 @@ use lib.ListN.{length, getD, take, drop}
 use Rattle.base_cells.specs.Pick.{pick}
 use Rattle.wire_rules.specs.Segments.{pathMax, stepAt, Segs, segs, broken, follow, segsFrom, segsOf}
 use Rattle.wire_rules.specs.ConnectionPath.{numbersIn, connectionPath, pathRead, pathOf}
-use Rattle.wire_paths.specs.PathLaws as paths
+use Rattle.wire_segments.specs.PathLaws as paths
 use Rattle.wire_rules.specs.declared.ConnectionPath.{ConnectionPath}
 use Rattle.wire_rules.specs.declared.PathAnswer.the-variants.{Parsed, Unparsed}
 use Rattle.wire_rules.specs.Requests.{messageMax, requestWith, requestOf}

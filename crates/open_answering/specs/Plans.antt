@@ -16,7 +16,7 @@ use Rattle.wire_rules.specs.declared.ConnectionPath.{ConnectionPath}
 use Rattle.wire_rules.specs.declared.PathAnswer.{PathAnswer}
 use Rattle.wire_rules.specs.declared.PathAnswer.the-variants.{Parsed, Unparsed}
 use Rattle.wire_rules.specs.ConnectionPath.{pathOf}
-use Rattle.wire_paths.specs.PathLaws.{data-inside}
+use Rattle.wire_segments.specs.PathLaws.{data-inside}
 use Rattle.rules_laws.specs.ListLaws.{by-cases, clash}
 use Rattle.rules.specs.State.{isInput, isOutput, isOwner, Setup, State, noShape, shapeAt, contentAt, fixeds}
 use Rattle.rules.specs.Checks.{pathIn, otPoint, toPoint, kindOf, isAt, placeOf, placeOr0, rolesOf, configStop, configCheck, roomCheck, storesInto, planOf, verdict}

@@ -30,7 +30,7 @@ fn say_segment(s: Seg) {
 
 fn say_cut(name: &[u8], path: &[u8]) {
     text::input(name, path.len());
-    match wire_paths::next_segment(path, 0) {
+    match wire_segments::next_segment(path, 0) {
         SegStep::Segment { seg, next: _ } => say_segment(seg),
         SegStep::End => text::words(b"the end"),
         SegStep::Broken(o) => text::number(b"broken at ", o),

@@ -53,7 +53,7 @@ pub fn say_path(path: &[u8]) {
     let mut at: usize = 0;
     let mut turns: usize = 65538;
     while 0 < turns {
-        match wire_paths::next_segment(path, at) {
+        match wire_segments::next_segment(path, at) {
             SegStep::Segment { seg, next } => {
                 say_segment(at, seg);
                 at = next;

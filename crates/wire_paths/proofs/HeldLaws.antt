@@ -3,7 +3,7 @@ use Prim.Native.Nat.{ℕ}
 use mathlib.Core.Path.{_≡_, sym, _∙_, ap}
 use mathlib.Core.List.{List, [], _∷_, _++_}
 use Rattle.wire_rules.specs.Segments.{stepAt}
-use Rattle.wire_paths.specs.WalkLaws.{Passed, passed-none, passed-more, passed-all, passed-broken}
+use Rattle.wire_segments.specs.WalkLaws.{Passed, passed-none, passed-more, passed-all, passed-broken}
 use Rattle.wire_rules.specs.ConnectionPath.{connectionPath, pathRead, pathOf}
 use Rattle.wire_paths.specs.Adding.{added}
 use Rattle.wire_paths.proofs.MoreLaws.{added-more}

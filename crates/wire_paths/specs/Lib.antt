@@ -1,4 +1,1 @@
-pub mod Logical
 pub mod Adding
-pub mod PathLaws
-pub mod WalkLaws

@@ -7,7 +7,7 @@ use native.Mathlib.Omega.{arith}
 use borrow.Author.Tests.{le-leb, lt-leb, lt-ltb, le-ltb}
 use Rattle.wire_rules.specs.Segments.{stepAt, Segs, segs, broken, segsOf}
 use Rattle.wire_rules.specs.ConnectionPath.{gather, pathRead, pathOf}
-use Rattle.wire_paths.specs.WalkLaws.{Ahead, ahead-all, ahead-then, ahead-end, ahead-whole, Passed, passed-none, passed-more, passed-all, passed-broken}
+use Rattle.wire_segments.specs.WalkLaws.{Ahead, ahead-all, ahead-then, ahead-end, ahead-whole, Passed, passed-none, passed-more, passed-all, passed-broken}
 use Rattle.wire_rules.specs.declared.Seg.{Seg}
 use Rattle.wire_rules.specs.declared.Seg.the-variants.{Port, Class, Instance, Point, Attribute, Keyed, Data}
 use Rattle.wire_rules.proofs.Seg.{the-type}

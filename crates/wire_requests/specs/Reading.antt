@@ -3,7 +3,7 @@ use Prim.Native.Nat.{ℕ}
 use mathlib.Core.Path.{_≡_}
 use mathlib.Core.List.{List}
 use Rattle.wire_rules.specs.Segments.{segs, segsOf}
-use Rattle.wire_paths.specs.WalkLaws.{Ahead}
+use Rattle.wire_segments.specs.WalkLaws.{Ahead}
 use Rattle.wire_rules.specs.declared.Seg.{Seg}
 use Rattle.wire_rules.specs.Requests.{classAlone, inClass, objectIn, attributeOf, firstOf}
 use Rattle.wire_rules.specs.declared.Object.{Object}

@@ -11,7 +11,7 @@ ghost use lib.ListN.{length, getD};
 ghost use Rattle.wire_rules.specs.Segments.{segsOf};
 ghost use Rattle.wire_rules.specs.Requests.{attributeOf, firstOf, firstAttribute, requestWith, requestOf};
 ghost use Rattle.wire_requests.specs.Reading.{NamesObject, NamesInClass, NamesClass, keptAttribute};
-use wire_paths::next_segment;
+use wire_segments::next_segment;
 use wire_paths::parse_path;
 use wire_rules::PathAnswer;
 use wire_rules::Seg;

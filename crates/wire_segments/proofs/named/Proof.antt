@@ -1,6 +1,6 @@
 use borrow.Author.Needs.{needs}
-use Rattle.wire_paths.proofs.named.Statement.{statement}
-use Rattle.wire_paths.proofs.named.Tie as tie
+use Rattle.wire_segments.proofs.named.Statement.{statement}
+use Rattle.wire_segments.proofs.named.Tie as tie
 
 enum-told : tie.Need-enum-told
 enum-told c = search needs

@@ -1,8 +1,8 @@
 use native.Mathlib.Omega.{arith}
-use Rattle.wire_paths.proofs.StepLaws.{seg-port, seg-class, seg-instance, seg-point, seg-attribute, seg-key, seg-data, seg-gap}
+use Rattle.wire_segments.proofs.StepLaws.{seg-port, seg-class, seg-instance, seg-point, seg-attribute, seg-key, seg-data, seg-gap}
 use borrow.Author.Needs.{needs}
-use Rattle.wire_paths.proofs.seg_at.Statement.{statement}
-use Rattle.wire_paths.proofs.seg_at.Tie as tie
+use Rattle.wire_segments.proofs.seg_at.Statement.{statement}
+use Rattle.wire_segments.proofs.seg_at.Tie as tie
 
 shared-slice-read-first : tie.Need-shared-slice-read-first
 shared-slice-read-first c = search needs

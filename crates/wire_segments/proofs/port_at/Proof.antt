@@ -1,8 +1,8 @@
 use native.Mathlib.Omega.{arith}
-use Rattle.wire_paths.proofs.StepLaws.{port-none, port-short, port-fits}
+use Rattle.wire_segments.proofs.StepLaws.{port-none, port-short, port-fits}
 use borrow.Author.Needs.{needs}
-use Rattle.wire_paths.proofs.port_at.Statement.{statement}
-use Rattle.wire_paths.proofs.port_at.Tie as tie
+use Rattle.wire_segments.proofs.port_at.Statement.{statement}
+use Rattle.wire_segments.proofs.port_at.Tie as tie
 
 sub-left : tie.Need-sub-left
 sub-left c = search needs

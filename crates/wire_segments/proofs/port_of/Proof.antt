@@ -1,8 +1,8 @@
 use native.Mathlib.Omega.{arith}
-use Rattle.wire_paths.proofs.StepLaws.{link-wide, port-number-wide, port-number}
+use Rattle.wire_segments.proofs.StepLaws.{link-wide, port-number-wide, port-number}
 use borrow.Author.Needs.{needs}
-use Rattle.wire_paths.proofs.port_of.Statement.{statement}
-use Rattle.wire_paths.proofs.port_of.Tie as tie
+use Rattle.wire_segments.proofs.port_of.Statement.{statement}
+use Rattle.wire_segments.proofs.port_of.Tie as tie
 
 shared-slice-read-first : tie.Need-shared-slice-read-first
 shared-slice-read-first c = search needs

@@ -5,7 +5,7 @@ use mathlib.Core.List.{List, [], _∷_, _++_, append-assoc, append-nil}
 use lib.ListN.{length}
 use native.Mathlib.Omega.{arith}
 use Rattle.wire_rules.specs.Segments.{stepAt, Segs, segs, broken, cons, segsFrom, segsOf}
-use Rattle.wire_paths.specs.PathLaws.{segment-found}
+use Rattle.wire_segments.specs.PathLaws.{segment-found}
 use Rattle.wire_rules.specs.declared.Seg.{Seg}
 use Rattle.wire_rules.specs.declared.SegStep.the-variants.{Segment, End, Broken}
 

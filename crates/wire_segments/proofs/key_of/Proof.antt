@@ -1,7 +1,7 @@
 use Rattle.wire_rules.specs.Segments.{keyOf}
 use borrow.Author.Needs.{needs}
-use Rattle.wire_paths.proofs.key_of.Statement.{statement}
-use Rattle.wire_paths.proofs.key_of.Tie as tie
+use Rattle.wire_segments.proofs.key_of.Statement.{statement}
+use Rattle.wire_segments.proofs.key_of.Tie as tie
 
 add-u16-at : tie.Need-add-u16-at
 add-u16-at c = search needs

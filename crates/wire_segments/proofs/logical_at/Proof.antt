@@ -1,8 +1,8 @@
 use native.Mathlib.Omega.{arith}
-use Rattle.wire_paths.proofs.StepLaws.{short8, short16, short32, logical8, logical16, logical32}
+use Rattle.wire_segments.proofs.StepLaws.{short8, short16, short32, logical8, logical16, logical32}
 use borrow.Author.Needs.{needs}
-use Rattle.wire_paths.proofs.logical_at.Statement.{statement}
-use Rattle.wire_paths.proofs.logical_at.Tie as tie
+use Rattle.wire_segments.proofs.logical_at.Statement.{statement}
+use Rattle.wire_segments.proofs.logical_at.Tie as tie
 
 sub-left : tie.Need-sub-left
 sub-left c = search needs

@@ -1,8 +1,8 @@
 use native.Mathlib.Omega.{arith}
-use Rattle.wire_paths.proofs.StepLaws.{link-wide, link-narrow}
+use Rattle.wire_segments.proofs.StepLaws.{link-wide, link-narrow}
 use borrow.Author.Needs.{needs}
-use Rattle.wire_paths.proofs.link_offset.Statement.{statement}
-use Rattle.wire_paths.proofs.link_offset.Tie as tie
+use Rattle.wire_segments.proofs.link_offset.Statement.{statement}
+use Rattle.wire_segments.proofs.link_offset.Tie as tie
 
 port-offset-requires : tie.Need-port-offset-requires
 port-offset-requires c κs = search needs

@@ -1,8 +1,8 @@
 use native.Mathlib.Omega.{arith}
-use Rattle.wire_paths.proofs.StepLaws.{step-over, step-end, step-past, step-seg}
+use Rattle.wire_segments.proofs.StepLaws.{step-over, step-end, step-past, step-seg}
 use borrow.Author.Needs.{needs}
-use Rattle.wire_paths.proofs.next_segment.Statement.{statement}
-use Rattle.wire_paths.proofs.next_segment.Tie as tie
+use Rattle.wire_segments.proofs.next_segment.Statement.{statement}
+use Rattle.wire_segments.proofs.next_segment.Tie as tie
 
 returns : tie.Need-returns
 returns c = step-over _ _ (omega arith)

@@ -1,8 +1,8 @@
 use native.Mathlib.Omega.{arith}
-use Rattle.wire_paths.proofs.StepLaws.{size-sized, size-plain}
+use Rattle.wire_segments.proofs.StepLaws.{size-sized, size-plain}
 use borrow.Author.Needs.{needs}
-use Rattle.wire_paths.proofs.link_size.Statement.{statement}
-use Rattle.wire_paths.proofs.link_size.Tie as tie
+use Rattle.wire_segments.proofs.link_size.Statement.{statement}
+use Rattle.wire_segments.proofs.link_size.Tie as tie
 
 wide-requires : tie.Need-wide-requires
 wide-requires c κs = search needs

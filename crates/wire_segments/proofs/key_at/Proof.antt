@@ -1,8 +1,8 @@
 use native.Mathlib.Omega.{arith}
-use Rattle.wire_paths.proofs.StepLaws.{key-short, key-other, key-fits}
+use Rattle.wire_segments.proofs.StepLaws.{key-short, key-other, key-fits}
 use borrow.Author.Needs.{needs}
-use Rattle.wire_paths.proofs.key_at.Statement.{statement}
-use Rattle.wire_paths.proofs.key_at.Tie as tie
+use Rattle.wire_segments.proofs.key_at.Statement.{statement}
+use Rattle.wire_segments.proofs.key_at.Tie as tie
 
 sub-if1 : tie.Need-sub-if1
 sub-if1 c = search needs

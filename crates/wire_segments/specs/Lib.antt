@@ -1,0 +1,3 @@
+pub mod Logical
+pub mod PathLaws
+pub mod WalkLaws
