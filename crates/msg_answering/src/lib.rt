@@ -152,7 +152,7 @@ fn put_head(out: &mut [u8], service: u8, status: u8)
     requires { ⌜ 516 ≤ length (now out) ⌝ }
     ensures { λ _. ⌜ now (out .exit) ≡ sets (now (out .entry)) 0 (replyHead service status) ⌝ }
 {
-    wire_replies::reply_head(out, service, status, 0, 0, 0);
+    wire_heads::reply_head(out, service, status, 0, 0, 0);
 }
 
 // The head in front of the data that stand behind it already; the length of both.

@@ -1,16 +1,16 @@
 // What the adapter answers an open, a close and any message with. Each writer puts its bytes at the start of the lent
 // output and says how many they are; where they do not fit it writes nothing. Numbers are little-endian.
+use base_cells::Written;
+use base_ids::OtId;
+use base_ids::ToId;
+use base_ids::Triad;
 ghost use mathlib.Core.Path.{_≡_};
 ghost use Prim.Native.Nat.{_+_, _≤_};
 ghost use mathlib.Core.List.{[], _∷_};
 ghost use lib.ListN.{length};
 ghost use Rattle.base_cells.specs.Records.{putFields};
 ghost use Rattle.base_cells.specs.Writes.{written};
-ghost use Rattle.wire_rules.specs.Replies.{triadWidths, triadFields, withBit7, headWidths, headFields, openReply, triadReply, openRefusal, closeReply, replyHead};
-use base_cells::Written;
-use base_ids::OtId;
-use base_ids::ToId;
-use base_ids::Triad;
+ghost use Rattle.wire_rules.specs.Replies.{triadWidths, triadFields, openReply, triadReply, openRefusal, closeReply};
 
 fn put_triad(s: &mut [u8], at: usize, triad: Triad)
     requires { ⌜ at + 8 ≤ length (now s) ⌝ }
@@ -75,73 +75,4 @@ pub fn close_reply(out: &mut [u8], triad: Triad) -> Written
     ensures { λ r. ⌜ (r, now (out .exit)) ≡ written (now (out .entry)) (closeReply triad) ⌝ }
 {
     triad_reply(out, triad)
-}
-
-fn reply_service(service: u8) -> u8
-    ensures { λ r. ⌜ r ≡ withBit7 service ⌝ }
-{
-    service | 0x80
-}
-
-fn put_head(s: &mut [u8], service: u8, general: u8, words: u8)
-    requires { ⌜ 4 ≤ length (now s) ⌝ }
-    ensures { λ _. ⌜ now (s .exit) ≡ putFields headWidths (now (s .entry)) 0 (headFields service general words) ⌝ }
-{
-    base_cells::put_u8(s, 0, reply_service(service));
-    base_cells::put_u8(s, 1, 0);
-    base_cells::put_u8(s, 2, general);
-    base_cells::put_u8(s, 3, words);
-}
-
-fn head_alone(out: &mut [u8], service: u8, general: u8) -> Written
-    ensures { λ r. ⌜ (r, now (out .exit)) ≡ written (now (out .entry)) (replyHead service general 0 0 0) ⌝ }
-{
-    if out.len() < 4 {
-        return Written::NoRoom;
-    }
-    put_head(out, service, general, 0);
-    Written::Bytes(4)
-}
-
-fn head_one(out: &mut [u8], service: u8, general: u8, first: u16) -> Written
-    ensures { λ r. ⌜ (r, now (out .exit)) ≡ written (now (out .entry)) (replyHead service general 1 first 0) ⌝ }
-{
-    if out.len() < 6 {
-        return Written::NoRoom;
-    }
-    put_head(out, service, general, 1);
-    base_cells::put_u16(out, 4, first);
-    Written::Bytes(6)
-}
-
-fn head_two(out: &mut [u8], service: u8, general: u8, first: u16, second: u16) -> Written
-    ensures { λ r. ⌜ (r, now (out .exit)) ≡ written (now (out .entry)) (replyHead service general 2 first second) ⌝ }
-{
-    if out.len() < 8 {
-        return Written::NoRoom;
-    }
-    put_head(out, service, general, 2);
-    base_cells::put_u16(out, 4, first);
-    base_cells::put_u16(out, 6, second);
-    Written::Bytes(8)
-}
-
-// The head of a CIP reply, with as many of the two words as asked for.
-pub fn reply_head(
-    out: &mut [u8],
-    service: u8,
-    general: u8,
-    words: u8,
-    first: u16,
-    second: u16,
-) -> Written
-    ensures { λ r. ⌜ (r, now (out .exit)) ≡ written (now (out .entry)) (replyHead service general words first second) ⌝ }
-{
-    if words == 0 {
-        return head_alone(out, service, general);
-    }
-    if words == 1 {
-        return head_one(out, service, general, first);
-    }
-    head_two(out, service, general, first, second)
 }

@@ -11,11 +11,11 @@ ghost use lib.ListN.{length, getD};
 ghost use Rattle.wire_rules.specs.Segments.{segsOf};
 ghost use Rattle.wire_rules.specs.Requests.{attributeOf, firstOf, firstAttribute, requestWith, requestOf};
 ghost use Rattle.wire_requests.specs.Reading.{NamesObject, NamesInClass, NamesClass, keptAttribute};
-use wire_segments::next_segment;
 use wire_paths::parse_path;
 use wire_rules::PathAnswer;
 use wire_rules::Seg;
 use wire_rules::SegStep;
+use wire_segments::next_segment;
 
 fn wide(b: u8) -> usize
     ensures { λ r. ⌜ (r ≡ b) × (r < 256) ⌝ }

@@ -1,10 +1,10 @@
 // The segments of a padded EPATH. A path is lent bytes, at most 510 of them; a link or data is a place in these bytes, never a copy. Bytes that are
 // no segment are answered with their offset.
+use base_cells::u16_at;
+use base_cells::u32_at;
 use wire_rules::Key;
 use wire_rules::Seg;
 use wire_rules::SegStep;
-use base_cells::u16_at;
-use base_cells::u32_at;
 ghost use mathlib.Core.Path.{_≡_};
 ghost use Prim.Native.Nat.{_+_, _*_, _/_, _%_, _≤_, _<_};
 ghost use lib.ListN.{length, getD};

@@ -1,7 +1,7 @@
 use native.Mathlib.Omega.{arith}
 use Rattle.wire_replies.proofs.WriteLaws.{set-7}
-use Rattle.wire_replies.proofs.reply_service.Statement.{statement}
-use Rattle.wire_replies.proofs.reply_service.Tie as tie
+use Rattle.wire_heads.proofs.reply_service.Statement.{statement}
+use Rattle.wire_heads.proofs.reply_service.Tie as tie
 
 returns : tie.Need-returns
 returns c = set-7 _ (omega arith)

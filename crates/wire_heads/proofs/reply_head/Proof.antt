@@ -1,8 +1,8 @@
 use native.Mathlib.Omega.{arith}
 use borrow.Author.Needs.{needs}
 use Rattle.wire_replies.proofs.WriteLaws.{no-words, one-word, two-words}
-use Rattle.wire_replies.proofs.reply_head.Statement.{statement}
-use Rattle.wire_replies.proofs.reply_head.Tie as tie
+use Rattle.wire_heads.proofs.reply_head.Statement.{statement}
+use Rattle.wire_heads.proofs.reply_head.Tie as tie
 
 head-alone-requires : tie.Need-head-alone-requires
 head-alone-requires c κs = search needs

@@ -1,8 +1,8 @@
 use Rattle.wire_replies.proofs.WriteLaws.{value-as}
 use Rattle.base_cells.specs.Records.{puts, done, step}
 use borrow.Author.Needs.{needs}
-use Rattle.wire_replies.proofs.put_head.Statement.{statement}
-use Rattle.wire_replies.proofs.put_head.Tie as tie
+use Rattle.wire_heads.proofs.put_head.Statement.{statement}
+use Rattle.wire_heads.proofs.put_head.Tie as tie
 
 reply-service-requires : tie.Need-reply-service-requires
 reply-service-requires c κs = search needs
