@@ -27,12 +27,12 @@ pub fn join(state: &mut [u8], i: usize, id: u32, output: u16) -> u64 {
     if i > 31 {
         return 255;
     }
-    base_cells::put_u64(&mut row, 16, 100000);
-    base_cells::put_u8(&mut row, 29, (output % 256) as u8);
-    base_cells::put_u32(&mut row, 32, id);
-    base_cells::put_u32(&mut row, 36, calls::PEER);
-    base_cells::put_u32(&mut row, 44, 10000);
-    base_cells::put_u16(&mut row, 60, (id % 65536) as u16);
+    base_cells::put_u64(&mut row, state_layout::UNTIL, 100000);
+    base_cells::put_u8(&mut row, state_layout::ROLE, (output % 256) as u8);
+    base_cells::put_u32(&mut row, state_layout::O_T_ID, id);
+    base_cells::put_u32(&mut row, state_layout::ORIGINATOR, calls::PEER);
+    base_cells::put_u32(&mut row, state_layout::O_T_RPI, 10000);
+    base_cells::put_u16(&mut row, state_layout::SERIAL, (id % 65536) as u16);
     base_copies::copy_in(state, state_layout::TABLE + i * state_layout::ROW, &row);
     base_cells::put_u16(state, state_layout::CONNECTIONS, (i + 1) as u16);
     0

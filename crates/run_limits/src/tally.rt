@@ -39,11 +39,20 @@ fn call(letter: u8, time: u64, state: &mut [u8]) -> u64 {
     let mut out = [0u8; 1024];
     let mut close = [0u8; 12];
     let row = state_layout::TABLE;
-    base_cells::put_u32(&mut close, 2, u32_in(state, row + 60));
-    base_cells::put_u32(&mut close, 6, u32_in(state, row + 64));
+    base_cells::put_u32(&mut close, 2, u32_in(state, row + state_layout::SERIAL));
+    base_cells::put_u32(
+        &mut close,
+        6,
+        u32_in(state, row + state_layout::ORIGINATOR_SERIAL),
+    );
     let instance = u32_in(state, state_layout::INSTANCES) % 65536;
-    let peer = u32_in(state, row + 36);
-    let frame = calls::frame(u32_in(state, row + 32), u32_in(state, 60000), 1, 0x09090909);
+    let peer = u32_in(state, row + state_layout::ORIGINATOR);
+    let frame = calls::frame(
+        u32_in(state, row + state_layout::O_T_ID),
+        u32_in(state, 60000),
+        1,
+        0x09090909,
+    );
     match letter {
         b'i' => calls::call(letter, time, instance, 1, &[1, 2, 3], state, &mut out),
         b'h' => calls::call(letter, time, peer, 1, &frame, state, &mut out),

@@ -61,19 +61,23 @@ fn put_sent_in(row: &mut [u8], s: Sent)
     ensures { λ _. ⌜ now (row .exit) ≡ putFields wSent (now (row .entry)) 0 (listSent s) ⌝ }
 {
     let d = s.due;
-    base_cells::put_u64(row, 0, due_number(d));
-    base_cells::put_u32(row, 8, s.sequence);
-    base_cells::put_u16(row, 12, s.cip);
+    base_cells::put_u64(row, state_layout::DUE, due_number(d));
+    base_cells::put_u32(row, state_layout::SEQUENCE, s.sequence);
+    base_cells::put_u16(row, state_layout::CIP, s.cip);
 }
 
 fn put_heard_in(row: &mut [u8], carried: u8, h: Heard)
     requires { ⌜ (rowSize ≤ length (now row)) × (carried ≤ 63) ⌝ }
     ensures { λ _. ⌜ now (row .exit) ≡ putFields wHeard (now (row .entry)) 14 (listHeard carried h) ⌝ }
 {
-    base_cells::put_u16(row, 14, h.cip);
-    base_cells::put_u64(row, 16, h.until);
-    base_cells::put_u32(row, 24, h.sequence);
-    base_cells::put_u8(row, 28, flags_number(carried, h.any, h.anycip));
+    base_cells::put_u16(row, state_layout::LAST_CIP, h.cip);
+    base_cells::put_u64(row, state_layout::UNTIL, h.until);
+    base_cells::put_u32(row, state_layout::LAST_SEQUENCE, h.sequence);
+    base_cells::put_u8(
+        row,
+        state_layout::FLAGS,
+        flags_number(carried, h.any, h.anycip),
+    );
 }
 
 fn put_fixed_low(
@@ -88,12 +92,12 @@ fn put_fixed_low(
     requires { ⌜ rowSize ≤ length (now row) ⌝ }
     ensures { λ _. ⌜ now (row .exit) ≡ putFields wLow (now (row .entry)) 29 (role ∷ port ∷ otid ∷ originator ∷ toid ∷ otrpi ∷ []) ⌝ }
 {
-    base_cells::put_u8(row, 29, role);
-    base_cells::put_u16(row, 30, port);
-    base_cells::put_u32(row, 32, otid);
-    base_cells::put_u32(row, 36, originator);
-    base_cells::put_u32(row, 40, toid);
-    base_cells::put_u32(row, 44, otrpi);
+    base_cells::put_u8(row, state_layout::ROLE, role);
+    base_cells::put_u16(row, state_layout::PORT, port);
+    base_cells::put_u32(row, state_layout::O_T_ID, otid);
+    base_cells::put_u32(row, state_layout::ORIGINATOR, originator);
+    base_cells::put_u32(row, state_layout::T_O_ID, toid);
+    base_cells::put_u32(row, state_layout::O_T_RPI, otrpi);
 }
 
 fn put_fixed_high(
@@ -109,13 +113,13 @@ fn put_fixed_high(
     requires { ⌜ rowSize ≤ length (now row) ⌝ }
     ensures { λ _. ⌜ now (row .exit) ≡ putFields wHigh (now (row .entry)) 48 (torpi ∷ address ∷ local ∷ serial ∷ vendor ∷ owner ∷ multiplier ∷ []) ⌝ }
 {
-    base_cells::put_u32(row, 48, torpi);
-    base_cells::put_u32(row, 52, address);
-    base_cells::put_u32(row, 56, local);
-    base_cells::put_u16(row, 60, serial);
-    base_cells::put_u16(row, 62, vendor);
-    base_cells::put_u32(row, 64, owner);
-    base_cells::put_u8(row, 68, multiplier);
+    base_cells::put_u32(row, state_layout::T_O_RPI, torpi);
+    base_cells::put_u32(row, state_layout::ADDRESS, address);
+    base_cells::put_u32(row, state_layout::LOCAL, local);
+    base_cells::put_u16(row, state_layout::SERIAL, serial);
+    base_cells::put_u16(row, state_layout::VENDOR, vendor);
+    base_cells::put_u32(row, state_layout::ORIGINATOR_SERIAL, owner);
+    base_cells::put_u8(row, state_layout::MULTIPLIER, multiplier);
 }
 
 fn put_fixed_in(row: &mut [u8], f: Fixed)

@@ -54,6 +54,47 @@ pub const SIZES: usize = 142;
 
 pub const KINDS: usize = 174;
 
+// A row's fields.
+pub const DUE: usize = 0;
+
+pub const SEQUENCE: usize = 8;
+
+pub const CIP: usize = 12;
+
+pub const LAST_CIP: usize = 14;
+
+pub const UNTIL: usize = 16;
+
+pub const LAST_SEQUENCE: usize = 24;
+
+pub const FLAGS: usize = 28;
+
+pub const ROLE: usize = 29;
+
+pub const PORT: usize = 30;
+
+pub const O_T_ID: usize = 32;
+
+pub const ORIGINATOR: usize = 36;
+
+pub const T_O_ID: usize = 40;
+
+pub const O_T_RPI: usize = 44;
+
+pub const T_O_RPI: usize = 48;
+
+pub const ADDRESS: usize = 52;
+
+pub const LOCAL: usize = 56;
+
+pub const SERIAL: usize = 60;
+
+pub const VENDOR: usize = 62;
+
+pub const ORIGINATOR_SERIAL: usize = 64;
+
+pub const MULTIPLIER: usize = 68;
+
 // Where a search along the rows, or along the shapes, found the first that it looks for.
 pub enum Found {
     At(usize),

@@ -77,9 +77,9 @@ fn triad_of(row: &[u8]) -> Triad
     ensures { λ r. ⌜ r ≡ decFixed (now (row .entry)) .triad ⌝ }
 {
     Triad {
-        serial: base_cells::u16_at(row, 60),
-        vendor: base_cells::u16_at(row, 62),
-        originator: base_cells::u32_at(row, 64),
+        serial: base_cells::u16_at(row, state_layout::SERIAL),
+        vendor: base_cells::u16_at(row, state_layout::VENDOR),
+        originator: base_cells::u32_at(row, state_layout::ORIGINATOR_SERIAL),
     }
 }
 
@@ -88,8 +88,8 @@ fn dest_of(row: &[u8]) -> Socket
     ensures { λ r. ⌜ r ≡ decFixed (now (row .entry)) .dest ⌝ }
 {
     Socket {
-        address: base_cells::u32_at(row, 52),
-        port: base_cells::u16_at(row, 30),
+        address: base_cells::u32_at(row, state_layout::ADDRESS),
+        port: base_cells::u16_at(row, state_layout::PORT),
     }
 }
 
@@ -97,24 +97,24 @@ fn fixed_of(row: &[u8]) -> Fixed
     requires { ⌜ rowSize ≤ length (now row) ⌝ }
     ensures { λ r. ⌜ r ≡ decFixed (now (row .entry)) ⌝ }
 {
-    let flags = base_cells::u8_at(row, 28);
-    let role = base_cells::u8_at(row, 29);
+    let flags = base_cells::u8_at(row, state_layout::FLAGS);
+    let role = base_cells::u8_at(row, state_layout::ROLE);
     let triad = triad_of(row);
     let dest = dest_of(row);
     Fixed {
         kind: kind_in(role),
         triad: triad,
-        originator: base_cells::u32_at(row, 36),
-        otid: OtId(base_cells::u32_at(row, 32)),
-        toid: ToId(base_cells::u32_at(row, 40)),
-        otrpi: base_cells::u32_at(row, 44),
-        multiplier: base_cells::u8_at(row, 68),
-        torpi: base_cells::u32_at(row, 48),
+        originator: base_cells::u32_at(row, state_layout::ORIGINATOR),
+        otid: OtId(base_cells::u32_at(row, state_layout::O_T_ID)),
+        toid: ToId(base_cells::u32_at(row, state_layout::T_O_ID)),
+        otrpi: base_cells::u32_at(row, state_layout::O_T_RPI),
+        multiplier: base_cells::u8_at(row, state_layout::MULTIPLIER),
+        torpi: base_cells::u32_at(row, state_layout::T_O_RPI),
         input: input_in(flags),
         output: output_in(role),
         dest: dest,
         multicast: multicast_in(flags),
-        local: base_cells::u32_at(row, 56),
+        local: base_cells::u32_at(row, state_layout::LOCAL),
     }
 }
 
@@ -122,13 +122,13 @@ fn heard_of(row: &[u8]) -> Heard
     requires { ⌜ rowSize ≤ length (now row) ⌝ }
     ensures { λ r. ⌜ r ≡ decHeard (now (row .entry)) ⌝ }
 {
-    let flags = base_cells::u8_at(row, 28);
+    let flags = base_cells::u8_at(row, state_layout::FLAGS);
     Heard {
-        until: base_cells::u64_at(row, 16),
+        until: base_cells::u64_at(row, state_layout::UNTIL),
         any: any_in(flags),
-        sequence: base_cells::u32_at(row, 24),
+        sequence: base_cells::u32_at(row, state_layout::LAST_SEQUENCE),
         anycip: anycip_in(flags),
-        cip: base_cells::u16_at(row, 14),
+        cip: base_cells::u16_at(row, state_layout::LAST_CIP),
     }
 }
 
@@ -136,10 +136,10 @@ fn sent_of(row: &[u8]) -> Sent
     requires { ⌜ rowSize ≤ length (now row) ⌝ }
     ensures { λ r. ⌜ r ≡ decSent (now (row .entry)) ⌝ }
 {
-    let due = due_of(base_cells::u64_at(row, 0));
+    let due = due_of(base_cells::u64_at(row, state_layout::DUE));
     Sent {
-        sequence: base_cells::u32_at(row, 8),
-        cip: base_cells::u16_at(row, 12),
+        sequence: base_cells::u32_at(row, state_layout::SEQUENCE),
+        cip: base_cells::u16_at(row, state_layout::CIP),
         due: due,
     }
 }

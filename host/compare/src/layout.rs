@@ -3,32 +3,12 @@
 use crate::block::{self, MOST_ASSEMBLIES, MOST_NAME};
 use crate::call::{MAX_CONNECTIONS, MAX_EVENTS, RECORD};
 use crate::places::{
-    CONNECTIONS, DATA, EDS, EVENTS, INSTANCES, KINDS, LATE, MARKS, MAX_LATE, NEXT_ID, PRODUCED, RING, RING_BOUND, ROW,
-    SIZES, SLOT, STATE_SIZE, TABLE,
+    ADDRESS, CIP, CONNECTIONS, DATA, DUE, EDS, EVENTS, FLAGS, INSTANCES, KINDS, LAST_CIP, LAST_SEQUENCE, LATE, LOCAL,
+    MARKS, MAX_LATE, MULTIPLIER, NEXT_ID, ORIGINATOR, ORIGINATOR_SERIAL, O_T_ID, O_T_RPI, PORT, PRODUCED, RING,
+    RING_BOUND, ROLE, ROW, SEQUENCE, SERIAL, SIZES, SLOT, STATE_SIZE, TABLE, T_O_ID, T_O_RPI, UNTIL, VENDOR,
 };
 use crate::seen::{AssemblySeen, ConnSeen, Seen, UploadSeen};
 
-// a row's fields, one behind the other
-const DUE: usize = 0;
-const SEQUENCE: usize = DUE + 8;
-const CIP: usize = SEQUENCE + 4;
-const LAST_CIP: usize = CIP + 2;
-const UNTIL: usize = LAST_CIP + 2;
-const LAST_SEQUENCE: usize = UNTIL + 8;
-const FLAGS: usize = LAST_SEQUENCE + 4;
-const ROLE: usize = FLAGS + 1;
-const PORT: usize = ROLE + 1;
-const O_T_ID: usize = PORT + 2;
-const ORIGINATOR: usize = O_T_ID + 4;
-const T_O_ID: usize = ORIGINATOR + 4;
-const O_T_RPI: usize = T_O_ID + 4;
-const T_O_RPI: usize = O_T_RPI + 4;
-const ADDRESS: usize = T_O_RPI + 4;
-const LOCAL: usize = ADDRESS + 4;
-const SERIAL: usize = LOCAL + 4;
-const VENDOR: usize = SERIAL + 2;
-const ORIGINATOR_SERIAL: usize = VENDOR + 2;
-const MULTIPLIER: usize = ORIGINATOR_SERIAL + 4;
 const _: () = assert!(MULTIPLIER + 1 == ROW, "a row is its fields");
 
 /// The EDS's region: its largest length and one.
