@@ -7,6 +7,8 @@ ghost use Rattle.state_rules.specs.Setups.{goodSetup, goodShapes};
 ghost use Rattle.state_rules.specs.Places.{setupSize, stateSize};
 ghost use Rattle.state_rules.specs.Image.{goodHead, tested};
 
+pub const STATE_SIZE: usize = 109056;
+
 // The numbers that the setup's region begins with.
 pub fn setup_good(r: &[u8]) -> bool
     requires { ⌜ setupSize ≤ length (now r) ⌝ }
@@ -69,7 +71,7 @@ fn shapes_good(r: &[u8]) -> bool
 pub fn test_state(s: &[u8]) -> bool
     ensures { λ x. ⌜ x ≡ tested (now (s .entry)) ⌝ }
 {
-    if s.len() != state_layout::STATE_SIZE {
+    if s.len() != STATE_SIZE {
         return false;
     }
     if !setup_good(&s[0..state_layout::SETUP_SIZE]) {
