@@ -1,4 +1,5 @@
 // Little-endian numbers in byte slices.
+#![tactic(auto)]
 ghost use Rattle.std.specs.Prelude.{◌≡◌, ℕ, ◌+◌, ◌≤◌, ◌<◌, ◌*◌, length, drop, replicate};
 ghost use Rattle.std.proofs.Math.Seq.{paste};
 ghost use Rattle.std.proofs.lemmas.List.Edits.{sets};
@@ -159,7 +160,7 @@ pub fn zero(s: &mut [u8], at: usize, n: usize)
 }
 
 // What a writer answers: how many bytes stand at the start of the output, or that there was no room and nothing was written.
-#[derive(Drop)]
+#[derive(Clone, Copy)]
 pub enum Written {
     Bytes(usize),
     NoRoom,

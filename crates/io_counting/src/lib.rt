@@ -1,4 +1,5 @@
 // What is due, counted before anything is written: its bytes, its packets, and how late they are.
+#![tactic(auto)]
 ghost use Rattle.std.specs.Prelude.{◌≡◌, ◌+◌, ◌<◌, ◌≤◌, min, max, length, nat_le};
 ghost use Rattle.base_cells.specs.Numbers.{le};
 ghost use Rattle.base_cells.specs.Records.{of_bool};
@@ -12,7 +13,7 @@ ghost use Rattle.io_counting.specs.Tallies.{limit_of, added, Tallies, Totals};
 use rules::Due;
 
 // What is due: how many bytes and packets, how many of them late, and the greatest lateness that ever was.
-#[derive(Drop)]
+#[derive(Clone, Copy)]
 pub struct Tally {
     pub need: usize,
     pub count: u64,

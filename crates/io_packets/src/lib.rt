@@ -1,4 +1,5 @@
 // One connection's packet: when it is due, how the connection steps, and the packet's bytes.
+#![tactic(auto)]
 ghost use Rattle.std.specs.Prelude.{◌≡◌, true, false, ◌+◌, ◌*◌, ◌≤◌, ◌<◌, length};
 ghost use Rattle.std.proofs.lemmas.List.Edits.{sets};
 ghost use Rattle.base_cells.specs.Records.{of_bool};
@@ -11,7 +12,7 @@ ghost use Rattle.io_packets.specs.Steps.{stepped, head, packet_of, Data};
 use rules::{Due, Fixed, Sent};
 
 // Where an assembly's bytes are.
-#[derive(Drop)]
+#[derive(Clone, Copy)]
 pub struct Part {
     pub at: usize,
     pub size: usize,

@@ -1,5 +1,6 @@
 // What an object answers, as code says it: how many bytes of its data stand at the start of the lent output, or why there are none.
 // The writers here put one attribute's value each; the output always has room, since the call asks for it first.
+#![tactic(auto)]
 ghost use Rattle.std.specs.Prelude.{◌≡◌, ℕ, ◌+◌, ◌≤◌, ◌<◌, [], ◌∷◌, length};
 ghost use Rattle.std.proofs.lemmas.List.Edits.{sets};
 ghost use Rattle.base_cells.specs.Numbers.{le_bytes};
@@ -9,7 +10,7 @@ ghost use Rattle.msg_attributes.specs.Told.{told, wanted};
 use rules::objects::Fault;
 use wire_rules::FirstAttribute;
 
-#[derive(Drop)]
+#[derive(Clone, Copy)]
 pub enum Given {
     Gives(usize),
     Fails(Fault),
@@ -85,7 +86,7 @@ pub fn tagged(out: &mut [u8], d: &[u8]) -> Given
 // ---- which attribute
 
 // The attribute that Get_Attribute_Single asks for, or why none is.
-#[derive(Drop)]
+#[derive(Clone, Copy)]
 pub enum Asked {
     Attribute(u32),
     Refused(Fault),

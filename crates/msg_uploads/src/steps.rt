@@ -13,7 +13,7 @@ use msg_positions::{position_in, put_position};
 use rules::objects::{Fault, Last, Position, Turn};
 
 // What a step sends: the length of the EDS with the agreed size; a transfer of the bytes at an offset; or nothing, and why.
-#[derive(Drop)]
+#[derive(Clone, Copy)]
 pub enum Sends {
     Length(u8),
     Part { size: u8, number: u8, offset: u16 },
@@ -21,7 +21,7 @@ pub enum Sends {
 }
 
 // A position of size 0 is no upload.
-#[derive(Drop)]
+#[derive(Clone, Copy)]
 pub struct Step {
     pub sends: Sends,
     pub after: Position,

@@ -11,7 +11,7 @@ use rules::{Conn, Due, Fixed, Heard, Origin, Plan, Sent, Socket, Stream};
 use wire_rules::ForwardOpen;
 
 // The T→O side of the new connection, and the next id behind it.
-#[derive(Drop)]
+#[derive(Clone, Copy)]
 pub struct Side {
     pub toid: ToId,
     pub dest: Socket,

@@ -1,5 +1,6 @@
 // Check 4 of an open, and what its points come to: who the connection serves and the assemblies that it reads and writes, by their
 // places in the setup's list. The points are looked up once; sizes.rt has the checks that need what they came to.
+#![tactic(auto)]
 pub mod sizes;
 
 ghost use Rattle.std.specs.Prelude.{◌≡◌, [], ◌&&◌, ◌||◌, ◌≤◌, eqb, length};
@@ -14,7 +15,7 @@ use state_layout::Found;
 use wire_rules::ConnectionPath;
 
 // What the points of an open come to: the output counts for an owner only and is 0 for others.
-#[derive(Drop)]
+#[derive(Clone, Copy)]
 pub struct Roles {
     pub kind: Kind,
     pub input: u8,
@@ -23,7 +24,7 @@ pub struct Roles {
 }
 
 // The roles, or what stops the open.
-#[derive(Drop)]
+#[derive(Clone, Copy)]
 pub enum Points {
     Are(Roles),
     Stops(Stop),

@@ -1,13 +1,14 @@
 // The definition of the adapter: docs/RULES.md in the checker's language, rule by rule. This crate has types and definitions, no code.
 // Here stand the types that code passes by value; specs/State.antt has the whole state, and the other files of specs/
 // the rules, in its order and words.
+#![tactic(auto)]
 pub mod objects;
 
 use base_ids::{OtId, ToId, Triad};
 use wire_rules::NetType;
 
 // What an assembly is for: 1, 2 and 3 in numbers.
-#[derive(Drop)]
+#[derive(Clone, Copy)]
 pub enum AssemblyKind {
     Input,
     Output,
@@ -15,7 +16,7 @@ pub enum AssemblyKind {
 }
 
 // Who a connection serves: the owner of an output, or a reader with a heartbeat of its own.
-#[derive(Drop)]
+#[derive(Clone, Copy)]
 pub enum Kind {
     Owner,
     InputOnly,
@@ -23,7 +24,7 @@ pub enum Kind {
 }
 
 // An IPv4 address and a UDP port.
-#[derive(Drop)]
+#[derive(Clone, Copy)]
 pub struct Socket {
     pub address: u32,
     pub port: u16,
@@ -31,7 +32,7 @@ pub struct Socket {
 
 // What never changes of a connection after its open. The input and the output are places in the setup's list of
 // assemblies; the output counts for an owner only and is 0 for others.
-#[derive(Drop)]
+#[derive(Clone, Copy)]
 pub struct Fixed {
     pub kind: Kind,
     pub triad: Triad,
@@ -50,7 +51,7 @@ pub struct Fixed {
 
 // What the originator's frames alone change: the time until which the connection lives without another frame (its
 // last receive time, or its open time, plus its timeout), and the last sequence and CIP sequence, if there was any.
-#[derive(Drop)]
+#[derive(Clone, Copy)]
 pub struct Heard {
     pub until: u64,
     pub any: bool,
@@ -60,21 +61,21 @@ pub struct Heard {
 }
 
 // When the next packet of a connection is due; one that joined another's stream does not produce.
-#[derive(Drop)]
+#[derive(Clone, Copy)]
 pub enum Due {
     Never,
     At(u64),
 }
 
 // What produce and hand-over alone change.
-#[derive(Drop)]
+#[derive(Clone, Copy)]
 pub struct Sent {
     pub sequence: u32,
     pub cip: u16,
     pub due: Due,
 }
 
-#[derive(Drop)]
+#[derive(Clone, Copy)]
 pub struct Conn {
     pub fixed: Fixed,
     pub heard: Heard,
@@ -82,7 +83,7 @@ pub struct Conn {
 }
 
 // What the host is told of a connection: its assemblies by instance and size, both 0 for no output.
-#[derive(Drop)]
+#[derive(Clone, Copy)]
 pub struct Info {
     pub kind: Kind,
     pub originator: u32,
@@ -98,7 +99,7 @@ pub struct Info {
 }
 
 // What the host is told.
-#[derive(Drop)]
+#[derive(Clone, Copy)]
 pub enum Event {
     Opened(Info),
     Closed(Info),
@@ -109,7 +110,7 @@ pub enum Event {
 
 // Where an open came from: the originator, the local address that it arrived on with its mask, the T→O socket address
 // of the request if one was given, and the port of class 1 frames.
-#[derive(Drop)]
+#[derive(Clone, Copy)]
 pub struct Origin {
     pub peer: u32,
     pub local: u32,
@@ -120,7 +121,7 @@ pub struct Origin {
 }
 
 // The first check (rules 6.1 to 6.13) that an open does not pass, with the value found and what would have passed.
-#[derive(Drop)]
+#[derive(Clone, Copy)]
 pub enum Stop {
     // 6.1: the transport byte
     Transport(u8),
@@ -199,7 +200,7 @@ pub enum Stop {
 }
 
 // The stream that an open joins: its T→O id, destination and RPI; or none, and it sends its own.
-#[derive(Drop)]
+#[derive(Clone, Copy)]
 pub enum Stream {
     Joins {
         toid: ToId,
@@ -210,14 +211,14 @@ pub enum Stream {
 }
 
 // Where an open's configuration data goes: into the assembly at a place of the setup's list, or there is none.
-#[derive(Drop)]
+#[derive(Clone, Copy)]
 pub enum Stores {
     Nothing,
     Into(u8),
 }
 
 // What an open that passes every check comes to.
-#[derive(Drop)]
+#[derive(Clone, Copy)]
 pub struct Plan {
     pub kind: Kind,
     pub input: u8,
@@ -226,7 +227,7 @@ pub struct Plan {
     pub stream: Stream,
 }
 
-#[derive(Drop)]
+#[derive(Clone, Copy)]
 pub enum Verdict {
     Stopped(Stop),
     Planned(Plan),

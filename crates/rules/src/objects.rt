@@ -1,7 +1,7 @@
 // What the objects answer with, and where an EDS upload stands: the types that code passes by value.
 
 // Why a message is refused: its general status.
-#[derive(Drop)]
+#[derive(Clone, Copy)]
 pub enum Fault {
     // 0x04: the path does not parse
     PathSegment,
@@ -20,14 +20,14 @@ pub enum Fault {
 }
 
 // The transfer before: its number, and the offset in the EDS at which it began; or there was none yet.
-#[derive(Drop)]
+#[derive(Clone, Copy)]
 pub enum Last {
     NoLast,
     Was { number: u8, offset: u16 },
 }
 
 // An upload under way: the transfer size, the number and the offset of the next transfer, and the last one.
-#[derive(Drop)]
+#[derive(Clone, Copy)]
 pub struct Position {
     pub size: u8,
     pub next: u8,
@@ -36,14 +36,14 @@ pub struct Position {
 }
 
 // The upload of one session.
-#[derive(Drop)]
+#[derive(Clone, Copy)]
 pub enum Upload {
     NoUpload,
     Under(Position),
 }
 
 // What a transfer's number asks for: the last transfer again, which began at an offset; the next one; or neither.
-#[derive(Drop)]
+#[derive(Clone, Copy)]
 pub enum Turn {
     Repeat(u16),
     InTurn,

@@ -1,1 +1,2 @@
 // What an output does, told from the history of calls and answers alone. No code.
+#![tactic(auto)]

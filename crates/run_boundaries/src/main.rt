@@ -1,4 +1,5 @@
 // The limits of the rules that concern the wire, run and compared: stdin is the table of inputs, each line of stdout one input and its answer.
+#![tactic(auto)]
 mod cases;
 mod cuts;
 mod frames;

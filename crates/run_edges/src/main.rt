@@ -1,5 +1,6 @@
 // The ends of what is counted: the table's last row, the last id, the last sequence, the last time, the last byte of room; and the fixed
 // texts. stdin is the table of calls, each line of stdout one call and what it gave.
+#![tactic(auto)]
 mod calls;
 mod cases;
 mod text;

@@ -1,5 +1,6 @@
 // The limits of the rules that concern the calls, run and compared: stdin is the table of calls, each line of stdout one call and its
 // answer.
+#![tactic(auto)]
 mod calls;
 mod cases;
 mod chance;

@@ -3,7 +3,7 @@ use crate::{calls, chance, text};
 
 // How many calls were made, how many answered 1, how many a number of their row in docs/INTERFACE.md, and how many left a state that
 // passes the test.
-#[derive(Drop)]
+#[derive(Clone, Copy)]
 struct Tally {
     calls: u64,
     ones: u64,

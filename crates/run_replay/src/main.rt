@@ -1,5 +1,6 @@
 // Replays recorded calls on the library: `replay FILE [FILE ..]`. Each answer and each byte of output is compared with the recorded one,
 // which is what the Rust adapter gave. SAMPLE.md says how a file is made.
+#![tactic(auto)]
 mod calls;
 mod recorded;
 mod text;

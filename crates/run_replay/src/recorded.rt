@@ -3,7 +3,7 @@ ghost use Rattle.std.specs.Prelude.{◌≤◌, length};
 
 use crate::{calls, text};
 
-#[derive(Drop)]
+#[derive(Clone, Copy)]
 enum Step {
     Call(usize),
     End,

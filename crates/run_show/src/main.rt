@@ -1,4 +1,5 @@
 // Shows what bytes of the wire say, or where they break: words and files in pairs, as `show frame FILE open FILE`.
+#![tactic(auto)]
 mod frames;
 mod opens;
 mod paths;

@@ -1,4 +1,5 @@
 // Where the lent state's regions stand, and its shapes, ring and marks as code reads them (crates/state_rules says what they hold).
+#![tactic(auto)]
 ghost use Rattle.std.specs.Prelude.{◌≡◌, ◌*◌, ◌≤◌, ◌<◌, length};
 ghost use Rattle.base_cells.specs.Records.{to_bool};
 ghost use Rattle.rules.specs.State.{is_owner};
@@ -94,7 +95,7 @@ pub const ORIGINATOR_SERIAL: usize = 64;
 pub const MULTIPLIER: usize = 68;
 
 // Where a search along the rows, or along the shapes, found the first that it looks for.
-#[derive(Drop)]
+#[derive(Clone, Copy)]
 pub enum Found {
     At(usize),
     Nowhere,

@@ -1,11 +1,12 @@
 // The reader of a frame's items, over the cursor of `wire_items`: a struct that holds the frame and a place in it.
+#![tactic(auto)]
 ghost use Rattle.std.specs.Prelude.{◌≡◌};
 ghost use Rattle.wire_rules.specs.Items.{step_at};
 
 use wire_rules::{Cursor, Step};
 
 // A frame and a cursor in it: gives one item at a time.
-#[derive(Drop)]
+#[derive(Clone, Copy)]
 pub struct ItemReader<'a> {
     pub frame: &'a [u8],
     pub at: usize,

@@ -1,21 +1,22 @@
 // What bytes on the wire say: the definitions of items, paths, requests, opens, closes and replies (docs/RULES.md, chapters 3 to 5), and the
 // types that code passes them in. This crate has types and definitions, no code; specs/ has one file for each.
+#![tactic(auto)]
 use base_ids::{OtId, ToId, Triad};
 
 // A place in a list and how many items are to come.
-#[derive(Drop)]
+#[derive(Clone, Copy)]
 pub struct Cursor {
     pub at: usize,
     pub left: usize,
 }
 
-#[derive(Drop)]
+#[derive(Clone, Copy)]
 pub enum Start {
     At(Cursor),
     NoCount(usize),
 }
 
-#[derive(Drop)]
+#[derive(Clone, Copy)]
 pub enum Step {
     Item {
         kind: u16,
@@ -27,14 +28,14 @@ pub enum Step {
     Broken(usize),
 }
 
-#[derive(Drop)]
+#[derive(Clone, Copy)]
 pub enum Whole {
     Good,
     BrokenAt(usize),
 }
 
 // What a frame is: an I/O frame with the place of its payload (CIP sequence first), another list of items, or no list.
-#[derive(Drop)]
+#[derive(Clone, Copy)]
 pub enum IoFrame {
     Io {
         id: OtId,
@@ -47,7 +48,7 @@ pub enum IoFrame {
 }
 
 // An electronic key (format 4). The major revision carries the compatibility bit 0x80.
-#[derive(Drop)]
+#[derive(Clone, Copy)]
 pub struct Key {
     pub vendor: u16,
     pub device: u16,
@@ -57,7 +58,7 @@ pub struct Key {
 }
 
 // One segment. The link of a port and the bytes of a data segment lie in the path, at start.
-#[derive(Drop)]
+#[derive(Clone, Copy)]
 pub enum Seg {
     Port { port: u16, start: usize, len: usize },
     Class(u32),
@@ -69,7 +70,7 @@ pub enum Seg {
 }
 
 // What a reader finds at a place of a path: a segment and where it ends, the path's end, or the offset that does not parse.
-#[derive(Drop)]
+#[derive(Clone, Copy)]
 pub enum SegStep {
     Segment { seg: Seg, next: usize },
     End,
@@ -78,7 +79,7 @@ pub enum SegStep {
 
 // What an open reads of a path: whether a port or attribute segment bars it, the last key, the last class, the first three
 // instances and points with their count (at most 4), and the place of the last data segment.
-#[derive(Drop)]
+#[derive(Clone, Copy)]
 pub struct ConnectionPath {
     pub barred: bool,
     pub haskey: bool,
@@ -93,33 +94,33 @@ pub struct ConnectionPath {
     pub datalen: usize,
 }
 
-#[derive(Drop)]
+#[derive(Clone, Copy)]
 pub enum PathAnswer {
     Parsed(ConnectionPath),
     Unparsed(usize),
 }
 
 // The object that a path names. Instance 0 is the class itself.
-#[derive(Drop)]
+#[derive(Clone, Copy)]
 pub enum Object {
     Named { class: u32, instance: u32 },
     NoObject,
 }
 
 // The first attribute that a path names.
-#[derive(Drop)]
+#[derive(Clone, Copy)]
 pub enum FirstAttribute {
     Number(u32),
     NoAttribute,
 }
 
-#[derive(Drop)]
+#[derive(Clone, Copy)]
 pub enum AttributeAnswer {
     Parsed(FirstAttribute),
     Unparsed(usize),
 }
 
-#[derive(Drop)]
+#[derive(Clone, Copy)]
 pub struct Request {
     pub service: u8,
     pub object: Object,
@@ -128,14 +129,14 @@ pub struct Request {
 }
 
 // A request, or the service of a message that is none (0 where it has no byte): what the reply to it is to name.
-#[derive(Drop)]
+#[derive(Clone, Copy)]
 pub enum RequestAnswer {
     Parsed(Request),
     Unparsed(u8),
 }
 
 // How a connection is carried in one direction.
-#[derive(Drop)]
+#[derive(Clone, Copy)]
 pub enum NetType {
     Null,
     Multicast,
@@ -144,7 +145,7 @@ pub enum NetType {
 }
 
 // The network connection parameters of one direction.
-#[derive(Drop)]
+#[derive(Clone, Copy)]
 pub struct NetParams {
     pub size: u32,
     pub variable: bool,
@@ -152,21 +153,21 @@ pub struct NetParams {
 }
 
 // One direction of a connection, as an open asks for it.
-#[derive(Drop)]
+#[derive(Clone, Copy)]
 pub struct Way {
     pub rpi: u32,
     pub params: NetParams,
 }
 
 // Bytes of the request, by where they begin and how many they are.
-#[derive(Drop)]
+#[derive(Clone, Copy)]
 pub struct Place {
     pub start: usize,
     pub len: usize,
 }
 
 // A Forward Open or Large Forward Open request.
-#[derive(Drop)]
+#[derive(Clone, Copy)]
 pub struct ForwardOpen {
     pub otid: OtId,
     pub toid: ToId,
@@ -178,13 +179,13 @@ pub struct ForwardOpen {
     pub path: Place,
 }
 
-#[derive(Drop)]
+#[derive(Clone, Copy)]
 pub enum OpenAnswer {
     Open(ForwardOpen),
     NoOpen,
 }
 
-#[derive(Drop)]
+#[derive(Clone, Copy)]
 pub enum CloseAnswer {
     Close(Triad),
     NoClose,

@@ -1,5 +1,6 @@
 // The segments of a padded EPATH. A path is lent bytes, at most 510 of them; a link or data is a place in these bytes, never a copy. Bytes that are
 // no segment are answered with their offset.
+#![tactic(auto)]
 ghost use Rattle.std.specs.Prelude.{◌≡◌, ◌+◌, ◌*◌, ◌/◌, ◌%◌, ◌≤◌, ◌<◌, length, get_or};
 ghost use Rattle.wire_rules.specs.Segments.{port_offset, link_offset, link_size, port_of, port_at, logical_at, key_of, key_at, data_at, seg_at, step_at};
 ghost use Rattle.wire_segments.specs.Logical.{named};
@@ -88,7 +89,7 @@ fn port_at(path: &[u8], at: usize) -> SegStep
 }
 
 // The kinds of logical segment.
-#[derive(Drop)]
+#[derive(Clone, Copy)]
 enum Logical {
     Class,
     Instance,
