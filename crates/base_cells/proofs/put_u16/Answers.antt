@@ -1,0 +1,11 @@
+use Rattle.std.proofs.Common.{arith, length-set}
+use native.Mathlib.Numerals.{towards_suc}
+use Rattle.base_cells.specs.Numbers.{put, le_bytes}
+use Rattle.base_cells.proofs.put_u16.Goals as goal
+
+pub bounds-s-at-2 : goal.bounds-s-at-2
+bounds-s-at-2 c = simp length-set (omega arith)
+
+pub returns : goal.returns
+unfolding put le_bytes
+returns c = simp towards_suc

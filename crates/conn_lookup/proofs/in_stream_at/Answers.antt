@@ -1,0 +1,19 @@
+-- One law for each way out.
+use Rattle.state_rules.specs.Rows.{conn_at}
+use Rattle.conn_lookup.specs.RowTests.{stream-single, stream-many}
+use Rattle.conn_lookup.proofs.in_stream_at.Goals as goal
+
+pub returns-then-not-multicast_at : goal.returns-then-not-multicast_at
+returns-then-not-multicast_at c = let at-toid = c.before in
+    let a = at-toid.before.before.args in
+    let many = c.multicast_at in
+    let toid = at-toid.toid-at in
+    stream-single a.id (conn_at a.r.now a.i) many.result toid.result many.ensures toid.ensures c.if-not-multicast_at.true
+
+pub returns : goal.returns
+returns c = let at-many = c.before in
+    let at-toid = at-many.before in
+    let a = at-toid.before.before.args in
+    let many = at-many.multicast-at in
+    let toid = at-toid.toid-at in
+    stream-many a.id (conn_at a.r.now a.i) many.result toid.result many.ensures toid.ensures c.if-not-multicast_at.false

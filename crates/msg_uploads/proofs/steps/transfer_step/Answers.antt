@@ -1,0 +1,16 @@
+-- The step of a transfer by value: no number, no upload, or what the number asks for.
+use Rattle.msg_uploads.proofs.TurnLaws.{transfer-none, transfer-idle, transfer-under}
+use Rattle.msg_uploads.proofs.steps.transfer_step.Goals as goal
+
+pub returns-then-given-eq0 : goal.returns-then-given-eq0
+returns-then-given-eq0 c = let a = c.args in transfer-none a.len a.p a.given.now c.if-given-eq0.true
+
+pub returns-then-p-eq0 : goal.returns-then-p-eq0
+returns-then-p-eq0 c = let a = c.args in
+    transfer-idle a.len a.p a.given.now c.if-given-eq0.false c.if-p-eq0.true
+
+pub returns : goal.returns
+returns c = let at-if2 = c.before.before in
+    let at-if1 = at-if2.before.before in
+    let a = at-if1.before.before.args in
+    transfer-under a.len a.p a.given.now at-if1.if1.false at-if2.if2.false _ c.turn_of.ensures _ c.in_turn.ensures

@@ -1,0 +1,25 @@
+-- The bytes are put, then the event of their assembly is told.
+use Rattle.std.proofs.Common.{arith, refl, length}
+use Rattle.rules.specs.declared.Event.TheVariants.{Configured}
+use Rattle.state_rules.specs.Places.{connections_of}
+use Rattle.state_image.specs.Kept.{kept_few}
+use Rattle.state_events.specs.Records.{configured_is}
+use Rattle.state_events.specs.Pushes.{told_as}
+use Rattle.open_answering.specs.StepLaws.{config-kept, config-done}
+use Rattle.open_answering.proofs.placing.configure.Goals as goal
+
+pub returns : goal.returns
+returns c = let at-instance-at = c.before.before in
+    let at-put-bytes = at-instance-at.before.before.before.before in
+    let at_entry_lem = at-put-bytes.before.before.before.before in
+    let a = at_entry_lem.args in
+    let s = a.s.now in
+    let s₁ = at-put-bytes.put-bytes.new.0 in
+    let s₂ = c.tell_assembly.new.s in
+    let v = at-instance-at.instance-at.result in
+    let m = length a.config.now in
+    let k = at-put-bytes.put-bytes.ensures.0 in (
+      config-kept a.i a.config.now s s₁ s₂ k c.tell_assembly.ensures.0,
+      config-done a.i a.config.now s s₁ s₂ (let e = kept_few (connections_of s) s s₁ k in let p = at_entry_lem.requires.1 in omega (arith, e, p)) v m at-instance-at.instance-at.ensures refl
+          at-put-bytes.put-bytes.ensures.1 (told_as s₁ s₂ 4 v m (Configured v m) (configured_is v m) c.tell_assembly.ensures.1),
+    )
