@@ -10,6 +10,4 @@ put_record-requires c = let r = setup_ready c.args.s.now c.requires.0 in
     (simp (length-take, length-drop) (omega arith), r.0, r.1)
 
 pub returns : goal.returns
-returns c = let at-fixed-at = c.before.before.before in
-    let at_entry_lem = at-fixed-at.before.before.before.before in
-    told at_entry_lem.args.s.now at_entry_lem.args.out.now _ at_entry_lem.args.i _ at_entry_lem.requires.2 at-fixed-at.fixed-at.ensures c.put_record.ensures
+returns c = told c.args.s.now c.args.out.now _ c.args.i _ c.requires.2 c.fixed_at-f.ensures c.put_record.ensures

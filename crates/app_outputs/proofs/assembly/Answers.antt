@@ -12,20 +12,15 @@ pub find-f-requires : goal.find-f-requires
 find-f-requires c = setup_ready c.args.s.now c.requires.ready
 
 pub copy_assembly-requires : goal.copy_assembly-requires
-copy_assembly-requires c = let at-find = c.before.before in
-    let at_entry_lem = at-find.before.before.before.before in
-    let a = at_entry_lem.args in
-    (at_entry_lem.requires, found_in a.s.now (is_at (kind_test a.kind) a.instance) at-find.find.result at-find.find.ensures _ c.in-At.is)
+copy_assembly-requires c = let a = c.args in
+    (c.requires, found_in a.s.now (is_at (kind_test a.kind) a.instance) c.find-f.result c.find-f.ensures _ c.in-At.is)
 
 pub returns-in-Nowhere : goal.returns-in-Nowhere
 returns-in-Nowhere c = let a = c.args in let r = c.find-f in
     assembly-none a.s.now a.out.now c.requires.test a.kind a.instance (place_in r.result) (found_is a.s.now a.kind a.instance r.result r.ensures) (ap place_in c.in-Nowhere.is)
 
 pub returns-in-At : goal.returns-in-At
-returns-in-At c = let at_f = c.before.before.before in
-    let at-find = at_f.before.before in
-    let at_entry_lem = at-find.before.before.before.before in
-    let a = at_entry_lem.args in
-    let r = at-find.find in
-    assembly-some a.s.now a.out.now at_entry_lem.requires.test a.kind a.instance (place_in r.result) (found_is a.s.now a.kind a.instance r.result r.ensures) _
-    (ap place_in at_f.f.given.1) _ c.copy_assembly.ensures
+returns-in-At c = let a = c.args in
+    let r = c.find-f in
+    assembly-some a.s.now a.out.now c.requires.test a.kind a.instance (place_in r.result) (found_is a.s.now a.kind a.instance r.result r.ensures) _
+    (ap place_in c.in-At.is) _ c.copy_assembly.ensures

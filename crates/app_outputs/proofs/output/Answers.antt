@@ -12,24 +12,17 @@ pub find-f-requires : goal.find-f-requires
 find-f-requires c = setup_ready c.args.s.now c.requires.ready
 
 pub take_output-requires : goal.take_output-requires
-take_output-requires c = let at-find = c.before.before in
-    let at_entry_lem = at-find.before.before.before.before.before in
-    let a = at_entry_lem.args in
-    (at_entry_lem.requires, found_in a.s.now (is_at (kind_test 2) a.instance) at-find.find.result at-find.find.ensures _ c.in-At.is)
+take_output-requires c = let a = c.args in
+    (c.requires, found_in a.s.now (is_at (kind_test 2) a.instance) c.find-f.result c.find-f.ensures _ c.in-At.is)
 
 pub returns-in-Nowhere : goal.returns-in-Nowhere
-returns-in-Nowhere c = let at-known = c.before.before.before.before in
-    let at_entry_lem = at-known.before in
-    let a = at_entry_lem.args in
+returns-in-Nowhere c = let a = c.args in
     let r = c.find-f in
-    output-none a.s.now a.out.now at_entry_lem.requires.test a.instance (place_in r.result) (found_is a.s.now 2 a.instance r.result r.ensures)
-    (λ j. omega (arith, at-known.slice-known.given j)) (ap place_in c.in-Nowhere.is)
+    output-none a.s.now a.out.now c.requires.test a.instance (place_in r.result) (found_is a.s.now 2 a.instance r.result r.ensures)
+    (λ j. omega (arith, c.slice_known-1.given j)) (ap place_in c.in-Nowhere.is)
 
 pub returns-in-At : goal.returns-in-At
-returns-in-At c = let at_f = c.before.before.before.before in
-    let at-find = at_f.before.before in
-    let at_entry_lem = at-find.before.before.before.before.before in
-    let a = at_entry_lem.args in
-    let r = at-find.find in
-    output_some a.s.now a.out.now at_entry_lem.requires.test a.instance (place_in r.result) (found_is a.s.now 2 a.instance r.result r.ensures) _
-    (ap place_in at_f.f.given.1) _ c.take_output.ensures
+returns-in-At c = let a = c.args in
+    let r = c.find-f in
+    output_some a.s.now a.out.now c.requires.test a.instance (place_in r.result) (found_is a.s.now 2 a.instance r.result r.ensures) _
+    (ap place_in c.in-At.is) _ c.take_output.ensures

@@ -5,10 +5,7 @@ use Rattle.base_copies.specs.Copied.{put_read}
 use Rattle.base_copies.proofs.copy_8.Goals as goal
 
 pub returns : goal.returns
-returns c = let at_read = c.before.before in
-    let at-known = at_read.before in
-    let at_entry_lem = at-known.before.before in
-    let a = at_entry_lem.args in
+returns c = let a = c.args in
     c.put_u64.ensures
-    ∙ ap (put 8 a.s.now a.at) at_read.u64-at.ensures
-    ∙ put_read a.s.now a.d.now a.at a.j (λ i. omega (arith, at-known.shared-slice-known.given i)) at_entry_lem.requires.1
+    ∙ ap (put 8 a.s.now a.at) c.u64_at-v.ensures
+    ∙ put_read a.s.now a.d.now a.at a.j (λ i. omega (arith, c.type_inv.d i)) c.requires.1

@@ -14,9 +14,8 @@ pub copy_8-requires : goal.copy_8-requires
 copy_8-requires c = (omega arith, omega arith)
 
 pub loop-j-preserved : goal.loop-j-preserved
-loop-j-preserved c = let at-loop = c.before.before.before in
-    let a = at-loop.before.before.before.before.args in
-    let w = at-loop.loop in
+loop-j-preserved c = let a = c.args in
+    let w = c.loop-j in
     let e = c.copy_8.ensures in (
       omega arith,
       e ∙ copied-part a.s.now a.d.now a.at w.j w.s w.invariant.1 8 (omega arith),
@@ -27,8 +26,7 @@ pub copy_8-requires-2 : goal.copy_8-requires-2
 copy_8-requires-2 c = (omega arith, omega arith)
 
 pub returns : goal.returns
-returns c = let at-loop = c.before.before.before in
-    let a = at-loop.before.before.before.before.args in
-    let w = at-loop.loop in
+returns c = let a = c.args in
+    let w = c.loop-j in
     c.copy_8-2.ensures
     ∙ copied-last a.s.now a.d.now a.at w.j w.s w.invariant.1 (length a.d.now - 8) 8 (omega arith) (omega arith)

@@ -10,16 +10,14 @@ pub same_8-requires : goal.same_8-requires
 same_8-requires c = (omega arith, omega arith)
 
 pub returns-then-not-same_8 : goal.returns-then-not-same_8
-returns-then-not-same_8 c = let at-loop = c.before.before in
-    let a = at-loop.before.before.before.args in
-    let w = at-loop.loop in
+returns-then-not-same_8 c = let a = c.args in
+    let w = c.loop-j in
     let r = c.same_8 in
     part-differs a.s.now a.d.now a.at w.j 8 (omega arith) r.result r.ensures c.if-not-same_8.true
 
 pub loop-j-preserved : goal.loop-j-preserved
-loop-j-preserved c = let at-loop = c.before.before in
-    let a = at-loop.before.before.before.args in
-    let w = at-loop.loop in
+loop-j-preserved c = let a = c.args in
+    let w = c.loop-j in
     let r = c.same_8 in
     (omega arith, part-agrees a.s.now a.d.now a.at w.j w.invariant.1 8 r.result r.ensures c.if-not-same_8.false)
 

@@ -5,11 +5,9 @@ use Rattle.conn_ending.specs.Expiry.{none_expired}
 use Rattle.conn_ending.proofs.expire_all.Goals as goal
 
 pub returns-then-not-any_expired : goal.returns-then-not-any_expired
-returns-then-not-any_expired c = let at_count = c.before.before.before in
-    let start = at_count.before.before.before in
-    let a = start.args in (
-      fewer_none a.s.now start.requires,
-      none_expired a.time at_count.u16-at.result a.s.now at_count.u16-at.ensures (sym c.any_expired.ensures ∙ c.if-not-any_expired.true),
+returns-then-not-any_expired c = let a = c.args in (
+      fewer_none a.s.now c.requires,
+      none_expired a.time c.u16_at-n.result a.s.now c.u16_at-n.ensures (sym c.any_expired.ensures ∙ c.if-not-any_expired.true),
     )
 
 pub returns : goal.returns

@@ -7,9 +7,8 @@ pub loop-i-init : goal.loop-i-init
 loop-i-init c = let a = c.args in (omega arith, none_yet a.time a.n a.r.now 18446744073709551615 (omega arith))
 
 pub loop-i-preserved : goal.loop-i-preserved
-loop-i-preserved c = let at-loop = c.before.before in
-    let w = at-loop.loop in
-    let a = at-loop.before.before.args in
+loop-i-preserved c = let w = c.loop-i in
+    let a = c.args in
     (omega arith, one_more a.time a.n a.r.now w.m c.until_at.result w.i c.lesser-m.result (omega arith) c.until_at.ensures c.lesser-m.ensures w.invariant.1)
 
 pub returns : goal.returns

@@ -4,9 +4,8 @@ use Rattle.conn_lookup.specs.RowTests.{feeds-kind, feeds-not}
 use Rattle.conn_lookup.proofs.feeds_at.Goals as goal
 
 pub returns-then-in_stream_at : goal.returns-then-in_stream_at
-returns-then-in_stream_at c = let at-stream = c.before in
-    let a = at-stream.before.before.args in
-    let b = at-stream.in-stream-at in
+returns-then-in_stream_at c = let a = c.args in
+    let b = c.in_stream_at in
     feeds-kind a.id (conn_at a.r.now a.i) b.result b.ensures c.if-in_stream_at.true c.listens_at.result c.listens_at.ensures
 
 pub returns : goal.returns

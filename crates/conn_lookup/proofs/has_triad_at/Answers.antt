@@ -9,14 +9,11 @@ returns-then-t-x c = let a = c.args in
     triad-serial a.t x.result (conn_at a.r.now a.i) x.ensures c.if-t-x.true
 
 pub returns-then-t-x-2 : goal.returns-then-t-x-2
-returns-then-t-x-2 c = let at-triad = c.before.before.before in
-    let a = at-triad.before.before.args in
-    let x = at-triad.triad-at in
+returns-then-t-x-2 c = let a = c.args in
+    let x = c.triad_at-x in
     triad-vendor a.t x.result (conn_at a.r.now a.i) x.ensures c.if-t-x.false c.if-t-x-2.true
 
 pub returns : goal.returns
-returns c = let at-if1 = c.before.before.before in
-    let at-triad = at-if1.before.before.before in
-    let a = at-triad.before.before.args in
-    let x = at-triad.triad-at in
-    triad-last a.t x.result (conn_at a.r.now a.i) x.ensures at-if1.if1.false c.if-t-x-2.false
+returns c = let a = c.args in
+    let x = c.triad_at-x in
+    triad-last a.t x.result (conn_at a.r.now a.i) x.ensures c.if-t-x.false c.if-t-x-2.false

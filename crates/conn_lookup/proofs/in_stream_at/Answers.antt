@@ -4,16 +4,13 @@ use Rattle.conn_lookup.specs.RowTests.{stream-single, stream-many}
 use Rattle.conn_lookup.proofs.in_stream_at.Goals as goal
 
 pub returns-then-not-multicast_at : goal.returns-then-not-multicast_at
-returns-then-not-multicast_at c = let at-toid = c.before in
-    let a = at-toid.before.before.args in
+returns-then-not-multicast_at c = let a = c.args in
     let many = c.multicast_at in
-    let toid = at-toid.toid-at in
+    let toid = c.toid_at-toid in
     stream-single a.id (conn_at a.r.now a.i) many.result toid.result many.ensures toid.ensures c.if-not-multicast_at.true
 
 pub returns : goal.returns
-returns c = let at-many = c.before in
-    let at-toid = at-many.before in
-    let a = at-toid.before.before.args in
-    let many = at-many.multicast-at in
-    let toid = at-toid.toid-at in
+returns c = let a = c.args in
+    let many = c.multicast_at in
+    let toid = c.toid_at-toid in
     stream-many a.id (conn_at a.r.now a.i) many.result toid.result many.ensures toid.ensures c.if-not-multicast_at.false

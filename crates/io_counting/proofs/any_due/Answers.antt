@@ -7,13 +7,11 @@ pub loop-i-init : goal.loop-i-init
 loop-i-init c = let a = c.args in (omega arith, none_yet a.time a.n a.r.now 18446744073709551615 (omega arith))
 
 pub loop-i-preserved : goal.loop-i-preserved
-loop-i-preserved c = let at_due = c.before in
-    let at-loop = at_due.before.before in
-    let w = at-loop.loop in
-    let a = at-loop.before.before.args in (
+loop-i-preserved c = let w = c.loop-i in
+    let a = c.args in (
       omega arith,
-      one_more a.time a.n a.r.now w.m at_due.due-number-at.result c.wrapping_sub_u64.result w.i c.lesser-m.result (omega arith)
-          at_due.due-number-at.ensures c.wrapping_sub_u64.ensures (omega arith) (omega arith) c.lesser-m.ensures w.invariant.1,
+      one_more a.time a.n a.r.now w.m c.due_number_at.result c.wrapping_sub_u64.result w.i c.lesser-m.result (omega arith)
+          c.due_number_at.ensures c.wrapping_sub_u64.ensures (omega arith) (omega arith) c.lesser-m.ensures w.invariant.1,
     )
 
 pub returns : goal.returns

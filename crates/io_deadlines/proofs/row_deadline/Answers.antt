@@ -5,8 +5,6 @@ use Rattle.io_deadlines.specs.Deadlines.{row_least}
 use Rattle.io_deadlines.proofs.row_deadline.Goals as goal
 
 pub returns : goal.returns
-returns c = let at_due = c.before in
-    let at-until = at_due.before in
-    let a = at-until.before.before.args in
-    row_least (row_at a.r.now a.i) at-until.until-at.result at_due.due-number-at.result c.wrapping_sub_u64.result c.lesser.result
-    at-until.until-at.ensures at_due.due-number-at.ensures c.wrapping_sub_u64.ensures c.lesser.ensures (omega arith) (omega arith)
+returns c = let a = c.args in
+    row_least (row_at a.r.now a.i) c.until_at-until.result c.due_number_at-due.result c.wrapping_sub_u64.result c.lesser.result
+    c.until_at-until.ensures c.due_number_at-due.ensures c.wrapping_sub_u64.ensures c.lesser.ensures (omega arith) (omega arith)

@@ -20,9 +20,8 @@ pub returns-then-any_of_four : goal.returns-then-any_of_four
 returns-then-any_of_four c = c.find_from.ensures ∙ sym c.loop-i.invariant.1
 
 pub loop-i-preserved : goal.loop-i-preserved
-loop-i-preserved c = let at_test = c.before in
-    let w = at_test.before.loop in
-    let a = at_test.before.before.before.args in
+loop-i-preserved c = let w = c.loop-i in
+    let a = c.args in
     (omega arith, w.invariant.1 ∙ four-passed a.id a.from a.n a.r.now w.i (omega arith) (sym c.any_of_four.ensures ∙ c.if-any_of_four.false))
 
 pub find_from-requires-2 : goal.find_from-requires-2

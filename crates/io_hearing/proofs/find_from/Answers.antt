@@ -13,16 +13,14 @@ pub is_for-requires : goal.is_for-requires
 is_for-requires c = (omega arith, omega arith)
 
 pub returns-then-is_for : goal.returns-then-is_for
-returns-then-is_for c = let at_test = c.before in
-    let w = at_test.before.loop in
-    let a = at_test.before.before.before.args in
-    sym (w.invariant.1 ∙ search-hit row_size dec_conn (hears a.id a.from) a.n a.r.now w.i at_test.loop-test.true (sym c.is_for.ensures ∙ c.if-is_for.true))
+returns-then-is_for c = let w = c.loop-i in
+    let a = c.args in
+    sym (w.invariant.1 ∙ search-hit row_size dec_conn (hears a.id a.from) a.n a.r.now w.i c.loop-i-test.true (sym c.is_for.ensures ∙ c.if-is_for.true))
 
 pub loop-i-preserved : goal.loop-i-preserved
-loop-i-preserved c = let at_test = c.before in
-    let w = at_test.before.loop in
-    let a = at_test.before.before.before.args in
-    (omega arith, w.invariant.1 ∙ search-miss row_size dec_conn (hears a.id a.from) a.n a.r.now w.i at_test.loop-test.true (sym c.is_for.ensures ∙ c.if-is_for.false))
+loop-i-preserved c = let w = c.loop-i in
+    let a = c.args in
+    (omega arith, w.invariant.1 ∙ search-miss row_size dec_conn (hears a.id a.from) a.n a.r.now w.i c.loop-i-test.true (sym c.is_for.ensures ∙ c.if-is_for.false))
 
 pub returns : goal.returns
 returns c = let w = c.loop-i in

@@ -16,10 +16,9 @@ returns-then-mark-eq0 c = let a = c.args in
     (kept a.out.now a.position.now _ _ _ c.requires.1 (fails _ _))
 
 pub slice_bounds-file-end-2 : goal.slice_bounds-file-end-2
-slice_bounds-file-end-2 c = let at_entry_lem = c.before.before.before.before.before.before in
-    let e = c.u32_at-mark.ensures in
-    let h = mark-small at_entry_lem.args.s.now at_entry_lem.requires.0.test in
-    let n = is-long at_entry_lem.args.s.now at_entry_lem.requires.0.test in
+slice_bounds-file-end-2 c = let e = c.u32_at-mark.ensures in
+    let h = mark-small c.args.s.now c.requires.0.test in
+    let n = is-long c.args.s.now c.requires.0.test in
     omega arith
 
 pub file-requires : goal.file-requires
@@ -29,10 +28,7 @@ file-requires c = let s = c.args.s.now in let t = c.requires.0.test in
     ((setup_ready s c.requires.0.ready).0, names-short s t, omega arith, c.requires.1, omega arith)
 
 pub returns : goal.returns
-returns c = let at-if1 = c.before.before.before.before.before in
-    let at-u32-at = at-if1.before in
-    let at_entry_lem = at-u32-at.before.before.before.before.before.before in
-    let a = at_entry_lem.args in
-    the-file a.s.now a.service a.instance a.a a.given.now (dec_upload a.position.now) a.out.now _ at_entry_lem.requires.0.test
-    (λ q. at-if1.if1.false (at-u32-at.u32-at.ensures ∙ q)) _
-    (ap (λ (k : ℕ). take k (drop eds_at a.s.now)) (add-sub_cancel_left eds_at (at-u32-at.u32-at.result - 1) ∙ ap (λ (n : ℕ). n - 1) at-u32-at.u32-at.ensures)) c.file.ensures
+returns c = let a = c.args in
+    the-file a.s.now a.service a.instance a.a a.given.now (dec_upload a.position.now) a.out.now _ c.requires.0.test
+    (λ q. c.if-mark-eq0.false (c.u32_at-mark.ensures ∙ q)) _
+    (ap (λ (k : ℕ). take k (drop eds_at a.s.now)) (add-sub_cancel_left eds_at (c.u32_at-mark.result - 1) ∙ ap (λ (n : ℕ). n - 1) c.u32_at-mark.ensures)) c.file.ensures

@@ -23,10 +23,5 @@ pub returns-in-Nowhere : goal.returns-in-Nowhere
 returns-in-Nowhere c = assembly-place c.args.s.now _ _ _ _ _ c.if-instance-eq0.false _ (found_is c.args.s.now c.args.instance c.find.result c.find.ensures ∙ ap place_in c.in-Nowhere.is) (fails _ _)
 
 pub returns-in-At : goal.returns-in-At
-returns-in-At c = let at_i = c.before.before.before in
-    let at-find = at_i.before.before in
-    let at-if1 = at-find.before.before in
-    let at_before = at-if1.before.before in
-    let k = at_before.before in
-    assembly-place k.args.s.now _ _ _ _ _ at-if1.if1.false _ (found_is k.args.s.now k.args.instance at-find.find.result at-find.find.ensures ∙ ap place_in
-    at_i.i.given.1) c.here.ensures
+returns-in-At c = assembly-place c.args.s.now _ _ _ _ _ c.if-instance-eq0.false _ (found_is c.args.s.now c.args.instance c.find.result c.find.ensures ∙ ap place_in
+    c.in-At.is) c.here.ensures

@@ -14,22 +14,16 @@ pub instance_at-requires : goal.instance_at-requires
 instance_at-requires c = let e = c.u8_at-n.ensures in let p = c.requires in (omega arith, omega arith)
 
 pub returns-then-instance_at-instance : goal.returns-then-instance_at-instance
-returns-then-instance_at-instance c = let at-loop = c.before.before in
-    let at-u8-at = at-loop.before in
-    let at_entry_lem = at-u8-at.before.before in
-    let a = at_entry_lem.args in
-    let w = at-loop.loop in
-    let e = at-u8-at.u8-at.ensures in
+returns-then-instance_at-instance c = let a = c.args in
+    let w = c.loop-i in
+    let e = c.u8_at-n.ensures in
     sym (w.invariant.1 ∙ list_hit (has_instance a.instance) (shapes_of a.r.now) w.i (shape_in a.r.now w.i) (shapes-rest a.r.now w.i (omega arith))
     (eq-eqb _ _ (sym c.instance_at.ensures ∙ c.if-instance_at-instance.true)))
 
 pub loop-i-preserved : goal.loop-i-preserved
-loop-i-preserved c = let at-loop = c.before.before in
-    let at-u8-at = at-loop.before in
-    let at_entry_lem = at-u8-at.before.before in
-    let a = at_entry_lem.args in
-    let w = at-loop.loop in
-    let e = at-u8-at.u8-at.ensures in (
+loop-i-preserved c = let a = c.args in
+    let w = c.loop-i in
+    let e = c.u8_at-n.ensures in (
       omega arith,
       w.invariant.1 ∙ list_miss (has_instance a.instance) (shapes_of a.r.now) w.i (shape_in a.r.now w.i) (shapes-rest a.r.now w.i (omega arith))
           (ne_eqb _ _ (λ q. c.if-instance_at-instance.false (c.instance_at.ensures ∙ q))),

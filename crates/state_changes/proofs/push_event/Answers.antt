@@ -7,28 +7,22 @@ use Rattle.state_image.specs.Changes.{push-room, push-full}
 use Rattle.state_changes.proofs.push_event.Goals as goal
 
 pub returns-then-n-lt1024 : goal.returns-then-n-lt1024
-returns-then-n-lt1024 c = let at_copy = c.before.before.before.before in
-    let at_read = at_copy.before.before.before in
-    let at_entry_lem = at_read.before.before.before.before in
-    let s = at_entry_lem.args.s.now in
-    let e = at_entry_lem.args.e.now in
-    let w : ℕ = at_read.u32-at.result in
-    rw (c.put_u32.ensures ∙ ap (λ (z : List ℕ). put 4 z ring_at (w + 2048)) at_copy.copy-in.ensures) (
-      kept-pushed s at_entry_lem.requires.0 (events_at + ((w / 2 % 1024 + w / 2048) % 1024) * 32) e (w + 2048) (omega arith) (omega arith),
-      push-room s e at_entry_lem.requires.1 w at_read.u32-at.ensures (omega arith),
+returns-then-n-lt1024 c = let s = c.args.s.now in
+    let e = c.args.e.now in
+    let w : ℕ = c.u32_at-word.result in
+    rw (c.put_u32.ensures ∙ ap (λ (z : List ℕ). put 4 z ring_at (w + 2048)) c.copy_in.ensures) (
+      kept-pushed s c.requires.0 (events_at + ((w / 2 % 1024 + w / 2048) % 1024) * 32) e (w + 2048) (omega arith) (omega arith),
+      push-room s e c.requires.1 w c.u32_at-word.ensures (omega arith),
     )
 
 pub returns : goal.returns
-returns c = let at_copy = c.before.before.before.before in
-    let at_read = at_copy.before.before.before in
-    let at_entry_lem = at_read.before.before.before.before in
-    let s = at_entry_lem.args.s.now in
-    let e = at_entry_lem.args.e.now in
-    let w : ℕ = at_read.u32-at.result in
+returns c = let s = c.args.s.now in
+    let e = c.args.e.now in
+    let w : ℕ = c.u32_at-word.result in
     let v : ℕ = w / 2048 * 2048 + (w / 2 % 1024 + 1) % 1024 * 2 + w % 2 in
-    let few = at_entry_lem.requires.0.events in
-    let word = at_read.u32-at.ensures in
-    rw (c.put_u32-2.ensures ∙ ap (λ (z : List ℕ). put 4 z ring_at v) at_copy.copy-in2.ensures) (
-      kept-pushed s at_entry_lem.requires.0 (events_at + (w / 2 % 1024) * 32) e v (omega arith) (omega arith),
-      push-full s e at_entry_lem.requires.1 w word (omega arith),
+    let few = c.requires.0.events in
+    let word = c.u32_at-word.ensures in
+    rw (c.put_u32-2.ensures ∙ ap (λ (z : List ℕ). put 4 z ring_at v) c.copy_in-2.ensures) (
+      kept-pushed s c.requires.0 (events_at + (w / 2 % 1024) * 32) e v (omega arith) (omega arith),
+      push-full s e c.requires.1 w word (omega arith),
     )

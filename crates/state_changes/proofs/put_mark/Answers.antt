@@ -18,12 +18,10 @@ pub overflow_add-run-2 : goal.overflow_add-run-2
 overflow_add-run-2 c = let a = byte_small c.args.run in let b = byte_small c.args.notified in omega arith
 
 pub returns : goal.returns
-returns c = let at_read = c.before.before in
-    let at_entry_lem = at_read.before.before.before in
-    let s = at_entry_lem.args.s.now in
-    let i = at_entry_lem.args.i in
-    let run = at_entry_lem.args.run in
-    let notified = at_entry_lem.args.notified in
-    let e = at_read.u8-at.ensures in
+returns c = let s = c.args.s.now in
+    let i = c.args.i in
+    let run = c.args.run in
+    let notified = c.args.notified in
+    let e = c.u8_at-old.ensures in
     rw (c.put_u8.ensures ∙ (λ j. put 1 s (marks_at + i) (byte_of run j + 2 * byte_of notified j + 4 * (e j / 4))))
-    (kept_put s at_entry_lem.requires.0 1 (marks_at + i) (mark_over run notified (mark_at s i)) (omega arith), mark_becomes s i run notified at_entry_lem.requires.1)
+    (kept_put s c.requires.0 1 (marks_at + i) (mark_over run notified (mark_at s i)) (omega arith), mark_becomes s i run notified c.requires.1)

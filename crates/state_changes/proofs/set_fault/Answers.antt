@@ -9,16 +9,13 @@ use Rattle.state_image.specs.Changes.{fault-becomes}
 use Rattle.state_changes.proofs.set_fault.Goals as goal
 
 pub overflow_add-word : goal.overflow_add-word
-overflow_add-word c = let at_entry_lem = c.before.before.before in
-    let b = byte_small at_entry_lem.args.b in omega arith
+overflow_add-word c = let b = byte_small c.args.b in omega arith
 
 pub returns : goal.returns
-returns c = let at_read = c.before.before in
-    let at_entry_lem = at_read.before.before.before in
-    let s = at_entry_lem.args.s.now in
-    let b = at_entry_lem.args.b in
-    let e = at_read.u32-at.ensures in
-    let few = at_entry_lem.requires.events in
+returns c = let s = c.args.s.now in
+    let b = c.args.b in
+    let e = c.u32_at-word.ensures in
+    let few = c.requires.events in
     let bit = bit_small b in
     rw (c.put_u32.ensures ∙ (λ j. put 4 s ring_at (e j / 2 * 2 + byte_of b j)))
-    (kept-ring s at_entry_lem.requires (ring_word_of s / 2 * 2 + of_bool b) (omega arith), fault-becomes s b)
+    (kept-ring s c.requires (ring_word_of s / 2 * 2 + of_bool b) (omega arith), fault-becomes s b)

@@ -6,16 +6,12 @@ use Rattle.state_events.specs.Pushes.{tells_assembly}
 use Rattle.state_events.proofs.tell_assembly.Goals as goal
 
 pub returns : goal.returns
-returns c = let at-put-u162 = c.before.before.before.before in
-    let at-put-u16 = at-put-u162.before.before.before in
-    let at-put-u8 = at-put-u16.before.before.before in
-    let at_entry_lem = at-put-u8.before.before.before in
-    let a = at_entry_lem.args in
+returns c = let a = c.args in
     let told = c.push_event in
-    let last = at-put-u162.put-u162 in (
+    let last = c.put_u16-2 in (
       told.ensures.0,
       tells_assembly a.s.now told.new.0 last.new.0 a.what a.instance a.length
           (last.ensures
-          ∙ ap (λ (z : List ℕ). put 2 z 6 a.length) (at-put-u16.put-u16.ensures ∙ ap (λ (z : List ℕ). put 2 z 4 a.instance) at-put-u8.put-u8.ensures)
+          ∙ ap (λ (z : List ℕ). put 2 z 6 a.length) (c.put_u16.ensures ∙ ap (λ (z : List ℕ). put 2 z 4 a.instance) c.put_u8.ensures)
           ∙ assembly_put a.what a.instance a.length) told.ensures.1,
     )

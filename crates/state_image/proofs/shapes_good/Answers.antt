@@ -10,9 +10,8 @@ pub size_at-requires : goal.size_at-requires
 size_at-requires c = let p = c.requires in (omega arith, p)
 
 pub loop-i-preserved : goal.loop-i-preserved
-loop-i-preserved c = let at-loop = c.before.before in
-    let a = at-loop.before.before.args in
-    let w = at-loop.loop in
+loop-i-preserved c = let a = c.args in
+    let w = c.loop-i in
     (omega arith, run_on a.r.now w.i _ w.good _ (omega arith) w.invariant.1 c.size_at.ensures c.both-good.ensures)
 
 pub returns : goal.returns

@@ -9,9 +9,5 @@ put_heard_in-requires c = let z = bit_small c.args.c.fixed.multicast in
     (search rules, omega arith)
 
 pub returns : goal.returns
-returns c = let at-heard = c.before.before.before.before in
-    let at_carried = at-heard.before in
-    let at-sent = at_carried.before.before.before.before in
-    let start = at-sent.before.before.before.before.before.before in
-    conn_put _ _ _ _ at_carried.carried-number.result start.args.c at_carried.carried-number.ensures
-    at-sent.put-sent-in.ensures at-heard.put-heard-in.ensures c.put_fixed_in.ensures
+returns c = conn_put _ _ _ _ c.carried_number.result c.args.c c.carried_number.ensures
+    c.put_sent_in.ensures c.put_heard_in.ensures c.put_fixed_in.ensures

@@ -4,14 +4,9 @@ use Rattle.state_places.specs.PlaceLaws.{at_not, at_rest}
 use Rattle.state_places.proofs.is_at.Goals as goal
 
 pub returns-then-not-is_kind : goal.returns-then-not-is_kind
-returns-then-not-is_kind c = let at-kind-at = c.before in
-    let at_entry_lem = at-kind-at.before.before in
-    at_not at_entry_lem.args.kind at_entry_lem.args.instance (shape_in at_entry_lem.args.r.now at_entry_lem.args.i) _ _ at-kind-at.kind_at.ensures c.is_kind.ensures
+returns-then-not-is_kind c = at_not c.args.kind c.args.instance (shape_in c.args.r.now c.args.i) _ _ c.kind_at-k.ensures c.is_kind.ensures
     c.if-not-is_kind.true
 
 pub returns : goal.returns
-returns c = let at-is-kind = c.before in
-    let at-kind-at = at-is-kind.before in
-    let at_entry_lem = at-kind-at.before.before in
-    at_rest at_entry_lem.args.kind at_entry_lem.args.instance _ (shape_in at_entry_lem.args.r.now at_entry_lem.args.i) _ _ at-kind-at.kind_at.ensures at-is-kind.is-kind.ensures
+returns c = at_rest c.args.kind c.args.instance _ (shape_in c.args.r.now c.args.i) _ _ c.kind_at-k.ensures c.is_kind.ensures
     c.if-not-is_kind.false c.instance_at.ensures

@@ -1,6 +1,5 @@
 -- One law for each refusal; what passes all of them is accepted.
 use Rattle.std.proofs.Common.{ℕ, ap, sym, ◌∙◌, arith, length}
-use borrow.Author.Tests.{not-false}
 use Rattle.app_starting.specs.Accept.{eds_fits, wrong_size, wrong-flag, wrong-eds, wrong-numbers, wrong-shapes, few_given, given-once}
 use Rattle.app_starting.proofs.checks.accept.Goals as goal
 
@@ -11,29 +10,22 @@ pub returns-then-flag-gt1 : goal.returns-then-flag-gt1
 returns-then-flag-gt1 c = let e = c.u32_at-flag.ensures in wrong-flag c.args.block.now _ (omega arith)
 
 pub returns-then-not-eds_fits : goal.returns-then-not-eds_fits
-returns-then-not-eds_fits c = let at-u32-at = c.before.before in
-    let at_entry_lem = at-u32-at.before.before.before.before in
-    wrong-eds at_entry_lem.args.block.now at_entry_lem.args.eds.now _ at-u32-at.u32-at.ensures (sym c.eds_fits.ensures ∙ c.if-not-eds_fits.true)
+returns-then-not-eds_fits c = wrong-eds c.args.block.now c.args.eds.now _ c.u32_at-flag.ensures (sym c.eds_fits.ensures ∙ c.if-not-eds_fits.true)
 
 pub returns-then-not-setup_good : goal.returns-then-not-setup_good
 returns-then-not-setup_good c = wrong-numbers c.args.block.now _ (sym c.setup_good.ensures ∙ c.if-not-setup_good.true)
 
 pub shapes_given-requires : goal.shapes_given-requires
-shapes_given-requires c = let at-setup-good = c.before in
-    let at_entry_lem = at-setup-good.before.before.before.before.before.before.before.before in
-    let e = c.u8_at-n.ensures in
-    let n = few_given at_entry_lem.args.block.now (sym at-setup-good.setup-good.ensures ∙ c.if-not-setup_good.false) in
+shapes_given-requires c = let e = c.u8_at-n.ensures in
+    let n = few_given c.args.block.now (sym c.setup_good.ensures ∙ c.if-not-setup_good.false) in
     (omega arith, omega arith)
 
 pub returns-then-not-shapes_given : goal.returns-then-not-shapes_given
 returns-then-not-shapes_given c = wrong-shapes c.args.block.now _ _ c.u8_at-n.ensures (sym c.shapes_given.ensures ∙ c.if-not-shapes_given.true)
 
 pub once_each-requires : goal.once_each-requires
-once_each-requires c = let at-if4 = c.before in
-    let at-setup-good = at-if4.before in
-    let at_entry_lem = at-setup-good.before.before.before.before.before.before.before.before in
-    let e = c.u8_at-n.ensures in
-    let n = few_given at_entry_lem.args.block.now (sym at-setup-good.setup-good.ensures ∙ not-false at-setup-good.setup-good.result at-if4.if4.false) in
+once_each-requires c = let e = c.u8_at-n.ensures in
+    let n = few_given c.args.block.now (sym c.setup_good.ensures ∙ c.if-not-setup_good.false) in
     (omega arith, omega arith)
 
 pub returns : goal.returns
@@ -43,5 +35,5 @@ returns c = let block = c.args.block.now in let eds = c.args.eds.now in
     ∙ given-once block eds (omega arith) (omega arith)
     (ap (λ (f : ℕ). eds_fits f (length eds)) (sym flag) ∙ sym c.eds_fits.ensures ∙ c.if-not-eds_fits.false)
     (sym c.setup_good.ensures ∙ c.if-not-setup_good.false)
-    _ c.u8_at-n.ensures (omega (arith, c.shared_slice_known-1.given 1))
+    _ c.u8_at-n.ensures (omega (arith, c.type_inv.block 1))
     (sym c.shapes_given.ensures ∙ c.if-not-shapes_given.false)

@@ -11,9 +11,8 @@ pub put_shape-requires : goal.put_shape-requires
 put_shape-requires c = (omega arith, omega arith, omega arith)
 
 pub loop-i-preserved : goal.loop-i-preserved
-loop-i-preserved c = let at-loop = c.before.before.before in
-    let a = at-loop.before.before.before.args in
-    let w = at-loop.loop in
+loop-i-preserved c = let a = c.args in
+    let w = c.loop-i in
     let e = c.put_shape.ensures in (
       omega arith,
       e ∙ spread-more a.block.now w.i a.s.now w.s w.invariant.1,

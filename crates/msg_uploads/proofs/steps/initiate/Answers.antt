@@ -7,13 +7,9 @@ use Rattle.msg_uploads.specs.Lent.{put_whole, step_done}
 use Rattle.msg_uploads.proofs.steps.initiate.Goals as goal
 
 pub returns : goal.returns
-returns c = let at-put = c.before.before.before.before in
-    let at-step = at-put.before.before.before in
-    let at_read = at-step.before in
-    let at_entry_lem = at_read.before.before.before.before.before.before in
-    let a = at_entry_lem.args in
-    let s = at-step.initiate-step in
+returns c = let a = c.args in
+    let s = c.initiate_step-step in
     step_done _ a.out.now _ s.result.after
-    (ap (done a.eds.now) (s.ensures ∙ ap (λ (x : Position). initiate_step a.limit x a.given.now) at_read.position_in.ensures)
+    (ap (done a.eds.now) (s.ensures ∙ ap (λ (x : Position). initiate_step a.limit x a.given.now) c.position_in.ensures)
     ∙ initiate_done a.limit a.eds.now (dec_upload a.position.now) a.given.now)
-    _ _ _ (at-put.put-position.ensures ∙ put_whole a.position.now s.result.after at_entry_lem.requires.0) c.send.ensures
+    _ _ _ (c.put_position.ensures ∙ put_whole a.position.now s.result.after c.requires.0) c.send.ensures

@@ -8,12 +8,10 @@ use Rattle.msg_uploads.specs.declared.steps.Sends.{Sends}
 use Rattle.msg_uploads.proofs.steps.transfer.Goals as goal
 
 pub returns : goal.returns
-returns c = let at-bytes = c.before.before.before.before in
-    let at_entry_lem = at-bytes.before.before.before.before.before.before in
-    let a = at_entry_lem.args in
-    let b = at-bytes.transfer-bytes in
+returns c = let a = c.args in
+    let b = c.transfer_bytes-sends in
     let step = transfer_step (length a.eds.now) (held_in (dec_upload a.position.now)) a.given.now in
     step_done _ a.out.now (outcome_of a.eds.now step.sends) step.after
     (transfer_done a.eds.now a.position.now a.given.now)
-    _ _ _ (b.ensures.1 ∙ put_whole a.position.now step.after at_entry_lem.requires.0)
+    _ _ _ (b.ensures.1 ∙ put_whole a.position.now step.after c.requires.0)
     (c.send.ensures ∙ ap (λ (x : Sends). told (outcome_of a.eds.now x) a.out.now) b.ensures.0)

@@ -10,7 +10,5 @@ returns-then-p-eq0 c = let a = c.args in
     transfer-idle a.len a.p a.given.now c.if-given-eq0.false c.if-p-eq0.true
 
 pub returns : goal.returns
-returns c = let at-if2 = c.before.before in
-    let at-if1 = at-if2.before.before in
-    let a = at-if1.before.before.args in
-    transfer-under a.len a.p a.given.now at-if1.if1.false at-if2.if2.false _ c.turn_of.ensures _ c.in_turn.ensures
+returns c = let a = c.args in
+    transfer-under a.len a.p a.given.now c.if-given-eq0.false c.if-p-eq0.false _ c.turn_of.ensures _ c.in_turn.ensures

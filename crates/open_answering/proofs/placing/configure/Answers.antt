@@ -9,17 +9,14 @@ use Rattle.open_answering.specs.StepLaws.{config-kept, config-done}
 use Rattle.open_answering.proofs.placing.configure.Goals as goal
 
 pub returns : goal.returns
-returns c = let at-instance-at = c.before.before in
-    let at-put-bytes = at-instance-at.before.before.before.before in
-    let at_entry_lem = at-put-bytes.before.before.before.before in
-    let a = at_entry_lem.args in
+returns c = let a = c.args in
     let s = a.s.now in
-    let s₁ = at-put-bytes.put-bytes.new.0 in
+    let s₁ = c.put_bytes.new.s in
     let s₂ = c.tell_assembly.new.s in
-    let v = at-instance-at.instance-at.result in
+    let v = c.instance_at-instance.result in
     let m = length a.config.now in
-    let k = at-put-bytes.put-bytes.ensures.0 in (
+    let k = c.put_bytes.ensures.0 in (
       config-kept a.i a.config.now s s₁ s₂ k c.tell_assembly.ensures.0,
-      config-done a.i a.config.now s s₁ s₂ (let e = kept_few (connections_of s) s s₁ k in let p = at_entry_lem.requires.1 in omega (arith, e, p)) v m at-instance-at.instance-at.ensures refl
-          at-put-bytes.put-bytes.ensures.1 (told_as s₁ s₂ 4 v m (Configured v m) (configured_is v m) c.tell_assembly.ensures.1),
+      config-done a.i a.config.now s s₁ s₂ (let e = kept_few (connections_of s) s s₁ k in let p = c.requires.1 in omega (arith, e, p)) v m c.instance_at-instance.ensures refl
+          c.put_bytes.ensures.1 (told_as s₁ s₂ 4 v m (Configured v m) (configured_is v m) c.tell_assembly.ensures.1),
     )

@@ -1,6 +1,5 @@
 -- One law for each way out.
 use Rattle.std.proofs.Common.{sym, ◌∙◌}
-use borrow.Author.Tests.{not-false}
 use Rattle.state_rules.specs.Rows.{row_at, dec_fixed}
 use Rattle.open_streams.specs.Joining.{carries_single, carries-listener, carries-other, carries-any, carries-equal}
 use Rattle.open_streams.proofs.joining.carries_at.Goals as goal
@@ -11,58 +10,37 @@ returns-then-not-multicast_at c = let a = c.args in
     carries_single (dec_fixed (row_at a.t.now a.i)) a.listens a.input a.rpi (sym many.ensures ∙ c.if-not-multicast_at.true)
 
 pub returns-then-listens_at : goal.returns-then-listens_at
-returns-then-listens_at c = let at-if1 = c.before in
-    let at-many = at-if1.before in
-    let at-torpi = at-many.before in
-    let at-input = at-torpi.before in
-    let a = at-input.before.before.args in
-    let many = at-many.multicast-at in
+returns-then-listens_at c = let a = c.args in
+    let many = c.multicast_at in
     let listener = c.listens_at in
-    let found = at-input.input-at in
-    let torpi = at-torpi.torpi-at in
+    let found = c.input_at-found in
+    let torpi = c.torpi_at-torpi in
     carries-listener (dec_fixed (row_at a.t.now a.i)) a.listens a.input a.rpi found.result torpi.result many.result listener.result
-    many.ensures listener.ensures found.ensures torpi.ensures (not-false many.result at-if1.if1.false) c.if-listens_at.true
+    many.ensures listener.ensures found.ensures torpi.ensures c.if-not-multicast_at.false c.if-listens_at.true
 
 pub returns-then-found-input : goal.returns-then-found-input
-returns-then-found-input c = let at-listener = c.before in
-    let at-if1 = at-listener.before in
-    let at-many = at-if1.before in
-    let at-torpi = at-many.before in
-    let at-input = at-torpi.before in
-    let a = at-input.before.before.args in
-    let many = at-many.multicast-at in
-    let listener = at-listener.listens-at in
-    let found = at-input.input-at in
-    let torpi = at-torpi.torpi-at in
+returns-then-found-input c = let a = c.args in
+    let many = c.multicast_at in
+    let listener = c.listens_at in
+    let found = c.input_at-found in
+    let torpi = c.torpi_at-torpi in
     carries-other (dec_fixed (row_at a.t.now a.i)) a.listens a.input a.rpi found.result torpi.result many.result listener.result
-    many.ensures listener.ensures found.ensures torpi.ensures (not-false many.result at-if1.if1.false) c.if-listens_at.false c.if-found-input.true
+    many.ensures listener.ensures found.ensures torpi.ensures c.if-not-multicast_at.false c.if-listens_at.false c.if-found-input.true
 
 pub returns-then-listens : goal.returns-then-listens
-returns-then-listens c = let at-if2 = c.before in
-    let at-listener = at-if2.before in
-    let at-if1 = at-listener.before in
-    let at-many = at-if1.before in
-    let at-torpi = at-many.before in
-    let at-input = at-torpi.before in
-    let a = at-input.before.before.args in
-    let many = at-many.multicast-at in
-    let listener = at-listener.listens-at in
-    let found = at-input.input-at in
-    let torpi = at-torpi.torpi-at in
+returns-then-listens c = let a = c.args in
+    let many = c.multicast_at in
+    let listener = c.listens_at in
+    let found = c.input_at-found in
+    let torpi = c.torpi_at-torpi in
     carries-any (dec_fixed (row_at a.t.now a.i)) a.listens a.input a.rpi found.result torpi.result many.result listener.result
-    many.ensures listener.ensures found.ensures torpi.ensures (not-false many.result at-if1.if1.false) at-if2.if2.false c.if-found-input.false c.if-listens.true
+    many.ensures listener.ensures found.ensures torpi.ensures c.if-not-multicast_at.false c.if-listens_at.false c.if-found-input.false c.if-listens.true
 
 pub returns : goal.returns
-returns c = let at-if2 = c.before in
-    let at-listener = at-if2.before in
-    let at-if1 = at-listener.before in
-    let at-many = at-if1.before in
-    let at-torpi = at-many.before in
-    let at-input = at-torpi.before in
-    let a = at-input.before.before.args in
-    let many = at-many.multicast-at in
-    let listener = at-listener.listens-at in
-    let found = at-input.input-at in
-    let torpi = at-torpi.torpi-at in
+returns c = let a = c.args in
+    let many = c.multicast_at in
+    let listener = c.listens_at in
+    let found = c.input_at-found in
+    let torpi = c.torpi_at-torpi in
     carries-equal (dec_fixed (row_at a.t.now a.i)) a.listens a.input a.rpi found.result torpi.result many.result listener.result
-    many.ensures listener.ensures found.ensures torpi.ensures (not-false many.result at-if1.if1.false) at-if2.if2.false c.if-found-input.false c.if-listens.false
+    many.ensures listener.ensures found.ensures torpi.ensures c.if-not-multicast_at.false c.if-listens_at.false c.if-found-input.false c.if-listens.false

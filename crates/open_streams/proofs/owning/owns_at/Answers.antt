@@ -4,15 +4,13 @@ use Rattle.open_streams.specs.Owning.{owns_not, owns-same}
 use Rattle.open_streams.proofs.owning.owns_at.Goals as goal
 
 pub returns-then-not-owns_at : goal.returns-then-not-owns_at
-returns-then-not-owns_at c = let at-output = c.before in
-    let a = at-output.before.before.args in
+returns-then-not-owns_at c = let a = c.args in
     let x = c.owns_at in
-    let y = at-output.output-at in
+    let y = c.output_at-found in
     owns_not (dec_fixed (row_at a.t.now a.i)) a.output y.result x.result x.ensures y.ensures c.if-not-owns_at.true
 
 pub returns : goal.returns
-returns c = let at-output = c.before in
-    let a = at-output.before.before.args in
+returns c = let a = c.args in
     let x = c.owns_at in
-    let y = at-output.output-at in
+    let y = c.output_at-found in
     owns-same (dec_fixed (row_at a.t.now a.i)) a.output y.result x.result x.ensures y.ensures c.if-not-owns_at.false
