@@ -23,29 +23,6 @@ APART = {
     "bytesLe": "le_bytes",
     "length-bytesLe": "length_le_bytes",
     "leOf-bytesLe": "le_of_le_bytes",
-    "identity-table": "identity_table_lem",
-    "sent-by": "sent_by_lem",
-    "advanced-to": "advanced_to_lem",
-    "asked-path": "asked_path_lem",
-    "first-of-two": "first_of_two_lem",
-    "fixed-examples": "fixed_examples_lem",
-    "the-day": "the_day_lem",
-    "the-checks": "the_checks_lem",
-    "the-order": "the_order_lem",
-    "data-calls": "data_calls_lem",
-    "event-list": "event_list_lem",
-    "with-data": "with_data_lem",
-    "packets-out": "packets_out_lem",
-    "whose-frame": "whose_frame_lem",
-    "cip-sequence": "cip_sequence_lem",
-    "data-and-run": "data_and_run_lem",
-    "output-told": "output_told_lem",
-    "of-no-use": "of_no_use_lem",
-    "run-lost": "run_lost_lem",
-    "shape-in": "shape_in_lem",
-    "marks-over": "marks_over_lem",
-    "enc-sent": "enc_sent_lem",
-    "enc-heard": "enc_heard_lem",
 }
 
 
@@ -67,24 +44,30 @@ def of_one_function(path):
 
 
 def declared(source):
-    """The names that a file declares: at its left edge, and in its records and data."""
-    inside = False
+    """The names that a file declares: at its left edge or in a module of it, and in its records and data."""
+    inside = 0
     for line in source.split("\n"):
         code = line.split("-- ")[0]
         if not code.strip():
-            inside = inside and bool(line.strip())
             continue
-        if code[0] not in " \t":
-            inside = bool(re.match(r"(pub |abbrev )*(data|record)\b", code))
-            if re.match(r"(pub )?(use|mod|module|unfolding|import)\b", code):
-                continue
-            head = HEAD.match(code)
-            if head:
-                yield head.group(2)
-        elif inside:
-            field = FIELD.match(code.strip())
+        depth = len(code) - len(code.lstrip(" "))
+        bare = code.strip()
+        if inside and depth >= inside:
+            field = FIELD.match(bare)
             if field:
                 yield field.group(1)
+            continue
+        inside = depth + 1 if re.match(r"((pub|abbrev) )*(data|record)\b", bare) else 0
+        if depth > 2 or re.match(r"(pub )?(use|mod|module|unfolding|import)\b", bare):
+            continue
+        head = HEAD.match(bare)
+        if head and (depth == 0 or in_module(source, line)):
+            yield head.group(2)
+
+
+def in_module(source, line):
+    """Whether an indented line can be a declaration: its file has a module with parameters, and the line is marked or begins a lemma."""
+    return bool(re.search(r"(?m)^(pub )?module ", source)) and bool(re.match(r"  ((pub|abbrev|unfoldable) )*[^\s(){}]+ : ", line)) and not line.startswith("   ")
 
 
 def respelled(name):
@@ -122,17 +105,35 @@ def pairs(paths, crates):
         if p.endswith(".antt") and not of_one_function(p):
             for n in declared(text(p)):
                 own[n] = True
+        elif p.endswith(".antt"):
+            for n in re.findall(r"(?m)^([a-z][^\s(){}]*) : (?!tie\.|goal\.)", text(p)):
+                own[n] = True
     odd = [n for n in own if re.search(r"[A-Za-z0-9'₀-₉]-[A-Za-z0-9]", n) or (n[0].islower() and re.search(r"[a-z0-9'₀-₉][A-Z]", n))]
-    return {n: respelled(n) for n in odd}, set(own)
+    table = {n: respelled(n) for n in odd}
+    taken = collections.Counter(table.values())
+    for n in odd:
+        # a lemma that would have its definition's name
+        if n not in APART and "-" in n and (taken[table[n]] > 1 or table[n] in own):
+            table[n] += "_lem"
+    return table, set(own)
 
 
-def turned(source, table, rust):
+def turned(source, table, rust, goals):
+    """The text with its names respelled; what Rattle names (the goals of a file, a step of `c`) keeps its name."""
+
+    def word(m):
+        w = m.group(0)
+        before = source_line[: m.start()]
+        if w in goals or re.search(r"(?<![\w'-])(c|l|goal|tie)\.$", before):
+            return w
+        return table.get(w, w)
+
     out = []
     for line in source.split("\n"):
         mark = "//" if rust else "--"
         at = 0 if line.lstrip().startswith(mark) else line.find(" " + mark + " ")
-        code, note = (line, "") if at < 0 else (line[:at], line[at:])
-        code = WORD.sub(lambda m: table.get(m.group(0), m.group(0)), code)
+        source_line, note = (line, "") if at < 0 else (line[:at], line[at:])
+        code = WORD.sub(word, source_line)
         note = WORD.sub(lambda m: table.get(m.group(0), m.group(0)) if "-" not in m.group(0) else m.group(0), note)
         out.append(code + note)
     return "\n".join(out)
@@ -158,7 +159,8 @@ def main(argv):
         source = text(p)
         skip = foreign(source, crates)
         here = {a: b for a, b in table.items() if a not in skip}
-        after = turned(source, here, p.endswith(".rt"))
+        goals = set(re.findall(r"(?<![\w'-])goal\.([^\s(){}]+)", source)) if of_one_function(p) else set()
+        after = turned(source, here, p.endswith(".rt"), goals)
         if after != source:
             changed += 1
             with open(p, "w", encoding="utf-8") as f:

@@ -9,12 +9,12 @@ use Rattle.rules.specs.State.{State}
 use Rattle.rules.specs.Answers.{Answer, Done, Wrote, Refused, No, NoRoom, noNumber, answerNumber, answerBytes, fitting}
 use Rattle.state_rules.specs.Image.{view, store, tested}
 use Rattle.state_image.specs.ViewLaws.{store_view}
-use Rattle.state_image.specs.Holds.{ready-tested, slotted-tested}
+use Rattle.state_image.specs.Holds.{ready_tested, slotted_tested}
 use Rattle.app_answers.specs.Outcomes.{Passed}
-use Rattle.state_image.specs.Lift.{lifted, lifted_out, lifted_read, lifted-passes, out-done, read_done}
+use Rattle.state_image.specs.Lift.{lifted, lifted_out, lifted_read, lifted_passes, out_done, read_done}
 
 pub passed_tested : (s : List ℕ) → tested s ≡ true → Passed s
-passed_tested s t = record { test = t; ready = ready-tested s t; slotted = slotted-tested s t }
+passed_tested s t = record { test = t; ready = ready_tested s t; slotted = slotted_tested s t }
 
 -- an answer that is all written, or refused for want of room
 pub fits_in : (room : ℕ) (bs : List ℕ) (a : Answer) → length bs ≤ room → fitting room bs a ≡ a
@@ -45,13 +45,13 @@ module _ (s out : List ℕ) (t : tested s ≡ true) where
         → (2 ^ 8 * n, (s', o)) ≡ lifted_out call s out
     unfolding answerNumber
     out-wrote n s' o bs st e p q r =
-        out-done call s out t (2 ^ 8 * n) s' o (ap (λ (k : ℕ). 2 ^ 8 * k) p ∙ ap (λ (z : Answer × State). answerNumber z.0) (sym e))
+        out_done call s out t (2 ^ 8 * n) s' o (ap (λ (k : ℕ). 2 ^ 8 * k) p ∙ ap (λ (z : Answer × State). answerNumber z.0) (sym e))
         (q ∙ ap (λ (z : Answer × State). store z.1 s) (sym e)) (r ∙ ap (λ (z : Answer × State). sets out 0 (answerBytes z.0)) (sym e))
 
     pub out-no : Bytes s → (w : No) → call (length out) (view s) ≡ (Refused w, view s) → (noNumber w, (s, out)) ≡ lifted_out call s out
     unfolding answerNumber
     out-no b w e =
-        out-done call s out t (noNumber w) s out (ap (λ (z : Answer × State). answerNumber z.0) (sym e))
+        out_done call s out t (noNumber w) s out (ap (λ (z : Answer × State). answerNumber z.0) (sym e))
         (sym (store_view s t b) ∙ ap (λ (z : Answer × State). store z.1 s) (sym e)) (ap (λ (z : Answer × State). sets out 0 (answerBytes z.0)) (sym e))
 
   pub out_same : (call call' : ℕ → State → Answer × State) → call (length out) (view s) ≡ call' (length out) (view s) → lifted_out call s out ≡ lifted_out call' s out
@@ -64,15 +64,15 @@ module _ (s : List ℕ) (t : tested s ≡ true) where
     unfolding answerNumber
     left-done s' st e q =
         (λ i. (0, (q ∙ ap (λ (z : Answer × State). store z.1 s) (sym e)) i)) ∙ ap (λ (z : Answer × State). (answerNumber z.0, store (call (view s)).1 s)) (sym e)
-        ∙ sym (lifted-passes call s t)
+        ∙ sym (lifted_passes call s t)
 
     pub left-no : Bytes s → (w : No) → call (view s) ≡ (Refused w, view s) → (noNumber w, s) ≡ lifted call s
     unfolding answerNumber
     left-no b w e =
         (λ i. (noNumber w, (sym (store_view s t b) ∙ ap (λ (z : Answer × State). store z.1 s) (sym e)) i))
         ∙ ap (λ (z : Answer × State). (answerNumber z.0, store (call (view s)).1 s)) (sym e)
-        ∙ sym (lifted-passes call s t)
+        ∙ sym (lifted_passes call s t)
 
-  pub left-same : (call call' : State → Answer × State) → call (view s) ≡ call' (view s) → lifted call s ≡ lifted call' s
+  pub left_same : (call call' : State → Answer × State) → call (view s) ≡ call' (view s) → lifted call s ≡ lifted call' s
   unfolding lifted
-  left-same call call' e = rw t (ap (λ (z : Answer × State). (answerNumber z.0, store z.1 s)) e)
+  left_same call call' e = rw t (ap (λ (z : Answer × State). (answerNumber z.0, store z.1 s)) e)

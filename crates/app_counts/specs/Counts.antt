@@ -23,16 +23,16 @@ three_put o o₁ o₂ o₃ a b c e₁ e₂ e₃ =
     puts (step e₁ (step e₂ (step e₃ done))) ∙ put_fields_eq (8 ∷ 8 ∷ 8 ∷ []) o 0 (a ∷ b ∷ c ∷ [])
 
 module _ (s out : List ℕ) (t : tested s ≡ true) where
-  pub stats-short : length out < 24 → (8, out) ≡ lifted_read stats_answer s out
+  pub stats_short : length out < 24 → (8, out) ≡ lifted_read stats_answer s out
   unfolding stats_answer view
-  stats-short h =
+  stats_short h =
       let n = length_three (produced_of s) (late_of s) (max_late_of s) in
       read_no s out t stats_answer NoRoom (fits_not (length out) (stats_bytes (view s).counters) (Wrote (stats_bytes (view s).counters)) (omega arith))
 
-  pub stats-wrote : 24 ≤ length out → (o₁ o₂ o₃ : List ℕ) (a b c : ℕ) → a ≡ produced_of s → b ≡ late_of s → c ≡ max_late_of s
+  pub stats_wrote : 24 ≤ length out → (o₁ o₂ o₃ : List ℕ) (a b c : ℕ) → a ≡ produced_of s → b ≡ late_of s → c ≡ max_late_of s
       → o₁ ≡ put 8 out 0 a → o₂ ≡ put 8 o₁ 8 b → o₃ ≡ put 8 o₂ 16 c → (2 ^ 8 * 24, o₃) ≡ lifted_read stats_answer s out
   unfolding stats_answer view
-  stats-wrote h o₁ o₂ o₃ a b c ea eb ec e₁ e₂ e₃ =
+  stats_wrote h o₁ o₂ o₃ a b c ea eb ec e₁ e₂ e₃ =
       let n = length_three (produced_of s) (late_of s) (max_late_of s) in
       read-wrote s out t stats_answer 24 o₃ (stats_bytes (view s).counters)
       (fits_in (length out) (stats_bytes (view s).counters) (Wrote (stats_bytes (view s).counters)) (omega arith))

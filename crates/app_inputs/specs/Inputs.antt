@@ -14,31 +14,31 @@ use Rattle.rules.specs.Host.{filled, set_input_at, input_set, set_input_answer, 
 use Rattle.state_rules.specs.Setups.{shape_in, setup_of}
 use Rattle.state_rules.specs.Places.{data_from, assemblies_of}
 use Rattle.state_rules.specs.Image.{view, store, tested}
-use Rattle.state_image.specs.Holds.{Holds, holds-tested}
-use Rattle.state_image.specs.Changes.{bytes_as, bytes-put}
+use Rattle.state_image.specs.Holds.{Holds, holds_tested}
+use Rattle.state_image.specs.Changes.{bytes_as, bytes_put}
 use Rattle.state_image.specs.Lift.{lifted}
 use Rattle.app_answers.specs.Places.{input_set_at}
-use Rattle.app_answers.specs.Ways.{left-done, left-no, left-same}
+use Rattle.app_answers.specs.Ways.{left-done, left-no, left_same}
 use Rattle.state_searches.specs.Searches.{change_at_place}
-use Rattle.app_answers.specs.Assemblies.{in-contents, size_is, setup-size}
+use Rattle.app_answers.specs.Assemblies.{in_contents, size_is, setup_size_lem}
 
 module _ (s : List ℕ) (t : tested s ≡ true) (b : Bytes s) (i : ℕ) (p : i < assemblies_of s) where
   abbrev h : Holds s (view s) s
-  h = holds-tested s t b
+  h = holds_tested s t b
 
   -- ---- set_input
 
   module _ (d : List ℕ) (n : ℕ) (en : n ≡ (shape_in s i).size) where
     pub input-long : n < length d → (7, s) ≡ lifted (input_set_at i d) s
     input-long g =
-        let m = (setup-size s t b i p) in
+        let m = (setup_size_lem s t b i p) in
         left-no s t (input_set_at i d) b TooLong
         (ap (λ (x : Bool). settled (cond x Done (Refused TooLong)) (input_set d (view s) (some i)) (view s)) (lt-leb (length d) (shape_at (view s).setup i).size (omega arith)))
 
     pub input-set : length d ≤ n → (s₁ s₂ : List ℕ) → s₁ ≡ sets s (data_from + i * 512) d → s₂ ≡ sets s₁ (data_from + i * 512 + length d) (replicate (n - length d) 0)
         → (0, s₂) ≡ lifted (input_set_at i d) s
     input-set g s₁ s₂ e₁ e₂ =
-        let m = (setup-size s t b i p) in
+        let m = (setup_size_lem s t b i p) in
         let q = (size_is s t b i p) in
         let zs : List ℕ = replicate (n - length d) 0 in
         let lz : length (d ++ zs) ≡ n = length-append d zs ∙ ap (λ (k : ℕ). length d + k) (length-replicate {A = ℕ} (n - length d) 0) ∙ omega arith in
@@ -48,7 +48,7 @@ module _ (s : List ℕ) (t : tested s ≡ true) (b : Bytes s) (i : ℕ) (p : i <
         left-done s t (input_set_at i d) s₂ (input_set d (view s) (some i))
         (ap (λ (x : Bool). settled (cond x Done (Refused TooLong)) (input_set d (view s) (some i)) (view s)) (le-leb (length d) (shape_at (view s).setup i).size (omega arith)))
         (e₂ ∙ ap (λ (z : List ℕ). sets z (data_from + i * 512 + length d) zs) e₁ ∙ sym (sets_append s (data_from + i * 512) d zs)
-        ∙ bytes-put s (view s) s h i (d ++ zs) (in-contents s t b i p) (omega arith) ∙ left)
+        ∙ bytes_put s (view s) s h i (d ++ zs) (in_contents s t b i p) (omega arith) ∙ left)
 
 -- ---- the call, by the place that was found
 
@@ -59,8 +59,8 @@ module _ (s d : List ℕ) (t : tested s ≡ true) (n : ℕ) (o : Option ℕ) (e 
       left-no s t (set_input_call n d) b NoAssembly
       (ap (λ (z : Option ℕ). settled (set_input_at (view s).setup d z) (input_set d (view s) z) (view s)) (e ∙ q))
 
-  pub input-some : (i : ℕ) → o ≡ some i → (r : ℕ × List ℕ) → r ≡ lifted (input_set_at i d) s → r ≡ lifted (set_input_call n d) s
+  pub input_some : (i : ℕ) → o ≡ some i → (r : ℕ × List ℕ) → r ≡ lifted (input_set_at i d) s → r ≡ lifted (set_input_call n d) s
   unfolding set_input_call set_input_answer set_input_effect view
-  input-some i q r w =
-      w ∙ left-same s t (input_set_at i d) (set_input_call n d)
+  input_some i q r w =
+      w ∙ left_same s t (input_set_at i d) (set_input_call n d)
       (ap (λ (z : Option ℕ). settled (set_input_at (view s).setup d z) (input_set d (view s) z) (view s)) (sym (e ∙ q)))

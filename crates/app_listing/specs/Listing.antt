@@ -6,7 +6,7 @@ use Rattle.std.proofs.Common.{ap₂, sym, ◌∙◌, arith, add-one, length-appe
 use Rattle.std.proofs.Math.Seq.{sets}
 use borrow.Rule.Slice.PartMut.{put_mid}
 use Rattle.base_cells.specs.Numbers.{le, sets_append, lent}
-use Rattle.base_tables.specs.Tables.{rows, length-rows, row-at}
+use Rattle.base_tables.specs.Tables.{rows, length_rows, row_at_lem}
 use Rattle.rules.specs.Lists.{joined}
 use Rattle.rules.specs.State.{Setup}
 use Rattle.rules.specs.declared.Conn.{Conn}
@@ -78,13 +78,13 @@ module _ (s : List ℕ) where
 
   record_is : (i : ℕ) → i < connections_of s → record_at s i ≡ record_of (setup_of s) (get_or (conns_in (connections_of s) (table_in s)) i no_conn)
   unfolding record_at record_of
-  record_is i h = ap (λ (c : Conn). info_record 0 (info_of (setup_of s) c.fixed)) (sym (row-at row_size dec_conn (connections_of s) (table_in s) i no_conn h))
+  record_is i h = ap (λ (c : Conn). info_record 0 (info_of (setup_of s) c.fixed)) (sym (row_at_lem row_size dec_conn (connections_of s) (table_in s) i no_conn h))
 
-  pub tell-more : (out x : List ℕ) (i : ℕ) → i < connections_of s → x ≡ sets out 0 (tellings (setup_of s) i (conns_in (connections_of s) (table_in s)))
+  pub tell_more : (out x : List ℕ) (i : ℕ) → i < connections_of s → x ≡ sets out 0 (tellings (setup_of s) i (conns_in (connections_of s) (table_in s)))
       → sets x (i * 32) (record_at s i) ≡ sets out 0 (tellings (setup_of s) (i + 1) (conns_in (connections_of s) (table_in s)))
-  tell-more out x i h e =
+  tell_more out x i h e =
       let u : Setup = setup_of s in
-      let n = length-rows row_size dec_conn (connections_of s) (table_in s) in
+      let n = length_rows row_size dec_conn (connections_of s) (table_in s) in
       let k : i * 32 ≡ 0 + length (tellings u i cs) =
       (let a = length_joined u (take i cs) in let b = length-take-le i cs (omega arith) in omega arith) in
       ap₂ (λ (y : List ℕ) (m : ℕ). sets y m (record_at s i)) e k
@@ -92,28 +92,28 @@ module _ (s : List ℕ) where
       ∙ sym (sets_append out 0 (tellings u i cs) (record_of u (get_or cs i no_conn)))
       ∙ ap (sets out 0) (sym (more u cs i (omega arith)))
 
-  bytes-are : connection_bytes (view s) ≡ joined (record_of (setup_of s)) (conns_in (connections_of s) (table_in s))
+  bytes_are : connection_bytes (view s) ≡ joined (record_of (setup_of s)) (conns_in (connections_of s) (table_in s))
   unfolding connection_bytes view record_of
-  bytes-are = refl
+  bytes_are = refl
 
-  length-bytes : length (connection_bytes (view s)) ≡ connections_of s * 32
-  length-bytes =
-      ap length bytes-are ∙ length_joined (setup_of s) cs ∙ ap (λ (n : ℕ). n * 32) (length-rows row_size dec_conn (connections_of s) (table_in s))
+  length_bytes : length (connection_bytes (view s)) ≡ connections_of s * 32
+  length_bytes =
+      ap length bytes_are ∙ length_joined (setup_of s) cs ∙ ap (λ (n : ℕ). n * 32) (length_rows row_size dec_conn (connections_of s) (table_in s))
 
   module _ (out : List ℕ) (t : tested s ≡ true) (n : ℕ) (en : n ≡ connections_of s) where
     pub table-short : length out < n * 32 → (8, out) ≡ lifted_read connections_answer s out
     unfolding connections_answer
     table-short h =
-        let k = length-bytes in
+        let k = length_bytes in
         read_no s out t connections_answer NoRoom (fits_not (length out) (connection_bytes (view s)) (Wrote (connection_bytes (view s))) (omega arith))
 
     pub table-told : n * 32 ≤ length out → (x : List ℕ) (i : ℕ) → n ≤ i → x ≡ sets out 0 (tellings (setup_of s) i (conns_in (connections_of s) (table_in s)))
         → (2 ^ 8 * (n * 32), x) ≡ lifted_read connections_answer s out
     unfolding connections_answer
     table-told h x i p e =
-        let k = length-bytes in
-        let m = length-rows row_size dec_conn (connections_of s) (table_in s) in
+        let k = length_bytes in
+        let m = length_rows row_size dec_conn (connections_of s) (table_in s) in
         read-wrote s out t connections_answer (n * 32) x (connection_bytes (view s))
         (fits_in (length out) (connection_bytes (view s)) (Wrote (connection_bytes (view s))) (omega arith))
         (omega arith)
-        (e ∙ ap (λ (z : List Conn). sets out 0 (joined (record_of (setup_of s)) z)) (take_all i cs (omega arith)) ∙ ap (sets out 0) (sym bytes-are))
+        (e ∙ ap (λ (z : List Conn). sets out 0 (joined (record_of (setup_of s)) z)) (take_all i cs (omega arith)) ∙ ap (sets out 0) (sym bytes_are))

@@ -19,7 +19,7 @@ use Rattle.state_rules.specs.Setups.{shape_in, setup_of}
 use Rattle.state_rules.specs.Places.{data_from, mark_at, assemblies_of}
 use Rattle.state_rules.specs.Bits.{run_in}
 use Rattle.state_rules.specs.Image.{view, store, tested}
-use Rattle.state_image.specs.Holds.{Holds, Becomes, holds-tested}
+use Rattle.state_image.specs.Holds.{Holds, Becomes, holds_tested}
 use Rattle.state_image.specs.Kept.{byte_of}
 use Rattle.state_image.specs.Changes.{mark_as}
 use Rattle.state_image.specs.Lift.{lifted_out, lifted_read}
@@ -30,7 +30,7 @@ use Rattle.app_answers.specs.Assemblies.{size_is, data_is, run_is}
 
 module _ (s : List ℕ) (t : tested s ≡ true) (b : Bytes s) (i : ℕ) (p : i < assemblies_of s) where
   abbrev h : Holds s (view s) s
-  h = holds-tested s t b
+  h = holds_tested s t b
 
   abbrev c : Content
   c = content_at (view s) i
@@ -38,8 +38,8 @@ module _ (s : List ℕ) (t : tested s ≡ true) (b : Bytes s) (i : ℕ) (p : i <
   -- ---- assembly
 
   module _ (out : List ℕ) (n : ℕ) (en : n ≡ (shape_in s i).size) where
-    pub assembly-short : length out < n → (8, out) ≡ lifted_read (assembly_read_at i) s out
-    assembly-short g =
+    pub assembly_short : length out < n → (8, out) ≡ lifted_read (assembly_read_at i) s out
+    assembly_short g =
         let m = (size_is s t b i p) in
         read_no s out t (assembly_read_at i) NoRoom (fits_not (length out) c.bytes (Wrote c.bytes) (omega arith))
 
@@ -81,18 +81,18 @@ module _ (s : List ℕ) (t : tested s ≡ true) (b : Bytes s) (i : ℕ) (p : i <
 -- ---- the calls, by the place that was found
 
 module _ (s out : List ℕ) (t : tested s ≡ true) (kind n : ℕ) (o : Option ℕ) (e : place_of (kind_test kind) (setup_of s) n ≡ o) where
-  pub assembly-none : o ≡ none → (6, out) ≡ lifted_read (assembly_answer kind n) s out
+  pub assembly_none : o ≡ none → (6, out) ≡ lifted_read (assembly_answer kind n) s out
   unfolding assembly_answer view
-  assembly-none q = read_no s out t (assembly_answer kind n) NoAssembly (ap (assembly_at (length out) (view s)) (e ∙ q))
+  assembly_none q = read_no s out t (assembly_answer kind n) NoAssembly (ap (assembly_at (length out) (view s)) (e ∙ q))
 
-  pub assembly-some : (i : ℕ) → o ≡ some i → (r : ℕ × List ℕ) → r ≡ lifted_read (assembly_read_at i) s out → r ≡ lifted_read (assembly_answer kind n) s out
+  pub assembly_some : (i : ℕ) → o ≡ some i → (r : ℕ × List ℕ) → r ≡ lifted_read (assembly_read_at i) s out → r ≡ lifted_read (assembly_answer kind n) s out
   unfolding assembly_answer view
-  assembly-some i q r w = w ∙ read_same s out t (assembly_read_at i) (assembly_answer kind n) (ap (assembly_at (length out) (view s)) (sym (e ∙ q)))
+  assembly_some i q r w = w ∙ read_same s out t (assembly_read_at i) (assembly_answer kind n) (ap (assembly_at (length out) (view s)) (sym (e ∙ q)))
 
 module _ (s out : List ℕ) (t : tested s ≡ true) (n : ℕ) (o : Option ℕ) (e : place_of (kind_test 2) (setup_of s) n ≡ o) where
-  pub output-none : Bytes s → o ≡ none → (6, (s, out)) ≡ lifted_out (output_call n) s out
+  pub output_none : Bytes s → o ≡ none → (6, (s, out)) ≡ lifted_out (output_call n) s out
   unfolding output_call output_answer output_effect view
-  output-none b q =
+  output_none b q =
       out-no s out t (output_call n) b NoAssembly
       (ap (λ (z : Option ℕ). settled (output_at (length out) (view s) z) (output_read (view s) z) (view s)) (e ∙ q))
 

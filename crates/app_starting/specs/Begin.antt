@@ -16,7 +16,7 @@ use Rattle.base_tables.specs.RegionWrites.{region_sets}
 use Rattle.rules.specs.Setup.{first_id}
 use Rattle.state_rules.specs.Places.{widths, w_head, table_size, events_size, data_size, eds_at, state_size, next_id_at, assemblies_of}
 use Rattle.app_starting.specs.Block.{shapes_at, eds_mark, marked_block, spread, region_of, zeros, list_fresh, started}
-use Rattle.app_starting.specs.Columns.{length-spread, put_left, spread_left}
+use Rattle.app_starting.specs.Columns.{length_spread, put_left, spread_left}
 use Rattle.app_starting.specs.Fresh.{length_zeros, drop_zeros}
 
 zeros_add : (a b : ℕ) → zeros (a + b) ≡ zeros a ++ zeros b
@@ -89,26 +89,26 @@ module _ (block eds : List ℕ) (seed mark : ℕ) (long : length block ≡ 192) 
   abbrev front : List ℕ
   front = take shapes_at (marked_block block eds) ++ zeros 82
 
-  length-first : length (take shapes_at block ++ zeros 82) ≡ 192
-  length-first =
+  length_first : length (take shapes_at block ++ zeros 82) ≡ 192
+  length_first =
       let lt : length (take shapes_at block) ≡ shapes_at = length-take-le shapes_at block (omega arith) in let lz = length_zeros 82 in
       length-append (take shapes_at block) (zeros 82) ∙ omega arith
 
   length_front : length (take shapes_at (marked_block block eds) ++ zeros 82) ≡ 192
-  length_front = ap length (sym (front_marked block eds long)) ∙ length_put 4 (take shapes_at block ++ zeros 82) 4 (eds_mark (le 4 block 4) eds) ∙ length-first
+  length_front = ap length (sym (front_marked block eds long)) ∙ length_put 4 (take shapes_at block ++ zeros 82) 4 (eds_mark (le 4 block 4) eds) ∙ length_first
 
-  length-region : length (region_of block eds) ≡ 192
+  length_region : length (region_of block eds) ≡ 192
   unfolding region_of
-  length-region = length-spread block (assemblies_of block) front ∙ length_front
+  length_region = length_spread block (assemblies_of block) front ∙ length_front
 
   -- the setup's region, made
-  region-begun : (s₀ s₁ s₂ s₃ : List ℕ) (n : ℕ) → n ≡ assemblies_of block → s₀ ≡ zeros state_size → s₁ ≡ sets s₀ 0 (take shapes_at block) → s₂ ≡ put 4 s₁ 4 mark
+  region_begun : (s₀ s₁ s₂ s₃ : List ℕ) (n : ℕ) → n ≡ assemblies_of block → s₀ ≡ zeros state_size → s₁ ≡ sets s₀ 0 (take shapes_at block) → s₂ ≡ put 4 s₁ 4 mark
       → s₃ ≡ spread block n s₂ → s₃ ≡ joined (region_of block eds ∷ rest)
   unfolding joined region_of start
-  region-begun s₀ s₁ s₂ s₃ n en e₀ e₁ e₂ e₃ =
+  region_begun s₀ s₁ s₂ s₃ n en e₀ e₁ e₂ e₃ =
       let t : List ℕ = take shapes_at block in
       let lt : length (take shapes_at block) ≡ shapes_at = length-take-le shapes_at block (omega arith) in
-      let l₁ = length-first in let l₂ = length_front in
+      let l₁ = length_first in let l₂ = length_front in
       let q₁ : s₁ ≡ (t ++ zeros 82) ++ joined rest =
       e₁ ∙ ap (λ (x : List ℕ). sets x 0 t) (e₀ ∙ all_nothing)
       ∙ region_sets 0 0 t nothing_sized (omega arith) (omega arith)
@@ -124,14 +124,14 @@ module _ (block eds : List ℕ) (seed mark : ℕ) (long : length block ≡ 192) 
   unfolding put started start
   begun s₀ s₁ s₂ s₃ s₄ s₅ n id en ei e₀ e₁ e₂ e₃ e₄ e₅ =
       let r₃ : List (List ℕ) = region_of block eds ∷ rest in
-      let z₃ : Sized widths r₃ = sized_set 0 (region_of block eds) nothing_sized length-region in
+      let z₃ : Sized widths r₃ = sized_set 0 (region_of block eds) nothing_sized length_region in
       let i : List ℕ = le_bytes 4 (first_id seed) in
       let li = length_le_bytes 4 (first_id seed) in
       let h : List ℕ = sets (zeros 48) 24 i in
       let lh : length h ≡ 48 = length-sets (zeros 48) 24 i ∙ length_zeros 48 in
       let r₄ : List (List ℕ) = set r₃ 1 h in
       let z₄ : Sized widths r₄ = sized_set 1 h z₃ lh in
-      let q₃ : s₃ ≡ joined r₃ = region-begun s₀ s₁ s₂ s₃ n en e₀ e₁ e₂ e₃ in
+      let q₃ : s₃ ≡ joined r₃ = region_begun s₀ s₁ s₂ s₃ n en e₀ e₁ e₂ e₃ in
       let q₄ : s₄ ≡ joined r₄ =
       e₄ ∙ ap₂ (λ (x : List ℕ) (v : ℕ). sets x next_id_at (le_bytes 4 v)) q₃ ei ∙ region_sets 1 24 i z₃ (omega arith) (omega arith) in
       e₅ ∙ ap (λ (x : List ℕ). sets x eds_at eds) q₄

@@ -25,14 +25,14 @@ module _ (block : List ℕ) (n : ℕ) (r : List ℕ) where
   abbrev twice : List ℕ
   twice = put 2 once (sizes_at + n * 2) (le 2 block (n * 5 + 112))
 
-  length-twice : length (put 2 (put 2 r (instances_at + n * 2) (le 2 block (n * 5 + 110))) (sizes_at + n * 2) (le 2 block (n * 5 + 112))) ≡ length r
-  length-twice = length_put 2 once (sizes_at + n * 2) (le 2 block (n * 5 + 112)) ∙ length_put 2 r (instances_at + n * 2) (le 2 block (n * 5 + 110))
+  length_twice : length (put 2 (put 2 r (instances_at + n * 2) (le 2 block (n * 5 + 110))) (sizes_at + n * 2) (le 2 block (n * 5 + 112))) ≡ length r
+  length_twice = length_put 2 once (sizes_at + n * 2) (le 2 block (n * 5 + 112)) ∙ length_put 2 r (instances_at + n * 2) (le 2 block (n * 5 + 110))
 
-  pub length-one : length (in_columns block n r) ≡ length r
-  length-one = length_put 1 twice (kinds_at + n) (le 1 block (n * 5 + 114)) ∙ length-twice
+  pub length_one : length (in_columns block n r) ≡ length r
+  length_one = length_put 1 twice (kinds_at + n) (le 1 block (n * 5 + 114)) ∙ length_twice
 
-  take-one : take shapes_at (in_columns block n r) ≡ take shapes_at r
-  take-one =
+  take_one : take shapes_at (in_columns block n r) ≡ take shapes_at r
+  take_one =
       take_put 1 twice (kinds_at + n) (le 1 block (n * 5 + 114)) shapes_at (omega arith)
       ∙ take_put 2 once (sizes_at + n * 2) (le 2 block (n * 5 + 112)) shapes_at (omega arith)
       ∙ take_put 2 r (instances_at + n * 2) (le 2 block (n * 5 + 110)) shapes_at (omega arith)
@@ -43,7 +43,7 @@ module _ (block : List ℕ) (n : ℕ) (r : List ℕ) where
   one_same h g =
       let v : ℕ = le 2 block (n * 5 + 110) in let w : ℕ = le 2 block (n * 5 + 112) in let x : ℕ = le 1 block (n * 5 + 114) in
       let l₁ : length once ≡ length r = length_put 2 r (instances_at + n * 2) v in
-      let l₂ : length twice ≡ length r = length-twice in
+      let l₂ : length twice ≡ length r = length_twice in
       λ j.
       record {
         instance =
@@ -56,9 +56,9 @@ module _ (block : List ℕ) (n : ℕ) (r : List ℕ) where
       }
 
   -- a place before it, and the size at a place behind it
-  one-before : (i : ℕ) → i < n → n < 16 → shape_in (in_columns block n r) i ≡ shape_in r i
+  one_before : (i : ℕ) → i < n → n < 16 → shape_in (in_columns block n r) i ≡ shape_in r i
   unfolding shape_in
-  one-before i h g =
+  one_before i h g =
       let v : ℕ = le 2 block (n * 5 + 110) in let w : ℕ = le 2 block (n * 5 + 112) in let x : ℕ = le 1 block (n * 5 + 114) in
       λ j.
       record {
@@ -73,9 +73,9 @@ module _ (block : List ℕ) (n : ℕ) (r : List ℕ) where
             ∙ le_put_after 2 2 r (sizes_at + i * 2) (instances_at + n * 2) v (omega arith)) j;
       }
 
-  size-behind : (i : ℕ) → n < i → i < 16 → (shape_in (in_columns block n r) i).size ≡ (shape_in r i).size
+  size_behind : (i : ℕ) → n < i → i < 16 → (shape_in (in_columns block n r) i).size ≡ (shape_in r i).size
   unfolding shape_in
-  size-behind i h g =
+  size_behind i h g =
       le_put_before 2 1 twice (sizes_at + i * 2) (kinds_at + n) (le 1 block (n * 5 + 114)) (omega arith)
       ∙ le_put_after 2 2 once (sizes_at + i * 2) (sizes_at + n * 2) (le 2 block (n * 5 + 112)) (omega arith)
       ∙ le_put_after 2 2 r (sizes_at + i * 2) (instances_at + n * 2) (le 2 block (n * 5 + 110)) (omega arith)
@@ -93,36 +93,36 @@ module _ (block : List ℕ) where
   unfolding spread
   spread_none r = refl
 
-  pub spread-more : (n : ℕ) (r s : List ℕ) → s ≡ spread block n r → in_columns block n s ≡ spread block (n + 1) r
+  pub spread_more : (n : ℕ) (r s : List ℕ) → s ≡ spread block n r → in_columns block n s ≡ spread block (n + 1) r
   unfolding spread
-  spread-more n r s e = ap (in_columns block n) e ∙ ap (λ (k : ℕ). spread block k r) (sym (add-one n))
+  spread_more n r s e = ap (in_columns block n) e ∙ ap (λ (k : ℕ). spread block k r) (sym (add-one n))
 
-  pub length-spread : (n : ℕ) (r : List ℕ) → length (spread block n r) ≡ length r
+  pub length_spread : (n : ℕ) (r : List ℕ) → length (spread block n r) ≡ length r
   unfolding spread
-  length-spread zero r = refl
-  length-spread (suc n) r = length-one block n (spread block n r) ∙ length-spread n r
+  length_spread zero r = refl
+  length_spread (suc n) r = length_one block n (spread block n r) ∙ length_spread n r
 
-  pub take-spread : (n : ℕ) (r : List ℕ) → take shapes_at (spread block n r) ≡ take shapes_at r
+  pub take_spread : (n : ℕ) (r : List ℕ) → take shapes_at (spread block n r) ≡ take shapes_at r
   unfolding spread
-  take-spread zero r = refl
-  take-spread (suc n) r = take-one block n (spread block n r) ∙ take-spread n r
+  take_spread zero r = refl
+  take_spread (suc n) r = take_one block n (spread block n r) ∙ take_spread n r
 
   pub spread_at : (n : ℕ) (r : List ℕ) → n ≤ 16 → 190 ≤ length r → (i : ℕ) → i < n → shape_in (spread block n r) i ≡ given_in block i
   unfolding spread
   spread_at zero r h g i p = absurd (omega arith)
   spread_at (suc n) r h g i p =
       let s : List ℕ = spread block n r in
-      let l = length-spread n r in
+      let l = length_spread n r in
       by_cases (ltb i n)
-      (λ t. let q = ltb-true i n t in one-before block n s i q (omega arith) ∙ spread_at n r (omega arith) g i q)
+      (λ t. let q = ltb-true i n t in one_before block n s i q (omega arith) ∙ spread_at n r (omega arith) g i q)
       (λ t. let q = ltb-false i n t in
       let e : i ≡ n = omega arith in
       ap (λ (k : ℕ). shape_in (in_columns block n s) k) e ∙ one_same block n s (omega arith) (omega arith) ∙ ap (λ (k : ℕ). given_in block k) (sym e))
 
-  pub size-past : (n : ℕ) (r : List ℕ) (i : ℕ) → n ≤ i → i < 16 → (shape_in (spread block n r) i).size ≡ (shape_in r i).size
+  pub size_past : (n : ℕ) (r : List ℕ) (i : ℕ) → n ≤ i → i < 16 → (shape_in (spread block n r) i).size ≡ (shape_in r i).size
   unfolding spread
-  size-past zero r i h g = refl
-  size-past (suc n) r i h g = size-behind block n (spread block n r) i (omega arith) g ∙ size-past n r i (omega arith) g
+  size_past zero r i h g = refl
+  size_past (suc n) r i h g = size_behind block n (spread block n r) i (omega arith) g ∙ size_past n r i (omega arith) g
 
 -- rows, place by place
 listed_rows : {A : Type 0} (size : ℕ) (dec : List ℕ → A) (f : ℕ → A) (n : ℕ) (x : List ℕ) → ((i : ℕ) → i < n → f i ≡ dec (take size (drop (i * size) x)))
@@ -150,7 +150,7 @@ one_left block n xs ys h g =
     let a : List ℕ = put 2 xs (instances_at + n * 2) v in
     let b : List ℕ = put 2 a (sizes_at + n * 2) w in
     let la : length a ≡ length xs = length_put 2 xs (instances_at + n * 2) v in
-    let lb : length b ≡ length xs = length-twice block n xs in
+    let lb : length b ≡ length xs = length_twice block n xs in
     ap (λ (z : List ℕ). put 1 (put 2 z (sizes_at + n * 2) w) (kinds_at + n) x) (put_left 2 xs ys (instances_at + n * 2) v (omega arith))
     ∙ ap (λ (z : List ℕ). put 1 z (kinds_at + n) x) (put_left 2 a ys (sizes_at + n * 2) w (omega arith))
     ∙ put_left 1 b ys (kinds_at + n) x (omega arith)
@@ -159,5 +159,5 @@ pub spread_left : (block : List ℕ) (n : ℕ) (xs ys : List ℕ) → n ≤ 16 �
 unfolding spread
 spread_left block zero xs ys h g = refl
 spread_left block (suc n) xs ys h g =
-    let l = length-spread block n xs in
+    let l = length_spread block n xs in
     ap (in_columns block n) (spread_left block n xs ys (omega arith) g) ∙ one_left block n (spread block n xs) ys (omega arith) (omega arith)

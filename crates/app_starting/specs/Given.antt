@@ -8,7 +8,7 @@ use Rattle.std.proofs.Common.{sym, ◌∙◌, arith, length-drop, length-take-le
 use borrow.Author.Tests.{eqb-true, leb-true, leb-false, ne_eqb}
 use Rattle.base_cells.specs.Numbers.{le, length_put, le_put_same}
 use Rattle.base_cells.specs.Back.{all, all_at}
-use Rattle.base_tables.specs.Tables.{rows, length-rows}
+use Rattle.base_tables.specs.Tables.{rows, length_rows}
 use Rattle.base_tables.specs.Ring.{by_cases}
 use Rattle.rules.specs.Lists.{any}
 use Rattle.rules.specs.State.{Shape}
@@ -58,20 +58,20 @@ module _ (block eds : List ℕ) (long : length block ≡ 192) where
   unfolding marked_block
   mark_of = le_put_same 3 block 4 (eds_mark (le 4 block 4) eds) (omega arith)
 
-  pub no-mark : eqb (le 4 block 4) 0 ≡ true → le 4 (marked_block block eds) 4 ≡ 0
-  no-mark e = mark_of ∙ ap (λ (b : Bool). cond b 0 (length eds + 1)) e
+  pub no_mark : eqb (le 4 block 4) 0 ≡ true → le 4 (marked_block block eds) 4 ≡ 0
+  no_mark e = mark_of ∙ ap (λ (b : Bool). cond b 0 (length eds + 1)) e
 
-  pub some-mark : eqb (le 4 block 4) 0 ≡ false → le 4 (marked_block block eds) 4 ≡ length eds + 1
-  some-mark e = mark_of ∙ ap (λ (b : Bool). cond b 0 (length eds + 1)) e
+  pub some_mark : eqb (le 4 block 4) 0 ≡ false → le 4 (marked_block block eds) 4 ≡ length eds + 1
+  some_mark e = mark_of ∙ ap (λ (b : Bool). cond b 0 (length eds + 1)) e
 
-  pub no-eds : eqb (le 4 block 4) 0 ≡ true → (setup_given block eds).eds ≡ none
+  pub no_eds : eqb (le 4 block 4) 0 ≡ true → (setup_given block eds).eds ≡ none
   unfolding setup_given
-  no-eds e = ap (λ (m : ℕ). eds_of m eds) (no-mark e)
+  no_eds e = ap (λ (m : ℕ). eds_of m eds) (no_mark e)
 
-  pub some-eds : eqb (le 4 block 4) 0 ≡ false → (setup_given block eds).eds ≡ some eds
+  pub some_eds : eqb (le 4 block 4) 0 ≡ false → (setup_given block eds).eds ≡ some eds
   unfolding setup_given
-  some-eds e =
-      ap (λ (m : ℕ). eds_of m eds) (some-mark e)
+  some_eds e =
+      ap (λ (m : ℕ). eds_of m eds) (some_mark e)
       ∙ ap (λ (b : Bool). cond b none (some (take (length eds + 1 - 1) eds))) (ne_eqb (length eds + 1) 0 (λ q. omega arith))
       ∙ ap some (take_all (length eds + 1 - 1) eds (omega arith))
 
@@ -79,52 +79,52 @@ module _ (block eds : List ℕ) (ok : accepted block eds ≡ true) where
   abbrev r : List ℕ
   r = marked_block block eds
 
-  pub long-block : length block ≡ 192
+  pub long_block : length block ≡ 192
   unfolding accepted
-  long-block = eqb-true (length block) 192 (all_at (tests_block block eds) ok 0)
+  long_block = eqb-true (length block) 192 (all_at (tests_block block eds) ok 0)
 
-  pub flag-bit : le 4 block 4 ≤ 1
+  pub flag_bit : le 4 block 4 ≤ 1
   unfolding accepted
-  flag-bit = leb-true (le 4 block 4) 1 (all_at (tests_block block eds) ok 1)
+  flag_bit = leb-true (le 4 block 4) 1 (all_at (tests_block block eds) ok 1)
 
   pub no_bytes : not (eqb (le 4 block 4) 0) || eqb (length eds) 0 ≡ true
   unfolding accepted
   no_bytes = all_at (tests_block block eds) ok 2
 
-  pub kinds-ok : all (rows 5 kind_given (assemblies_of block) (drop shapes_at block)) ≡ true
+  pub kinds_ok : all (rows 5 kind_given (assemblies_of block) (drop shapes_at block)) ≡ true
   unfolding accepted
-  kinds-ok = all_at (tests_block block eds) ok 3
+  kinds_ok = all_at (tests_block block eds) ok 3
 
-  pub sizes-ok : setup_ok (setup_given block eds) ≡ true
+  pub sizes_ok : setup_ok (setup_given block eds) ≡ true
   unfolding accepted
-  sizes-ok = all_at (tests_block block eds) ok 4
+  sizes_ok = all_at (tests_block block eds) ok 4
 
   pub length_marked : length (marked_block block eds) ≡ 192
   unfolding marked_block
-  length_marked = length_put 4 block 4 (eds_mark (le 4 block 4) eds) ∙ long-block
+  length_marked = length_put 4 block 4 (eds_mark (le 4 block 4) eds) ∙ long_block
 
   chain : Five (assemblies_ok (setup_given block eds).assemblies) (name_ok (setup_given block eds).identity.name) (name_ok (setup_given block eds).edsName) (eds_ok (setup_given block eds).eds) (transfer_ok (setup_given block eds).transferLimit)
   unfolding setup_ok
   chain =
       five_of (assemblies_ok (setup_given block eds).assemblies) (name_ok (setup_given block eds).identity.name) (name_ok (setup_given block eds).edsName)
-      (eds_ok (setup_given block eds).eds) (transfer_ok (setup_given block eds).transferLimit) sizes-ok
+      (eds_ok (setup_given block eds).eds) (transfer_ok (setup_given block eds).transferLimit) sizes_ok
 
-  assemblies-chain : (leb (length (shapes_given block)) 16 ≡ true)
+  assemblies_chain : (leb (length (shapes_given block)) 16 ≡ true)
       × (not (any (λ a. not (shape_ok a)) (shapes_given block)) ≡ true)
   unfolding setup_given
-  assemblies-chain =
+  assemblies_chain =
       let xs : List Shape = shapes_given block in
       two_of (leb (length xs) 16) (not (any (λ a. not (shape_ok a)) xs)) (distinct (map (λ a. a.instance) xs)) chain.one
 
   pub few : assemblies_of block ≤ 16
   few =
       let xs : List Shape = shapes_given block in
-      let n = length-rows shape_size dec_shape (assemblies_of block) (drop shapes_at block) in
-      let h : length xs ≤ 16 = leb-true (length xs) 16 assemblies-chain.0 in
+      let n = length_rows shape_size dec_shape (assemblies_of block) (drop shapes_at block) in
+      let h : length xs ≤ 16 = leb-true (length xs) 16 assemblies_chain.0 in
       omega arith
 
-  pub shapes-ok : not (any (λ a. not (shape_ok a)) (shapes_given block)) ≡ true
-  shapes-ok = assemblies-chain.1
+  pub shapes_ok : not (any (λ a. not (shape_ok a)) (shapes_given block)) ≡ true
+  shapes_ok = assemblies_chain.1
 
   -- a name of at most 32 bytes that are all there
   short : (n k : ℕ) → k + 33 ≤ 192 → length (take n (drop k (marked_block block eds))) ≤ 32 → n ≤ 32
@@ -135,42 +135,42 @@ module _ (block eds : List ℕ) (ok : accepted block eds ≡ true) where
       (λ e. leb-true n 32 e)
       (λ e. let q = leb-false n 32 e in absurd (too_long n (drop k r) (omega arith) (omega arith) p))
 
-  pub short-name : le 1 (marked_block block eds) 2 ≤ 32
+  pub short_name : le 1 (marked_block block eds) 2 ≤ 32
   unfolding setup_given
-  short-name = short (le 1 r 2) 46 (omega arith) (leb-true (length (take (le 1 r 2) (drop 46 r))) 32 chain.two)
+  short_name = short (le 1 r 2) 46 (omega arith) (leb-true (length (take (le 1 r 2) (drop 46 r))) 32 chain.two)
 
-  pub short-eds-name : le 1 (marked_block block eds) 3 ≤ 32
+  pub short_eds_name : le 1 (marked_block block eds) 3 ≤ 32
   unfolding setup_given
-  short-eds-name = short (le 1 r 3) 78 (omega arith) (leb-true (length (take (le 1 r 3) (drop 78 r))) 32 chain.three)
+  short_eds_name = short (le 1 r 3) 78 (omega arith) (leb-true (length (take (le 1 r 3) (drop 78 r))) 32 chain.three)
 
-  pub some-transfer : 0 < le 1 (marked_block block eds) 1
+  pub some_transfer : 0 < le 1 (marked_block block eds) 1
   unfolding setup_given
-  some-transfer = leb-true 1 (le 1 r 1) (first_of (leb 1 (le 1 r 1)) (leb (le 1 r 1) 255) chain.five)
+  some_transfer = leb-true 1 (le 1 r 1) (first_of (leb 1 (le 1 r 1)) (leb (le 1 r 1) 255) chain.five)
 
   -- the EDS: none, and no bytes; or its bytes
   pub absent : eqb (le 4 block 4) 0 ≡ true → length eds ≡ 0
   absent e = eqb-true (length eds) 0 (ap (λ (b : Bool). not b || eqb (length eds) 0) (sym e) ∙ no_bytes)
 
-  pub short-eds : length eds ≤ 65535
-  short-eds =
+  pub short_eds : length eds ≤ 65535
+  short_eds =
       by_cases (eqb (le 4 block 4) 0)
       (λ e. let z = absent e in omega arith)
-      (λ e. leb-true (length eds) 65535 (ap eds_ok (sym (some-eds block eds long-block e)) ∙ chain.four))
+      (λ e. leb-true (length eds) 65535 (ap eds_ok (sym (some_eds block eds long_block e)) ∙ chain.four))
 
-  pub small-mark : le 4 (marked_block block eds) 4 ≤ 65536
-  small-mark =
-      let s = short-eds in
+  pub small_mark : le 4 (marked_block block eds) 4 ≤ 65536
+  small_mark =
+      let s = short_eds in
       by_cases (eqb (le 4 block 4) 0)
-      (λ e. let m = no-mark block eds long-block e in omega arith)
-      (λ e. let m = some-mark block eds long-block e in omega arith)
+      (λ e. let m = no_mark block eds long_block e in omega arith)
+      (λ e. let m = some_mark block eds long_block e in omega arith)
 
   -- what stands behind the EDS is not of it
-  pub eds-same : (z : List ℕ) → eds_of (le 4 (marked_block block eds) 4) (eds ++ z) ≡ eds_of (le 4 (marked_block block eds) 4) eds
-  eds-same z =
+  pub eds_same : (z : List ℕ) → eds_of (le 4 (marked_block block eds) 4) (eds ++ z) ≡ eds_of (le 4 (marked_block block eds) 4) eds
+  eds_same z =
       by_cases (eqb (le 4 block 4) 0)
-      (λ e. let m = no-mark block eds long-block e in
+      (λ e. let m = no_mark block eds long_block e in
       ap (λ (n : ℕ). eds_of n (eds ++ z)) m ∙ sym (ap (λ (n : ℕ). eds_of n eds) m))
-      (λ e. let m = some-mark block eds long-block e in
+      (λ e. let m = some_mark block eds long_block e in
       let k : length eds ≡ length eds + 1 - 1 = omega arith in
       ap (λ (n : ℕ). eds_of n (eds ++ z)) m
       ∙ ap (λ (x : List ℕ). cond (eqb (length eds + 1) 0) none (some x))

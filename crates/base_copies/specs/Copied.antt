@@ -20,15 +20,15 @@ sets_over l i (suc k) (x ∷ xs) =
     ∙ sets_over (set l i x) (suc i) k xs
 
 module _ (s d : List ℕ) (at j : ℕ) (x : List ℕ) (e : x ≡ sets s at (take j d)) where
-  pub copied-part : (k : ℕ) → j + k ≤ length d → sets x (at + j) (take k (drop j d)) ≡ sets s at (take (j + k) d)
-  copied-part k h =
+  pub copied_part : (k : ℕ) → j + k ≤ length d → sets x (at + j) (take k (drop j d)) ≡ sets s at (take (j + k) d)
+  copied_part k h =
       ap (λ (z : List ℕ). sets z (at + j) (take k (drop j d))) e
       ∙ ap (λ (n : ℕ). sets (sets s at (take j d)) (at + n) (take k (drop j d))) (sym (length-take-le j d (omega arith)))
       ∙ sym (sets_append s at (take j d) (take k (drop j d)))
       ∙ ap (sets s at) (sym (take-add j k d))
 
-  pub copied-last : (i k : ℕ) → i ≤ j → length d ≡ i + k → sets x (at + i) (take k (drop i d)) ≡ sets s at d
-  copied-last i k h n =
+  pub copied_last : (i k : ℕ) → i ≤ j → length d ≡ i + k → sets x (at + i) (take k (drop i d)) ≡ sets s at d
+  copied_last i k h n =
       let r : List ℕ = drop i d in
       let p : List ℕ = sets s at (take i d) in
       let all : take k r ≡ r = take_all k r (rw length-drop (omega arith)) in

@@ -26,17 +26,17 @@ module _ (x d : List ℕ) where
   more_same : (j k : ℕ) → take j x ≡ take j d → take k (drop j x) ≡ take k (drop j d) → take (j + k) x ≡ take (j + k) d
   more_same j k e f = take-add j k x ∙ ap₂ ◌++◌ e f ∙ sym (take-add j k d)
 
-  last-same : (i j k : ℕ) → i ≤ j → length d ≡ i + k → take j x ≡ take j d → take k (drop i x) ≡ take k (drop i d) → take (length d) x ≡ d
-  last-same i j k h n e f =
+  last_same : (i j k : ℕ) → i ≤ j → length d ≡ i + k → take j x ≡ take j d → take k (drop i x) ≡ take k (drop i d) → take (length d) x ≡ d
+  last_same i j k h n e f =
       let g : take i x ≡ take i d = sym (take-take i j x h) ∙ ap (take i) e ∙ take-take i j d h in
       ap (λ (m : ℕ). take m x) n ∙ more_same i k g f ∙ take_all (i + k) d (omega arith)
 
 -- ---- numbers that are the same are the same bytes
 
 module _ (s d : List ℕ) (bs : Bytes s) (bd : Bytes d) (at j : ℕ) where
-  numbers-same : (k : ℕ) → at + k + 8 ≤ length s → j + k + 8 ≤ length d → le 8 s (at + k) ≡ le 8 d (j + k)
+  numbers_same : (k : ℕ) → at + k + 8 ≤ length s → j + k + 8 ≤ length d → le 8 s (at + k) ≡ le 8 d (j + k)
       → take 8 (drop k (drop at s)) ≡ take 8 (drop k (drop j d))
-  numbers-same k p q e =
+  numbers_same k p q e =
       rw (drop-drop k at s, drop-drop k j d) (sym (bytes_le 7 s (at + k) bs p) ∙ ap (le_bytes 8) e ∙ bytes_le 7 d (j + k) bd q)
 
   bytes_same : (m k : ℕ) → k + 8 ≤ m → take m (drop at s) ≡ take m (drop j d) → le 8 s (at + k) ≡ le 8 d (j + k)
@@ -85,9 +85,9 @@ module _ (s d : List ℕ) (bs : Bytes s) (bd : Bytes d) (at j a₀ b₀ a₁ b�
               let l = or_zero v₀ v₁ z.0 in
               let h = or_zero v₂ v₃ z.1 in
               let n₀ : take 8 x ≡ take 8 y = first-same s d bs bd at j a₀ b₀ ea₀ eb₀ (omega arith) (omega arith) (xor_eq a₀ b₀ l.0) in
-              let n₁ : take 8 (drop 8 x) ≡ take 8 (drop 8 y) = numbers-same s d bs bd at j 8 (omega arith) (omega arith) (sym ea₁ ∙ xor_eq a₁ b₁ l.1 ∙ eb₁) in
-              let n₂ : take 8 (drop 16 x) ≡ take 8 (drop 16 y) = numbers-same s d bs bd at j 16 (omega arith) (omega arith) (sym ea₂ ∙ xor_eq a₂ b₂ h.0 ∙ eb₂) in
-              let n₃ : take 8 (drop 24 x) ≡ take 8 (drop 24 y) = numbers-same s d bs bd at j 24 (omega arith) (omega arith) (sym ea₃ ∙ xor_eq a₃ b₃ h.1 ∙ eb₃) in
+              let n₁ : take 8 (drop 8 x) ≡ take 8 (drop 8 y) = numbers_same s d bs bd at j 8 (omega arith) (omega arith) (sym ea₁ ∙ xor_eq a₁ b₁ l.1 ∙ eb₁) in
+              let n₂ : take 8 (drop 16 x) ≡ take 8 (drop 16 y) = numbers_same s d bs bd at j 16 (omega arith) (omega arith) (sym ea₂ ∙ xor_eq a₂ b₂ h.0 ∙ eb₂) in
+              let n₃ : take 8 (drop 24 x) ≡ take 8 (drop 24 y) = numbers_same s d bs bd at j 24 (omega arith) (omega arith) (sym ea₃ ∙ xor_eq a₃ b₃ h.1 ∙ eb₃) in
               more_same x y 24 8 (more_same x y 16 8 (more_same x y 8 8 n₀ n₁) n₂) n₃,
           λ e.
               let n₀ : v₀ ≡ 0 = xor_none a₀ b₀ (first-number s d bs bd at j a₀ b₀ ea₀ eb₀ 32 (omega arith) e) in
@@ -100,12 +100,12 @@ module _ (s d : List ℕ) (bs : Bytes s) (bd : Bytes d) (at j a₀ b₀ a₁ b�
 -- ---- part by part, as code looks at them
 
 module _ (s d : List ℕ) (at j : ℕ) where
-  pub part-differs : (k : ℕ) → j + k ≤ length d → (r : Bool) → Tells r (take k (drop (at + j) s) ≡ take k (drop j d)) → r ≡ false
+  pub part_differs : (k : ℕ) → j + k ≤ length d → (r : Bool) → Tells r (take k (drop (at + j) s) ≡ take k (drop j d)) → r ≡ false
       → Tells false (take (length d) (drop at s) ≡ d)
-  part-differs k h r t f = tells_false (λ e. sym f ∙ t.1 (ap (take k) (sym (drop-drop j at s)) ∙ part_same (drop at s) d j k h e))
+  part_differs k h r t f = tells_false (λ e. sym f ∙ t.1 (ap (take k) (sym (drop-drop j at s)) ∙ part_same (drop at s) d j k h e))
 
-  pub byte-differs : j < length d → (get_or s (at + j) 0 ≡ get_or d j 0 → ⊥) → Tells false (take (length d) (drop at s) ≡ d)
-  byte-differs h n =
+  pub byte_differs : j < length d → (get_or s (at + j) 0 ≡ get_or d j 0 → ⊥) → Tells false (take (length d) (drop at s) ≡ d)
+  byte_differs h n =
       tells_false (λ e. absurd (n (sym (get_or-drop at s j 0) ∙ sym (get_or-take (length d) (drop at s) j 0 h) ∙ ap (λ (z : List ℕ). get_or z j 0) e)))
 
   module _ (same : take j (drop at s) ≡ take j d) where
@@ -123,7 +123,7 @@ module _ (s d : List ℕ) (at j : ℕ) where
     pub last-told : (i k : ℕ) → i ≤ j → length d ≡ i + k → (r : Bool) → Tells r (take k (drop (at + i) s) ≡ take k (drop i d))
         → Tells r (take (length d) (drop at s) ≡ d)
     last-told i k h n r t = (
-      λ e. last-same (drop at s) d i j k h n same (ap (take k) (drop-drop i at s) ∙ t.0 e),
+      λ e. last_same (drop at s) d i j k h n same (ap (take k) (drop-drop i at s) ∙ t.0 e),
       λ e. t.1 (ap (take k) (sym (drop-drop i at s)) ∙ part_same (drop at s) d i k (omega arith) e),
     )
 

@@ -46,23 +46,23 @@ sets_same r at k h =
     ∙ take-append-drop at r
 
 module _ {A : Type 0} (size : ℕ) (enc : A → List ℕ) where
-  unfoldable pub storeRing : ℕ → List A → List ℕ → List ℕ
-  storeRing f [] r = r
-  storeRing f (e ∷ es) r = storeRing ((f + 1) % 1024) es (sets r (f * size) (enc e))
+  unfoldable pub store_ring : ℕ → List A → List ℕ → List ℕ
+  store_ring f [] r = r
+  store_ring f (e ∷ es) r = store_ring ((f + 1) % 1024) es (sets r (f * size) (enc e))
 
   -- one more behind the last
-  pub ring-push : (f : ℕ) (es : List A) (e : A) (r : List ℕ) → f < 1024
-      → storeRing f (es ++ (e ∷ [])) r ≡ sets (storeRing f es r) (((f + length es) % 1024) * size) (enc e)
-  unfolding storeRing
-  ring-push f [] e r h = ap (λ (k : ℕ). sets r (k * size) (enc e)) (omega arith)
-  ring-push f (x ∷ es) e r h =
-      ring-push ((f + 1) % 1024) es e (sets r (f * size) (enc x)) (omega arith)
-      ∙ ap (λ (k : ℕ). sets (storeRing ((f + 1) % 1024) es (sets r (f * size) (enc x))) (k * size) (enc e)) (omega arith)
+  pub ring_push : (f : ℕ) (es : List A) (e : A) (r : List ℕ) → f < 1024
+      → store_ring f (es ++ (e ∷ [])) r ≡ sets (store_ring f es r) (((f + length es) % 1024) * size) (enc e)
+  unfolding store_ring
+  ring_push f [] e r h = ap (λ (k : ℕ). sets r (k * size) (enc e)) (omega arith)
+  ring_push f (x ∷ es) e r h =
+      ring_push ((f + 1) % 1024) es e (sets r (f * size) (enc x)) (omega arith)
+      ∙ ap (λ (k : ℕ). sets (store_ring ((f + 1) % 1024) es (sets r (f * size) (enc x))) (k * size) (enc e)) (omega arith)
 
-  pub length-ring : (f : ℕ) (es : List A) (r : List ℕ) → length (storeRing f es r) ≡ length r
-  unfolding storeRing
-  length-ring f [] r = refl
-  length-ring f (e ∷ es) r = length-ring ((f + 1) % 1024) es (sets r (f * size) (enc e)) ∙ length-sets r (f * size) (enc e)
+  pub length_ring : (f : ℕ) (es : List A) (r : List ℕ) → length (store_ring f es r) ≡ length r
+  unfolding store_ring
+  length_ring f [] r = refl
+  length_ring f (e ∷ es) r = length_ring ((f + 1) % 1024) es (sets r (f * size) (enc e)) ∙ length-sets r (f * size) (enc e)
 
   module _ (whole : (x : A) → length (enc x) ≡ size) where
     rows_apart : (i j : ℕ) → i < j → i * size + size ≤ j * size
@@ -81,27 +81,27 @@ module _ {A : Type 0} (size : ℕ) (enc : A → List ℕ) where
 
     -- what stood at a slot before does not matter once the slot is written
     covered : (f : ℕ) (es : List A) (r : List ℕ) (j : ℕ) (x y : A)
-        → sets (storeRing f es (sets r (j * size) (enc x))) (j * size) (enc y) ≡ sets (storeRing f es r) (j * size) (enc y)
-    unfolding storeRing
+        → sets (store_ring f es (sets r (j * size) (enc x))) (j * size) (enc y) ≡ sets (store_ring f es r) (j * size) (enc y)
+    unfolding store_ring
     covered f [] r j x y = sets_again r (j * size) (enc x) (enc y) (whole x ∙ sym (whole y))
     covered f (e ∷ es) r j x y =
         let f' : ℕ = (f + 1) % 1024 in
         by_cases (eqb f j)
         (λ t. let q : f ≡ j = eqb-true f j t in
-        ap (λ (k : ℕ). sets (storeRing f' es (sets (sets r (j * size) (enc x)) (k * size) (enc e))) (j * size) (enc y)) q
-        ∙ ap (λ (z : List ℕ). sets (storeRing f' es z) (j * size) (enc y)) (sets_again r (j * size) (enc x) (enc e) (whole x ∙ sym (whole e)))
-        ∙ ap (λ (k : ℕ). sets (storeRing f' es (sets r (k * size) (enc e))) (j * size) (enc y)) (sym q))
+        ap (λ (k : ℕ). sets (store_ring f' es (sets (sets r (j * size) (enc x)) (k * size) (enc e))) (j * size) (enc y)) q
+        ∙ ap (λ (z : List ℕ). sets (store_ring f' es z) (j * size) (enc y)) (sets_again r (j * size) (enc x) (enc e) (whole x ∙ sym (whole e)))
+        ∙ ap (λ (k : ℕ). sets (store_ring f' es (sets r (k * size) (enc e))) (j * size) (enc y)) (sym q))
         (λ n.
-        ap (λ (z : List ℕ). sets (storeRing f' es z) (j * size) (enc y)) (two r j f x e (λ q. eqb-false f j n (sym q)))
+        ap (λ (z : List ℕ). sets (store_ring f' es z) (j * size) (enc y)) (two r j f x e (λ q. eqb-false f j n (sym q)))
         ∙ covered f' es (sets r (f * size) (enc e)) j x y)
 
     -- one more behind the last of 1,024: the oldest goes
     pub ring-full : (f : ℕ) (x : A) (es : List A) (e : A) (r : List ℕ) → f < 1024 → length es ≡ 1023
-        → storeRing ((f + 1) % 1024) (es ++ (e ∷ [])) r ≡ sets (storeRing f (x ∷ es) r) (f * size) (enc e)
-    unfolding storeRing
+        → store_ring ((f + 1) % 1024) (es ++ (e ∷ [])) r ≡ sets (store_ring f (x ∷ es) r) (f * size) (enc e)
+    unfolding store_ring
     ring-full f x es e r h n =
-        ring-push ((f + 1) % 1024) es e r (omega arith)
-        ∙ ap (λ (k : ℕ). sets (storeRing ((f + 1) % 1024) es r) (k * size) (enc e)) (omega arith)
+        ring_push ((f + 1) % 1024) es e r (omega arith)
+        ∙ ap (λ (k : ℕ). sets (store_ring ((f + 1) % 1024) es r) (k * size) (enc e)) (omega arith)
         ∙ sym (covered ((f + 1) % 1024) es r f x e)
 
   module _ (dec : List ℕ → A) where
@@ -117,13 +117,13 @@ module _ {A : Type 0} (size : ℕ) (enc : A → List ℕ) where
     -- the ring's own records over it: nothing changes
     pub store-ring : (f n : ℕ) (r : List ℕ) → f < 1024 → 1024 * size ≤ length r
         → ((i : ℕ) → i < 1024 → enc (dec (take size (drop (i * size) r))) ≡ take size (drop (i * size) r))
-        → storeRing f (ringOf f n r) r ≡ r
-    unfolding storeRing ringOf
+        → store_ring f (ringOf f n r) r ≡ r
+    unfolding store_ring ringOf
     store-ring f zero r h g q = refl
     store-ring f (suc n) r h g q =
         let m : suc f * size ≤ 1024 * size = mul-le-mul_right size h in
         let m' : f * size + size ≤ length r = let e = suc-mul f size in omega arith in
         let s : sets r (f * size) (enc (dec (take size (drop (f * size) r)))) ≡ r =
         ap (sets r (f * size)) (q f h) ∙ sets_same r (f * size) size m' in
-        ap (storeRing ((f + 1) % 1024) (ringOf ((f + 1) % 1024) n r)) s
+        ap (store_ring ((f + 1) % 1024) (ringOf ((f + 1) % 1024) n r)) s
         ∙ store-ring ((f + 1) % 1024) n r (omega arith) g q

@@ -10,7 +10,7 @@ use Rattle.std.proofs.Math.ListN.{length, take}
 use Rattle.std.proofs.Math.Seq.{sets, length-sets}
 use Rattle.std.proofs.lemmas.Bool.{eqb-false}
 use Rattle.base_cells.specs.Numbers.{take_sets, drop_sets, slice_sets, drop_take}
-use Rattle.base_tables.specs.Ring.{by_cases, storeRing, ringOf}
+use Rattle.base_tables.specs.Ring.{by_cases, store_ring, ringOf}
 
 module _ {A : Type 0} (size : ℕ) (enc : A → List ℕ) (whole : (x : A) → length (enc x) ≡ size) where
   apart : (i j : ℕ) → i < j → i * size + size ≤ j * size
@@ -30,18 +30,18 @@ module _ {A : Type 0} (size : ℕ) (enc : A → List ℕ) (whole : (x : A) → l
 
   -- a slot that none of the records takes
   untouched : (f : ℕ) (es : List A) (r : List ℕ) (j : ℕ) → ((k : ℕ) → k < length es → (f + k) % 1024 ≡ j → ⊥) → f < 1024
-      → take size (drop (j * size) (storeRing size enc f es r)) ≡ take size (drop (j * size) r)
-  unfolding storeRing
+      → take size (drop (j * size) (store_ring size enc f es r)) ≡ take size (drop (j * size) r)
+  unfolding store_ring
   untouched f [] r j n h = refl
   untouched f (e ∷ es) r j n h =
       untouched ((f + 1) % 1024) es (sets r (f * size) (enc e)) j (λ k g q. n (suc k) (omega arith) (omega arith)) (omega arith)
       ∙ other r f j e (λ q. n 0 (omega arith) (omega arith))
 
-  pub ring-read : (dec : List ℕ → A) (f : ℕ) (es : List A) (r : List ℕ) → f < 1024 → length es ≤ 1024 → 1024 * size ≤ length r
-      → ringOf size enc dec f (length es) (storeRing size enc f es r) ≡ map (λ x. dec (enc x)) es
-  unfolding storeRing ringOf
-  ring-read dec f [] r h n g = refl
-  ring-read dec f (e ∷ es) r h n g =
+  pub ring_read : (dec : List ℕ → A) (f : ℕ) (es : List A) (r : List ℕ) → f < 1024 → length es ≤ 1024 → 1024 * size ≤ length r
+      → ringOf size enc dec f (length es) (store_ring size enc f es r) ≡ map (λ x. dec (enc x)) es
+  unfolding store_ring ringOf
+  ring_read dec f [] r h n g = refl
+  ring_read dec f (e ∷ es) r h n g =
       let f' : ℕ = (f + 1) % 1024 in
       let m : suc f * size ≤ 1024 * size = mul-le-mul_right size h in
       let m' : f * size + size ≤ length r = let q = suc-mul f size in omega arith in
@@ -50,4 +50,4 @@ module _ {A : Type 0} (size : ℕ) (enc : A → List ℕ) (whole : (x : A) → l
       (ap dec (untouched f' es s f (λ k p q. omega arith) (omega arith)
       ∙ ap (λ (k : ℕ). take k (drop (f * size) s)) (sym (whole e))
       ∙ slice_sets r (f * size) (enc e) (omega (arith, whole e))))
-      (ring-read dec f' es s (omega arith) (omega arith) (rw length-sets g))
+      (ring_read dec f' es s (omega arith) (omega arith) (rw length-sets g))

@@ -17,21 +17,21 @@ module _ {A : Type 0} (size : ℕ) (dec : List ℕ → A) where
   rows zero l = []
   rows (suc n) l = dec (take size l) ∷ rows n (drop size l)
 
-  pub length-rows : (n : ℕ) (l : List ℕ) → length (rows n l) ≡ n
+  pub length_rows : (n : ℕ) (l : List ℕ) → length (rows n l) ≡ n
   unfolding rows
-  length-rows zero l = refl
-  length-rows (suc n) l = ap suc (length-rows n (drop size l))
+  length_rows zero l = refl
+  length_rows (suc n) l = ap suc (length_rows n (drop size l))
 
-  pub row-at : (n : ℕ) (l : List ℕ) (i : ℕ) (d : A) → i < n → get_or (rows n l) i d ≡ dec (take size (drop (i * size) l))
+  pub row_at_lem : (n : ℕ) (l : List ℕ) (i : ℕ) (d : A) → i < n → get_or (rows n l) i d ≡ dec (take size (drop (i * size) l))
   unfolding rows
-  row-at (suc n) l zero d h = rw zero-mul
-  row-at (suc n) l (suc i) d h = row-at n (drop size l) i d (omega arith) ∙ rw (drop-drop, suc-mul, add_comm size (i * size))
+  row_at_lem (suc n) l zero d h = rw zero-mul
+  row_at_lem (suc n) l (suc i) d h = row_at_lem n (drop size l) i d (omega arith) ∙ rw (drop-drop, suc-mul, add_comm size (i * size))
 
   -- the rows from a place on, and past the last
-  pub rows-rest : (n : ℕ) (l : List ℕ) (i : ℕ) → i < n → drop i (rows n l) ≡ dec (take size (drop (i * size) l)) ∷ drop (i + 1) (rows n l)
-  rows-rest n l i h =
-      drop-cons (rows n l) i (dec []) (let e = length-rows n l in omega arith)
-      ∙ (λ j. row-at n l i (dec []) h j ∷ drop (sym (add-one i) j) (rows n l))
+  pub rows_rest : (n : ℕ) (l : List ℕ) (i : ℕ) → i < n → drop i (rows n l) ≡ dec (take size (drop (i * size) l)) ∷ drop (i + 1) (rows n l)
+  rows_rest n l i h =
+      drop-cons (rows n l) i (dec []) (let e = length_rows n l in omega arith)
+      ∙ (λ j. row_at_lem n l i (dec []) h j ∷ drop (sym (add-one i) j) (rows n l))
 
   pub rows_end : (n : ℕ) (l : List ℕ) (i : ℕ) → n ≤ i → drop i (rows n l) ≡ []
-  rows_end n l i h = drop_of_length-le (rows n l) {i = i} (let e = length-rows n l in omega arith)
+  rows_end n l i h = drop_of_length-le (rows n l) {i = i} (let e = length_rows n l in omega arith)

@@ -29,12 +29,12 @@ use Rattle.state_rules.specs.Places.{table_in, connections_of}
 use Rattle.state_rules.specs.Rows.{conns_in}
 use Rattle.state_rules.specs.Image.{view, store, tested}
 use Rattle.state_image.specs.Updates.{no_conn}
-use Rattle.state_image.specs.Holds.{Held, held-tested}
-use Rattle.state_image.specs.Lift.{lifted, lifted_out, lifted-done, lifted-kept, out-done, out-kept}
+use Rattle.state_image.specs.Holds.{Held, held_tested}
+use Rattle.state_image.specs.Lift.{lifted, lifted_out, lifted_done, lifted_kept, out_done, out_kept}
 use Rattle.state_layout.specs.declared.Found.{Found}
 use Rattle.state_layout.specs.declared.Found.TheVariants.{At, Nowhere}
-use Rattle.conn_lookup.specs.RowTests.{found_of, place-any, place-never}
-use Rattle.conn_removal.specs.Turns.{Turns, found-there, found_nowhere}
+use Rattle.conn_lookup.specs.RowTests.{found_of, place_any, place_never}
+use Rattle.conn_removal.specs.Turns.{Turns, found_there, found_nowhere}
 use Rattle.conn_removal.specs.Removals.{gone_at, closed_is}
 use Rattle.conn_ending.specs.Expiry.{EndsAll}
 
@@ -63,15 +63,15 @@ abbrev pub ClosesAt : ℕ → Triad → ℕ → List ℕ → List ℕ → List �
 ClosesAt i t r s s' out out' = (st : State) (l : List ℕ) → Held s st l → Settles (reply_for t (length out)) (gone_at 2 i st) st r s' out out' l
 
 module _ (i : ℕ) (t : Triad) (s out : List ℕ) where
-  pub close-short : length out < 10 → ClosesAt i t 8 s s out out
-  close-short h st l o =
+  pub close_short : length out < 10 → ClosesAt i t 8 s s out out
+  close_short h st l o =
       let n = close_reply_long t in
       settles_no (reply_for t (length out)) NoRoom (gone_at 2 i st) st s out l
       (ap (λ (b : Bool). cond b (Wrote (close_reply t)) (Refused NoRoom)) (sym (lt-leb (length (close_reply t)) (length out) (omega arith)))) o.holds.is
 
-  pub close-done : 10 ≤ length out → (s' out' : List ℕ) (x : Written) → Turns s s' (gone_at 2 i) → (x, out') ≡ written out (close_reply t) → ClosesAt i t 2560 s s' out out'
+  pub close_done : 10 ≤ length out → (s' out' : List ℕ) (x : Written) → Turns s s' (gone_at 2 i) → (x, out') ≡ written out (close_reply t) → ClosesAt i t 2560 s s' out out'
   unfolding answerNumber
-  close-done h s' out' x d e st l o =
+  close_done h s' out' x d e st l o =
       let n = close_reply_long t in
       let a : Wrote (close_reply t) ≡ reply_for t (length out) =
       ap (λ (b : Bool). cond b (Wrote (close_reply t)) (Refused NoRoom)) (sym (le-leb (length (close_reply t)) (length out) (omega arith))) in
@@ -85,18 +85,18 @@ abbrev pub ClosesFor : Triad → ℕ → List ℕ → List ℕ → List ℕ → 
 ClosesFor t r s s' out out' = (st : State) (l : List ℕ) → Held s st l → Settles (close_for (length out) st (Close t)) (closed t st) st r s' out out' l
 
 module _ (t : Triad) (s out : List ℕ) (n : ℕ) (x : Found) (en : n ≡ connections_of s) (ex : x ≡ found_of (place (conn_triad t) (conns_in n (table_in s)))) where
-  pub close-nothing : x ≡ Nowhere → ClosesFor t 9 s s out out
-  close-nothing e st l o =
+  pub close_nothing : x ≡ Nowhere → ClosesFor t 9 s s out out
+  close_nothing e st l o =
       settles_no (close_for (length out) st (Close t)) NothingThere (closed t st) st s out l
-      (ap (λ (b : Bool). cond b (reply_for t (length out)) (Refused NothingThere)) (sym (place-never (conn_triad t) st.table (found_nowhere (conn_triad t) s n x en ex e st l o))))
+      (ap (λ (b : Bool). cond b (reply_for t (length out)) (Refused NothingThere)) (sym (place_never (conn_triad t) st.table (found_nowhere (conn_triad t) s n x en ex e st l o))))
       o.holds.is
 
-  pub close-found : (i : ℕ) → x ≡ At i → (r : ℕ) (s' out' : List ℕ) → ClosesAt i t r s s' out out' → ClosesFor t r s s' out out'
-  close-found i e r s' out' d st l o =
-      let g = found-there (conn_triad t) s n x en ex i e st l o in
+  pub close_found : (i : ℕ) → x ≡ At i → (r : ℕ) (s' out' : List ℕ) → ClosesAt i t r s s' out out' → ClosesFor t r s s' out out'
+  close_found i e r s' out' d st l o =
+      let g = found_there (conn_triad t) s n x en ex i e st l o in
       let y = d st l o in
       let a : reply_for t (length out) ≡ close_for (length out) st (Close t) =
-      ap (λ (b : Bool). cond b (reply_for t (length out)) (Refused NothingThere)) (sym (place-any (conn_triad t) no_conn st.table i g)) in
+      ap (λ (b : Bool). cond b (reply_for t (length out)) (Refused NothingThere)) (sym (place_any (conn_triad t) no_conn st.table i g)) in
       record {
         number = y.number ∙ ap answerNumber a;
         state = y.state ∙ (λ j. store (cond (is_yes (a j)) (closed_is t st i g j) st) l);
@@ -105,18 +105,18 @@ module _ (t : Triad) (s out : List ℕ) (n : ℕ) (x : Found) (en : n ≡ connec
 
 -- the call on lent bytes
 module _ (request l out : List ℕ) (ok : tested l ≡ true) (b : Bytes l) where
-  pub close-unread : close_of request ≡ NoClose → (4, (l, out)) ≡ lifted_out (close_call request) l out
+  pub close_unread : close_of request ≡ NoClose → (4, (l, out)) ≡ lifted_out (close_call request) l out
   unfolding close_call close_answer close_effect answerNumber
-  close-unread e =
+  close_unread e =
       let a : Refused NotParsed ≡ close_for (length out) (view l) (close_of request) = ap (close_for (length out) (view l)) (sym e) in
-      out-kept (close_call request) l out ok b 4 (ap answerNumber a) (ap (λ (z : Answer). cond (is_yes z) (close_by (view l) (close_of request)) (view l)) (sym a)) (ap answerBytes (sym a))
+      out_kept (close_call request) l out ok b 4 (ap answerNumber a) (ap (λ (z : Answer). cond (is_yes z) (close_by (view l) (close_of request)) (view l)) (sym a)) (ap answerBytes (sym a))
 
-  pub close-read : (t : Triad) → close_of request ≡ Close t → (r : ℕ) (l' out' : List ℕ) → ClosesFor t r l l' out out' → (r, (l', out')) ≡ lifted_out (close_call request) l out
+  pub close_read : (t : Triad) → close_of request ≡ Close t → (r : ℕ) (l' out' : List ℕ) → ClosesFor t r l l' out out' → (r, (l', out')) ≡ lifted_out (close_call request) l out
   unfolding close_call close_answer close_effect
-  close-read t e r l' out' d =
-      let y = d (view l) l (held-tested l ok b) in
+  close_read t e r l' out' d =
+      let y = d (view l) l (held_tested l ok b) in
       let q : Close t ≡ close_of request = sym e in
-      out-done (close_call request) l out ok r l' out' (y.number ∙ ap (λ (z : CloseAnswer). answerNumber (close_for (length out) (view l) z)) q)
+      out_done (close_call request) l out ok r l' out' (y.number ∙ ap (λ (z : CloseAnswer). answerNumber (close_for (length out) (view l) z)) q)
       (y.state ∙ ap (λ (z : CloseAnswer). store (cond (is_yes (close_for (length out) (view l) z)) (close_by (view l) z) (view l)) l) q)
       (y.bytes ∙ ap (λ (z : CloseAnswer). sets out 0 (answerBytes (close_for (length out) (view l) z))) q)
 
@@ -126,19 +126,19 @@ module _ (time : ℕ) (l : List ℕ) (ok : tested l ≡ true) (b : Bytes l) wher
   gone : Answer
   gone = Gone (length (view l).table - length (expire_effect time (view l)).table)
 
-  pub expire-late : 9223372036854775807 < time → (3, l) ≡ lifted (expire_call time) l
+  pub expire_late : 9223372036854775807 < time → (3, l) ≡ lifted (expire_call time) l
   unfolding expire_call expire_answer answerNumber gone
-  expire-late h =
+  expire_late h =
       let a : Refused BadTime ≡ expire_answer time (view l) = ap (λ (v : Bool). cond v gone (Refused BadTime)) (sym (lt-leb time 9223372036854775807 h)) in
-      lifted-kept (expire_call time) l ok b 3 (ap answerNumber a) (ap (λ (z : Answer). cond (is_yes z) (expire_effect time (view l)) (view l)) (sym a))
+      lifted_kept (expire_call time) l ok b 3 (ap answerNumber a) (ap (λ (z : Answer). cond (is_yes z) (expire_effect time (view l)) (view l)) (sym a))
 
-  pub expire-done : time ≤ 9223372036854775807 → (r : ℕ) (l' : List ℕ) → EndsAll time r l l' → (r * 256, l') ≡ lifted (expire_call time) l
+  pub expire_done : time ≤ 9223372036854775807 → (r : ℕ) (l' : List ℕ) → EndsAll time r l l' → (r * 256, l') ≡ lifted (expire_call time) l
   unfolding expire_call expire_answer answerNumber gone
-  expire-done h r l' d =
-      let y = d (view l) l (held-tested l ok b) in
+  expire_done h r l' d =
+      let y = d (view l) l (held_tested l ok b) in
       let a : gone ≡ expire_answer time (view l) = ap (λ (v : Bool). cond v gone (Refused BadTime)) (sym (le-leb time 9223372036854775807 h)) in
       let k : ℕ = length (view l).table - length (expire_effect time (view l)).table in
       let c : r ≡ k = y.count in
       let m : r * 256 ≡ 2 ^ 8 * k = omega arith in
-      lifted-done (expire_call time) l ok (r * 256) l' (m ∙ ap answerNumber a)
+      lifted_done (expire_call time) l ok (r * 256) l' (m ∙ ap answerNumber a)
       (y.held.holds.is ∙ ap (λ (z : Answer). store (cond (is_yes z) (expire_effect time (view l)) (view l)) l) a)

@@ -8,14 +8,14 @@ use Rattle.state_rules.specs.Places.{table_in, connections_of}
 use Rattle.state_rules.specs.Rows.{conns_in}
 use Rattle.state_layout.specs.declared.Found.TheVariants.{Nowhere}
 use Rattle.state_rules.specs.Image.{store}
-use Rattle.state_image.specs.Holds.{Held, Becomes, conns-held}
-use Rattle.state_image.specs.Kept.{suits-fault}
-use Rattle.conn_lookup.specs.RowTests.{found_of, never-place}
+use Rattle.state_image.specs.Holds.{Held, Becomes, conns_held}
+use Rattle.state_image.specs.Kept.{suits_fault}
+use Rattle.conn_lookup.specs.RowTests.{found_of, never_place}
 use Rattle.conn_removal.specs.Turns.{Turns, turn}
-use Rattle.conn_removal.specs.Removals.{Ends, ends-none}
+use Rattle.conn_removal.specs.Removals.{Ends, ends_none}
 
 pub turn_fault : (s s' : List ℕ) (b : Bool) → Becomes s s' (with_fault b) → Turns s s' (with_fault b)
-turn_fault s s' b d = turn s s' (with_fault b) d (λ st l w. suits-fault st l w b) (λ st. omega arith)
+turn_fault s s' b d = turn s s' (with_fault b) d (λ st l w. suits_fault st l w b) (λ st. omega arith)
 
 -- how many went, and what is left
 pub record AllEnded (t r : ℕ) (s' : List ℕ) (st : State) (l : List ℕ) : Type 0 where
@@ -39,7 +39,7 @@ rest_start t n s e st l o =
     record {
       at = st;
       held = o;
-      rest = ap (λ (m : ℕ). repeat m (expired_first t) st) (let w = conns-held s st l o.holds in let q : n - 0 ≡ length st.table = omega arith in q);
+      rest = ap (λ (m : ℕ). repeat m (expired_first t) st) (let w = conns_held s st l o.holds in let q : n - 0 ≡ length st.table = omega arith in q);
     }
 
 pub rest_turn : (t n k : ℕ) (r : Bool) (s₀ s s' : List ℕ) → k < n → Going t n k s₀ s → Ends t r s s' → Going t n (k + 1) s₀ s'
@@ -61,7 +61,7 @@ module _ (t n m : ℕ) (s₀ s : List ℕ) (en : n ≡ connections_of s₀) (em 
   all_of : (st : State) (l : List ℕ) → Held s₀ st l → (at : State) → Held s at l → at ≡ expire_effect t st → AllEnded t (n - m) s st l
   all_of st l o at w q =
       record {
-        count = ap₂ ◌-◌ (en ∙ conns-held s₀ st l o.holds) (em ∙ conns-held s at l w.holds ∙ ap (λ (z : State). length z.table) q);
+        count = ap₂ ◌-◌ (en ∙ conns_held s₀ st l o.holds) (em ∙ conns_held s at l w.holds ∙ ap (λ (z : State). length z.table) q);
         held = subst (λ (z : State). Held s z l) q w;
       }
 
@@ -85,4 +85,4 @@ none_expired t n s en e =
     let z : n - n ≡ 0 = omega arith in
     subst (λ (k : ℕ). EndsAll t k s s) z
     (rest_stop t n n 0 false s s s en en (rest_start t n s en)
-    (ends-none t s n Nowhere en (sym (ap found_of (never-place (expired t) (conns_in n (table_in s)) e))) refl) refl)
+    (ends_none t s n Nowhere en (sym (ap found_of (never_place (expired t) (conns_in n (table_in s)) e))) refl) refl)

@@ -1,7 +1,7 @@
 -- Whether any connection has expired, told by the least of their times.
 use Rattle.std.specs.Prelude.{ℕ, ◌+◌, ◌≤◌, ◌<◌, min, Bool, true, false, ◌||◌, List, ◌≡◌, refl, ltb, drop}
 use Rattle.std.proofs.Common.{ap, sym, ◌∙◌, arith, lt-ltb, le-ltb, ltb-true, ltb-false}
-use Rattle.base_tables.specs.Tables.{rows-rest, rows_end}
+use Rattle.base_tables.specs.Tables.{rows_rest, rows_end}
 use Rattle.rules_laws.specs.ListLaws.{by_cases}
 use Rattle.rules.specs.Lists.{any}
 use Rattle.rules.specs.Removal.{expired}
@@ -38,11 +38,11 @@ module _ (t n : ℕ) (r : List ℕ) where
   one_more m u i least h eu em g =
       let rest : Bool = any (expired t) (drop (i + 1) (conns_in n r)) in
       g
-      ∙ ap (λ (z : List Conn). ltb m t || any (expired t) z) (rows-rest row_size dec_conn n r i h)
+      ∙ ap (λ (z : List Conn). ltb m t || any (expired t) z) (rows_rest row_size dec_conn n r i h)
       ∙ ap (λ (v : ℕ). ltb m t || (ltb v t || rest)) (sym eu)
       ∙ or_or (ltb m t) (ltb u t) rest
       ∙ ap (λ (b : Bool). b || rest) (sym (below_least m u t))
       ∙ ap (λ (v : ℕ). ltb v t || rest) (sym em)
 
-  pub by-least : (m i : ℕ) → n ≤ i → ExpiredSoFar t n r m i → ltb m t ≡ any (expired t) (conns_in n r)
-  by-least m i h g = sym (g ∙ ap (λ (z : List Conn). ltb m t || any (expired t) z) (rows_end row_size dec_conn n r i h) ∙ or_false (ltb m t))
+  pub by_least : (m i : ℕ) → n ≤ i → ExpiredSoFar t n r m i → ltb m t ≡ any (expired t) (conns_in n r)
+  by_least m i h g = sym (g ∙ ap (λ (z : List Conn). ltb m t || any (expired t) z) (rows_end row_size dec_conn n r i h) ∙ or_false (ltb m t))

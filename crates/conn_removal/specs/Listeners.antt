@@ -3,8 +3,8 @@ use Rattle.std.specs.Prelude.{ℕ, ◌+◌, ◌-◌, ◌<◌, Bool, true, false,
 use Rattle.std.proofs.Math.Option.{Option, none, some}
 use Rattle.std.proofs.Common.{ap, sym, subst, ◌∙◌, arith, eq-eqb}
 use Rattle.base_cells.specs.Records.{of_bool}
-use Rattle.rules.specs.Lists.{maybe, find, place, any, keep, withoutFirst}
-use Rattle.rules_laws.specs.ListLaws.{by_cases, clash, find-passes, keep_all, all-to, none_found, without-keep-out}
+use Rattle.rules.specs.Lists.{maybe, find, place, any, keep, without_first}
+use Rattle.rules_laws.specs.ListLaws.{by_cases, clash, find_passes, keep_all, all_to, none_found, without-keep-out}
 use Rattle.rules.specs.State.{State, with_table, is_listener}
 use Rattle.rules.specs.Events.{event_record, appended, pushed, pushed_all}
 use Rattle.rules.specs.Removal.{in_stream, feeds, closed_events}
@@ -21,13 +21,13 @@ use Rattle.state_image.specs.Changes.{row_gone}
 use Rattle.state_searches.specs.Searches.{find_at, without_at}
 use Rattle.state_layout.specs.declared.Found.{Found}
 use Rattle.state_layout.specs.declared.Found.TheVariants.{At, Nowhere}
-use Rattle.conn_lookup.specs.RowTests.{found_of, place-any, place_none, place-never}
+use Rattle.conn_lookup.specs.RowTests.{found_of, place_any, place_none, place_never}
 use Rattle.state_events.specs.Pushes.{told}
-use Rattle.conn_removal.specs.Turns.{Turns, Fewer, turn_as, turn_none, found_in, found-there, found_nowhere, row_held}
+use Rattle.conn_removal.specs.Turns.{Turns, Fewer, turn_as, turn_none, found_in, found_there, found_nowhere, row_held}
 
 -- the first multicast connection of the id closed; all of them
 abbrev pub one_closed : ToId → State → State
-one_closed id st = maybe st (λ c. told 2 c.fixed (with_table (withoutFirst (in_stream id) st.table) st)) (find (in_stream id) st.table)
+one_closed id st = maybe st (λ c. told 2 c.fixed (with_table (without_first (in_stream id) st.table) st)) (find (in_stream id) st.table)
 
 abbrev pub all_closed : ToId → State → State
 all_closed id st =
@@ -48,9 +48,9 @@ keep_none p [] e = refl
 keep_none p (x ∷ xs) e = by_cases (p x) (λ t. absurd (let z : ◌≡◌ {A = ℕ} 0 1 = cc in omega arith)) (λ t. cc (keep_none p xs (cc)))
 
 keep_others : {A : Type 0} (p : A → Bool) (xs : List A) → find p xs ≡ none → keep (λ x. not (p x)) xs ≡ xs
-keep_others p xs e = keep_all (λ x. not (p x)) xs (all-to (λ x. p x ≡ false) (λ x. not (p x) ≡ true) (λ x h. ap not h) xs (none_found p xs e))
+keep_others p xs e = keep_all (λ x. not (p x)) xs (all_to (λ x. p x ≡ false) (λ x. not (p x) ≡ true) (λ x h. ap not h) xs (none_found p xs e))
 
-keep_first : {A : Type 0} (p : A → Bool) (c : A) (xs : List A) → find p xs ≡ some c → keep p xs ≡ c ∷ keep p (withoutFirst p xs)
+keep_first : {A : Type 0} (p : A → Bool) (c : A) (xs : List A) → find p xs ≡ some c → keep p xs ≡ c ∷ keep p (without_first p xs)
 keep_first p c [] e = clash true refl (cc)
 keep_first p c (x ∷ xs) e = by_cases (p x) (λ t. let f : some x ≡ some c = cc in cc) (λ t. cc (keep_first p c xs (cc)))
 
@@ -71,13 +71,13 @@ all_none id st e =
     }
 
 all_found : (id : ToId) (st : State) (c : Conn) → find (in_stream id) st.table ≡ some c
-    → all_closed id (told 2 c.fixed (with_table (withoutFirst (in_stream id) st.table) st)) ≡ all_closed id st
+    → all_closed id (told 2 c.fixed (with_table (without_first (in_stream id) st.table) st)) ≡ all_closed id st
 unfolding pushed event_record appended pushed_all
 all_found id st c e =
     let p : Conn → Bool = in_stream id in
-    let a : keep (λ x. not (p x)) (withoutFirst p st.table) ≡ keep (λ x. not (p x)) st.table =
-    without-keep-out p (λ x. not (p x)) c st.table e (ap not (find-passes p c st.table e)) in
-    let b : c ∷ keep p (withoutFirst p st.table) ≡ keep p st.table = sym (keep_first p c st.table e) in
+    let a : keep (λ x. not (p x)) (without_first p st.table) ≡ keep (λ x. not (p x)) st.table =
+    without-keep-out p (λ x. not (p x)) c st.table e (ap not (find_passes p c st.table e)) in
+    let b : c ∷ keep p (without_first p st.table) ≡ keep p st.table = sym (keep_first p c st.table e) in
     λ j.
     record {
       setup = st.setup;
@@ -93,7 +93,7 @@ pub all_one : (id : ToId) (st : State) → all_closed id (one_closed id st) ≡ 
 all_one id st = go (find (in_stream id) st.table) refl
   where
     go : (o : Option Conn) → find (in_stream id) st.table ≡ o
-        → all_closed id (maybe st (λ c. told 2 c.fixed (with_table (withoutFirst (in_stream id) st.table) st)) o) ≡ all_closed id st
+        → all_closed id (maybe st (λ c. told 2 c.fixed (with_table (without_first (in_stream id) st.table) st)) o) ≡ all_closed id st
     go none e = refl
     go (some c) e = all_found id st c e
 
@@ -114,29 +114,29 @@ pub dropped_none : (s : List ℕ) → Ready s → Dropped false s s
 dropped_none s r = record { ready = r; count = omega arith }
 
 module _ (id : ToId) (s : List ℕ) (n : ℕ) (x : Found) (en : n ≡ connections_of s) (ex : x ≡ found_of (place (in_stream id) (conns_in n (table_in s)))) where
-  pub closes-none : x ≡ Nowhere → Closes id false s s
-  closes-none e st l o =
+  pub closes_none : x ≡ Nowhere → Closes id false s s
+  closes_none e st l o =
       let q : find (in_stream id) st.table ≡ none = place_none (in_stream id) st.table (found_nowhere (in_stream id) s n x en ex e st l o) in
-      let w : st ≡ one_closed id st = ap (maybe st (λ c. told 2 c.fixed (with_table (withoutFirst (in_stream id) st.table) st))) (sym q) in
+      let w : st ≡ one_closed id st = ap (maybe st (λ c. told 2 c.fixed (with_table (without_first (in_stream id) st.table) st))) (sym q) in
       record { held = subst (λ (z : State). Held s z l) w o; none_left = λ h. q }
 
-  pub closes-one : (i : ℕ) → x ≡ At i → (f : Fixed) → f ≡ dec_fixed (row_at (table_in s) i) → (s₁ s₂ : List ℕ) → Turns s s₁ (row_gone i) → Turns s₁ s₂ (told 2 f)
+  pub closes_one : (i : ℕ) → x ≡ At i → (f : Fixed) → f ≡ dec_fixed (row_at (table_in s) i) → (s₁ s₂ : List ℕ) → Turns s s₁ (row_gone i) → Turns s₁ s₂ (told 2 f)
       → Closes id true s s₂
-  closes-one i e f ef s₁ s₂ a b st l o =
+  closes_one i e f ef s₁ s₂ a b st l o =
       let p : Conn → Bool = in_stream id in
-      let g = found-there p s n x en ex i e st l o in
+      let g = found_there p s n x en ex i e st l o in
       let c : Conn = get_or st.table i no_conn in
       let k : f ≡ c.fixed = ef ∙ ap (λ (z : Conn). z.fixed) (row_held s i (found_in p s n x en ex i e) st l o) in
       let w : told 2 f (row_gone i st) ≡ one_closed id st =
       (λ j. told 2 (k j) (with_table (sym (without_at p no_conn st.table i g) j) st))
-      ∙ ap (maybe st (λ c. told 2 c.fixed (with_table (withoutFirst p st.table) st))) (sym (find_at p no_conn st.table i g)) in
+      ∙ ap (maybe st (λ c. told 2 c.fixed (with_table (without_first p st.table) st))) (sym (find_at p no_conn st.table i g)) in
       record {
         held = subst (λ (z : State). Held s₂ z l) w (b (row_gone i st) l (a st l o));
         none_left = λ h. clash true refl h;
       }
 
-  pub dropped-one : (i : ℕ) → x ≡ At i → (s₁ s₂ : List ℕ) → Kept (connections_of s - 1) s s₁ → Kept (connections_of s₁) s₁ s₂ → Dropped true s s₂
-  dropped-one i e s₁ s₂ a b =
+  pub dropped_one : (i : ℕ) → x ≡ At i → (s₁ s₂ : List ℕ) → Kept (connections_of s - 1) s s₁ → Kept (connections_of s₁) s₁ s₂ → Dropped true s s₂
+  dropped_one i e s₁ s₂ a b =
       let h = found_in (in_stream id) s n x en ex i e in
       let p = a.conns in let q = b.conns in
       record { ready = b.ready; count = omega arith }
@@ -164,7 +164,7 @@ closing_turn id go r s₀ s s' g d st l o =
       held = y.held;
       rest = all_one id w.at ∙ w.rest;
       over = λ h. let q = y.none_left h in
-          ap (λ (z : State). find (in_stream id) z.table) (ap (maybe w.at (λ c. told 2 c.fixed (with_table (withoutFirst (in_stream id) w.at.table) w.at))) q) ∙ q;
+          ap (λ (z : State). find (in_stream id) z.table) (ap (maybe w.at (λ c. told 2 c.fixed (with_table (without_first (in_stream id) w.at.table) w.at))) q) ∙ q;
     }
 
 pub closing_end : (id : ToId) (go : Bool) (s₀ s : List ℕ) → Closing id go s₀ s → go ≡ false → Turns s₀ s (all_closed id)
@@ -235,8 +235,8 @@ module _ (k : Kind) (multicast : Bool) (id : ToId) (s : List ℕ) where
   ends_is : (rest : List Conn) (a b : Bool) → feeder k multicast ≡ a → any (feeds id) rest ≡ b → ends_for k multicast id rest ≡ a && not b
   ends_is rest a b ea eb = own_id multicast (not (is_listener k)) (any (feeds id) rest) id.0 ∙ (λ j. ea j && not (eb j))
 
-  pub ends-not : (r : Bool) → r ≡ feeder k multicast → r ≡ false → Turns s s (ended k multicast id)
-  ends-not r er e =
+  pub ends_not : (r : Bool) → r ≡ feeder k multicast → r ≡ false → Turns s s (ended k multicast id)
+  ends_not r er e =
       turn_none s (ended k multicast id)
       (λ st l o. ended_when k multicast id st false (ends_is st.table false (any (feeds id) st.table) (sym er ∙ e) refl))
 
@@ -246,10 +246,10 @@ module _ (k : Kind) (multicast : Bool) (id : ToId) (s : List ℕ) where
     ends-fed i ei =
         turn_none s (ended k multicast id)
         (λ st l o. ended_when k multicast id st false
-        (ends_is st.table true true (sym er ∙ e) (place-any (feeds id) no_conn st.table i (found-there (feeds id) s n x en ex i ei st l o))))
+        (ends_is st.table true true (sym er ∙ e) (place_any (feeds id) no_conn st.table i (found_there (feeds id) s n x en ex i ei st l o))))
 
     pub ends-all : x ≡ Nowhere → (s' : List ℕ) → Turns s s' (all_closed id) → Turns s s' (ended k multicast id)
     ends-all ei s' d =
         turn_as s s' (all_closed id) (ended k multicast id) d
         (λ st l o. ended_when k multicast id st true
-        (ends_is st.table true false (sym er ∙ e) (place-never (feeds id) st.table (found_nowhere (feeds id) s n x en ex ei st l o))))
+        (ends_is st.table true false (sym er ∙ e) (place_never (feeds id) st.table (found_nowhere (feeds id) s n x en ex ei st l o))))

@@ -4,7 +4,7 @@ use Rattle.std.proofs.Math.Bool.{true}
 use Rattle.std.proofs.Math.Option.{some}
 use Rattle.std.proofs.Math.Path.{◌≡◌, ap, sym, subst}
 use Rattle.std.proofs.Common.{◌∙◌, arith}
-use Rattle.rules.specs.Lists.{place, withoutFirst}
+use Rattle.rules.specs.Lists.{place, without_first}
 use Rattle.rules.specs.State.{State, with_fault}
 use Rattle.rules.specs.declared.Event.{Event}
 use Rattle.rules.specs.declared.Event.TheVariants.{Closed, TimedOut}
@@ -26,7 +26,7 @@ use Rattle.state_layout.specs.declared.Found.{Found}
 use Rattle.state_layout.specs.declared.Found.TheVariants.{At, Nowhere}
 use Rattle.conn_lookup.specs.RowTests.{found_of, place_none}
 use Rattle.state_events.specs.Pushes.{told}
-use Rattle.conn_removal.specs.Turns.{Turns, Fewer, found-there, found_nowhere, row_held}
+use Rattle.conn_removal.specs.Turns.{Turns, Fewer, found_there, found_nowhere, row_held}
 use Rattle.conn_removal.specs.Hands.{handed, idled}
 use Rattle.conn_removal.specs.Listeners.{ended}
 
@@ -42,8 +42,8 @@ module _ (s s₁ s₂ s₃ s₄ : List ℕ) where
       let st₂ : State = ended f.kind f.multicast f.toid st₁ in
       d (idled f.kind f.output st₂) l (c st₂ l (b st₁ l (a st l o)))
 
-  pub fewer-follows : Kept (connections_of s) s s₁ → Fewer s₁ s₂ → Kept (connections_of s₂) s₂ s₃ → Kept (connections_of s₃) s₃ s₄ → Fewer s s₄
-  fewer-follows a b c d =
+  pub fewer_follows : Kept (connections_of s) s s₁ → Fewer s₁ s₂ → Kept (connections_of s₂) s₂ s₃ → Kept (connections_of s₃) s₃ s₄ → Fewer s s₄
+  fewer_follows a b c d =
       let p = a.conns in let q = b.fewer in let r = c.conns in let u = d.conns in
       record { ready = d.ready; fewer = omega arith }
 
@@ -78,13 +78,13 @@ module _ (p : Conn → Bool) (st : State) (i : ℕ) (g : place p st.table ≡ so
   abbrev c : Conn
   c = get_or st.table i no_conn
 
-  closed_at : removed false Closed c (withoutFirst p st.table) st ≡ gone_at 2 i st
+  closed_at : removed false Closed c (without_first p st.table) st ≡ gone_at 2 i st
   unfolding removed pushed event_record
   closed_at = ap (after st.fault (Closed (info_of st.setup c.fixed)) c st) (without_at p no_conn st.table i g)
 
-  timed-at : removed true TimedOut c (withoutFirst p st.table) st ≡ with_fault true (gone_at 3 i st)
+  timed_at : removed true TimedOut c (without_first p st.table) st ≡ with_fault true (gone_at 3 i st)
   unfolding removed pushed event_record
-  timed-at = ap (after true (TimedOut (info_of st.setup c.fixed)) c st) (without_at p no_conn st.table i g)
+  timed_at = ap (after true (TimedOut (info_of st.setup c.fixed)) c st) (without_at p no_conn st.table i g)
 
 -- close removes the connection of the triad
 pub closed_is : (t : Triad) (st : State) (i : ℕ) → place (conn_triad t) st.table ≡ some i → gone_at 2 i st ≡ closed t st
@@ -94,7 +94,7 @@ closed_is t st i g = sym (closed_at (conn_triad t) st i g) ∙ ap (removed_if fa
 -- expiry removes the first that has expired, and sets the fault mark
 pub expired_is : (t : ℕ) (st : State) (i : ℕ) → place (expired t) st.table ≡ some i → with_fault true (gone_at 3 i st) ≡ expired_first t st
 unfolding expired_first
-expired_is t st i g = sym (timed-at (expired t) st i g) ∙ ap (removed_if true TimedOut (expired t) st) (sym (find_at (expired t) no_conn st.table i g))
+expired_is t st i g = sym (timed_at (expired t) st i g) ∙ ap (removed_if true TimedOut (expired t) st) (sym (find_at (expired t) no_conn st.table i g))
 
 -- ---- expiry: none has expired, or the first that has gone
 
@@ -106,16 +106,16 @@ abbrev pub Ends : ℕ → Bool → List ℕ → List ℕ → Type 0
 Ends t r s s' = (st : State) (l : List ℕ) → Held s st l → Ended t r s' st l
 
 module _ (t : ℕ) (s : List ℕ) (n : ℕ) (x : Found) (en : n ≡ connections_of s) (ex : x ≡ found_of (place (expired t) (conns_in n (table_in s)))) where
-  pub ends-none : x ≡ Nowhere → Ends t false s s
+  pub ends_none : x ≡ Nowhere → Ends t false s s
   unfolding expired_first
-  ends-none e st l o =
+  ends_none e st l o =
       let q : st ≡ expired_first t st = ap (removed_if true TimedOut (expired t) st) (sym (place_none (expired t) st.table (found_nowhere (expired t) s n x en ex e st l o))) in
       record { held = subst (λ (z : State). Held s z l) q o; none_left = λ h. sym q }
 
-  pub ends-one : (i : ℕ) → x ≡ At i → (s₁ s₂ : List ℕ) → Turns s s₁ (gone_at 3 i) → Turns s₁ s₂ (with_fault true) → Ends t true s s₂
+  pub ends_one : (i : ℕ) → x ≡ At i → (s₁ s₂ : List ℕ) → Turns s s₁ (gone_at 3 i) → Turns s₁ s₂ (with_fault true) → Ends t true s s₂
   unfolding expired_first
-  ends-one i e s₁ s₂ a b st l o =
-      let g = found-there (expired t) s n x en ex i e st l o in
+  ends_one i e s₁ s₂ a b st l o =
+      let g = found_there (expired t) s n x en ex i e st l o in
       let q : with_fault true (gone_at 3 i st) ≡ expired_first t st = expired_is t st i g in
       record {
         held = subst (λ (z : State). Held s₂ z l) q (b (gone_at 3 i st) l (a st l o));

@@ -2,7 +2,7 @@
 use Rattle.std.specs.Prelude.{ℕ, ◌≤◌, ◌<◌, Bool, List, ◌≡◌, length, get_or}
 use Rattle.std.proofs.Math.Option.{none, some}
 use Rattle.std.proofs.Common.{ap, sym, subst, ◌∙◌, arith}
-use Rattle.base_tables.specs.Tables.{rows, length-rows}
+use Rattle.base_tables.specs.Tables.{rows, length_rows}
 use Rattle.rules.specs.Lists.{place}
 use Rattle.rules.specs.State.{State}
 use Rattle.rules.specs.Events.{info_of, info_record}
@@ -12,10 +12,10 @@ use Rattle.state_rules.specs.Places.{table_in, row_size, connections_of}
 use Rattle.state_rules.specs.Rows.{dec_conn, conn_at, conns_in}
 use Rattle.state_image.specs.Fits.{Suits}
 use Rattle.state_image.specs.Updates.{no_conn}
-use Rattle.state_image.specs.Holds.{Held, Ready, Becomes, BecomesHeld, conns-held, table-held, conn-held}
-use Rattle.state_image.specs.Kept.{Kept, length_without, suits-removed}
+use Rattle.state_image.specs.Holds.{Held, Ready, Becomes, BecomesHeld, conns_held, table_held, conn_held}
+use Rattle.state_image.specs.Kept.{Kept, length_without, suits_removed}
 use Rattle.state_image.specs.Changes.{row_gone, suits_pushed}
-use Rattle.state_searches.specs.Searches.{place-in}
+use Rattle.state_searches.specs.Searches.{place_in_lem}
 use Rattle.state_records.specs.Fields.{length_info}
 use Rattle.state_events.specs.Pushes.{told}
 use Rattle.state_layout.specs.declared.Found.{Found}
@@ -61,7 +61,7 @@ turn_none s g e st l o = subst (λ (z : State). Held s z l) (e st l o) o
 pub turn_gone : (s s' : List ℕ) (i : ℕ) → BecomesHeld s s' (row_gone i) → Turns s s' (row_gone i)
 turn_gone s s' i b st l o =
     record {
-      holds = record { is = b st l o; suits = suits-removed st l o.holds.suits i };
+      holds = record { is = b st l o; suits = suits_removed st l o.holds.suits i };
       fewer = let a = length_without st.table i in let q = o.fewer in omega arith;
     }
 
@@ -76,19 +76,19 @@ turn_told s s' what f b =
 module _ (p : Conn → Bool) (s : List ℕ) (n : ℕ) (x : Found) (en : n ≡ connections_of s) (ex : x ≡ found_of (place p (conns_in n (table_in s)))) where
   held_place : (st : State) (l : List ℕ) → Held s st l → found_of (place p st.table) ≡ x
   held_place st l o =
-      sym (ex ∙ ap (λ (k : ℕ). found_of (place p (conns_in k (table_in s)))) en ∙ ap (λ (z : List Conn). found_of (place p z)) (table-held s st l o.holds))
+      sym (ex ∙ ap (λ (k : ℕ). found_of (place p (conns_in k (table_in s)))) en ∙ ap (λ (z : List Conn). found_of (place p z)) (table_held s st l o.holds))
 
   pub found_in : (i : ℕ) → x ≡ At i → i < connections_of s
   found_in i e =
-      let z = place-in p no_conn (conns_in n (table_in s)) i (found_at (place p (conns_in n (table_in s))) i (sym ex ∙ e)) in
-      let w = length-rows row_size dec_conn n (table_in s) in omega arith
+      let z = place_in_lem p no_conn (conns_in n (table_in s)) i (found_at (place p (conns_in n (table_in s))) i (sym ex ∙ e)) in
+      let w = length_rows row_size dec_conn n (table_in s) in omega arith
 
-  pub found-there : (i : ℕ) → x ≡ At i → (st : State) (l : List ℕ) → Held s st l → place p st.table ≡ some i
-  found-there i e st l o = found_at (place p st.table) i (held_place st l o ∙ e)
+  pub found_there : (i : ℕ) → x ≡ At i → (st : State) (l : List ℕ) → Held s st l → place p st.table ≡ some i
+  found_there i e st l o = found_at (place p st.table) i (held_place st l o ∙ e)
 
   pub found_nowhere : x ≡ Nowhere → (st : State) (l : List ℕ) → Held s st l → place p st.table ≡ none
   found_nowhere e st l o = found_none (place p st.table) (held_place st l o ∙ e)
 
 -- a row that is read is the connection's
 pub row_held : (s : List ℕ) (i : ℕ) → i < connections_of s → (st : State) (l : List ℕ) → Held s st l → conn_at (table_in s) i ≡ get_or st.table i no_conn
-row_held s i p st l o = let n = conns-held s st l o.holds in conn-held s st l o.holds i (omega arith)
+row_held s i p st l o = let n = conns_held s st l o.holds in conn_held s st l o.holds i (omega arith)

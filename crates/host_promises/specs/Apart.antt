@@ -13,7 +13,7 @@ use Rattle.rules.specs.Calls.{Call, answer, next, run}
 use Rattle.state_rules.specs.Image.{view, tested}
 use Rattle.rules_isolation.specs.Demand.{Same_expiries, Answered_alike, All_answered_alike, Never_owned, other, demand_3, inputs_equal}
 use Rattle.app_starting.specs.Block.{setup_given, setup_call}
-use Rattle.app_starting.specs.Calls.{setup-fresh}
+use Rattle.app_starting.specs.Calls.{setup_fresh}
 use Rattle.host_runs.specs.Contracts.{Said, Answers}
 use Rattle.host_runs.specs.HostCalls.{HostCall, contract_of, call_of}
 use Rattle.host_promises.specs.Rows.{conns, conns_view}
@@ -96,40 +96,40 @@ module _ (l block eds : List ℕ) (seed : ℕ) (s : List ℕ) (z : (0, s) ≡ se
   abbrev begun : State
   begun = fresh (setup_given block eds) seed
 
-  is-begun : (tested s ≡ true) × (view s ≡ begun)
-  is-begun =
-      let f = setup-fresh l block eds seed (sym (ap (λ (x : ℕ × List ℕ). x.0) z)) in
+  is_begun : (tested s ≡ true) × (view s ≡ begun)
+  is_begun =
+      let f = setup_fresh l block eds seed (sym (ap (λ (x : ℕ × List ℕ). x.0) z)) in
       let b : s ≡ (setup_call l block eds seed).1 = ap (λ (x : ℕ × List ℕ). x.1) z in
       (ap tested b ∙ f.0, ap view b ∙ f.1)
 
-  same-premise : Same_expiries (paired p) begun begun
-  same-premise = subst (λ (x : State). Same_expiries (paired p) x x) is-begun.1 (premise p is-begun.0 is-begun.0 h)
+  same_premise : Same_expiries (paired p) begun begun
+  same_premise = subst (λ (x : State). Same_expiries (paired p) x x) is_begun.1 (premise p is_begun.0 is_begun.0 h)
 
-  first-is : view s' ≡ run (firsts p) begun
-  first-is = (both_run p is-begun.0 is-begun.0).0 ∙ ap (run (firsts p)) is-begun.1
+  first_is : view s' ≡ run (firsts p) begun
+  first_is = (both_run p is_begun.0 is_begun.0).0 ∙ ap (run (firsts p)) is_begun.1
 
   second_is : view s'' ≡ run (seconds p) begun
-  second_is = (both_run p is-begun.0 is-begun.0).1 ∙ ap (run (seconds p)) is-begun.1
+  second_is = (both_run p is_begun.0 is_begun.0).1 ∙ ap (run (seconds p)) is_begun.1
 
-  pub demand-3-on-bytes : Separate p
-  demand-3-on-bytes =
-      let d = demand_3 A (setup_given block eds) seed (paired p) same-premise in
+  pub demand_3_on_bytes : Separate p
+  demand_3_on_bytes =
+      let d = demand_3 A (setup_given block eds) seed (paired p) same_premise in
       record {
         connections =
-            ap (keep (other A)) (sym (conns_view s')) ∙ ap (λ (x : State). keep (other A) x.table) first-is
+            ap (keep (other A)) (sym (conns_view s')) ∙ ap (λ (x : State). keep (other A) x.table) first_is
             ∙ d.connections
             ∙ sym (ap (λ (x : State). keep (other A) x.table) second_is) ∙ ap (keep (other A)) (conns_view s'');
-        answers = all_same p is-begun.0 is-begun.0 (subst (λ (x : State). All_answered_alike (paired p) x x) (sym is-begun.1) d.answers);
+        answers = all_same p is_begun.0 is_begun.0 (subst (λ (x : State). All_answered_alike (paired p) x x) (sym is_begun.1) d.answers);
         assemblies =
             λ i n.
-            ap (λ (x : State). content_at x i) first-is
-            ∙ d.assemblies i (subst (λ (x : State). Never_owned A i (firsts p) x) is-begun.1 (unowned i p is-begun.0 is-begun.0 n))
+            ap (λ (x : State). content_at x i) first_is
+            ∙ d.assemblies i (subst (λ (x : State). Never_owned A i (firsts p) x) is_begun.1 (unowned i p is_begun.0 is_begun.0 n))
             ∙ sym (ap (λ (x : State). content_at x i) second_is);
       }
 
   -- nobody owns an input or a configuration, so they are equal always
-  pub inputs-equal-on-bytes : (i : ℕ) → is_output (shape_at (setup_given block eds) i).kind ≡ false → content_at (view s') i ≡ content_at (view s'') i
-  inputs-equal-on-bytes i n =
-      ap (λ (x : State). content_at x i) first-is
-      ∙ inputs_equal A (setup_given block eds) seed (paired p) same-premise i n
+  pub inputs_equal_on_bytes : (i : ℕ) → is_output (shape_at (setup_given block eds) i).kind ≡ false → content_at (view s') i ≡ content_at (view s'') i
+  inputs_equal_on_bytes i n =
+      ap (λ (x : State). content_at x i) first_is
+      ∙ inputs_equal A (setup_given block eds) seed (paired p) same_premise i n
       ∙ sym (ap (λ (x : State). content_at x i) second_is)

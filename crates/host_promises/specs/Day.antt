@@ -104,39 +104,39 @@ module _ (s s₁ s₂ s₃ : List ℕ) (a b c : Said) (set : (0, s) ≡ setup_ca
   abbrev before : List Turn
   before = (CCall.On opens, a) ∷ (CCall.On hears, b) ∷ []
 
-  ran-before : Ran before s s₂
-  ran-before = one (CCall.On opens) a opening (one (CCall.On hears) b hearing none)
+  ran_before : Ran before s s₂
+  ran_before = one (CCall.On opens) a opening (one (CCall.On hears) b hearing none)
 
   -- the application is told run, and the frame's bytes
-  pub told-run : (c.number ≡ 256 * 3) × (c.output ≡ 1 ∷ 0xAA ∷ 0xBB ∷ [])
+  pub told_run : (c.number ≡ 256 * 3) × (c.output ≡ 1 ∷ 0xAA ∷ 0xBB ∷ [])
   unfolding answerNumber
-  told-run =
+  told_run =
       let f = (run_is_ruled (replicate state_size 0) block [] 4 s set ran).answers.1.1.0 in
       let e : answer (call_of reads) (run (call_of opens ∷ call_of hears ∷ []) (fresh (setup_given block []) 4)) ≡ Wrote (1 ∷ 0xAA ∷ 0xBB ∷ []) =
       ap (λ (u : Setup). answer (call_of reads) (run (call_of opens ∷ call_of hears ∷ []) (fresh u 4))) block_says ∙ computed.0 in
       (f.0 ∙ ap answerNumber e, f.1 ∙ ap (λ (x : Answer). sets (replicate 3 0) 0 (answerBytes x)) e)
 
   -- so a row of the table owns it
-  pub its-owner : (i : ℕ) × (place_of is_output (view s₂).setup 150 ≡ some i) × Owner s₂ i
-  its-owner =
-      run_read (held (replicate state_size 0) block [] 4 set ran-before) 150 (replicate 3 0) s₃ c reading
-      (ap (λ (n : ℕ). n % 256) told-run.0) (ap (λ (x : List ℕ). get_or x 0 0) told-run.1)
+  pub its_owner : (i : ℕ) × (place_of is_output (view s₂).setup 150 ≡ some i) × Owner s₂ i
+  its_owner =
+      run_read (held (replicate state_size 0) block [] 4 set ran_before) 150 (replicate 3 0) s₃ c reading
+      (ap (λ (n : ℕ). n % 256) told_run.0) (ap (λ (x : List ℕ). get_or x 0 0) told_run.1)
 
   -- and the promise holds of it: what was read is the last word of the output's live owner
-  pub its-word : let u : Setup = setup_given block [] in Gives (said_by u 0 (last_word u 150 0 before)) (replicate 3 0) c
+  pub its_word : let u : Setup = setup_given block [] in Gives (said_by u 0 (last_word u 150 0 before)) (replicate 3 0) c
   unfolding place_of
-  its-word =
+  its_word =
       let there : place_of is_output (setup_given block []) 150 ≡ some 0 = ap (λ (u : Setup). place_of is_output u 150) block_says in
-      output-is-the-last-word (replicate state_size 0) block [] 4 s set (omega arith) 150 0 there ran-before (refl, (refl, tt))
+      output-is-the-last-word (replicate state_size 0) block [] 4 s set (omega arith) 150 0 there ran_before (refl, (refl, tt))
       (few_calls before (omega arith)) (replicate 3 0) s₃ c reading
 
 -- ---- with the expiry call before the read, the run byte means that the owner was heard
 
 module _ (s s₁ s₂ s₃ s₄ : List ℕ) (a b d c : Said) (set : (0, s) ≡ setup_call (replicate state_size 0) block [] 4) (opening : Met (contract_of opens) s s₁ a)
     (hearing : Met (contract_of hears) s₁ s₂ b) (expiring : Met (contract_of expires) s₂ s₃ d) (reading : Met (contract_of reads) s₃ s₄ c) where
-  pub its-owner-was-heard : Heard_lately 3000 (last_word (setup_given block []) 150 0 ((CCall.On opens, a) ∷ (CCall.On hears, b) ∷ (CCall.On expires, d) ∷ []))
+  pub its_owner_was_heard : Heard_lately 3000 (last_word (setup_given block []) 150 0 ((CCall.On opens, a) ∷ (CCall.On hears, b) ∷ (CCall.On expires, d) ∷ []))
   unfolding place_of answerNumber
-  its-owner-was-heard =
+  its_owner_was_heard =
       let ran-all : Ran ((CCall.On opens, a) ∷ (CCall.On hears, b) ∷ (CCall.On expires, d) ∷ (CCall.On reads, c) ∷ []) s s₄ =
       one (CCall.On opens) a opening (one (CCall.On hears) b hearing (one (CCall.On expires) d expiring (one (CCall.On reads) c reading none))) in
       let f = (run_is_ruled (replicate state_size 0) block [] 4 s set ran-all).answers.1.1 in
@@ -173,5 +173,5 @@ lane_runs =
     let s : List ℕ = started block [] 4 in
     let s₁ : List ℕ = (after_open s).1.0 in
     let s₂ : List ℕ = (after_frame s₁).1 in
-    told-run s s₁ s₂ (after_read s₂).1.0 (saying (after_open s).0 (after_open s).1.1) (saying (after_frame s₁).0 []) (saying (after_read s₂).0 (after_read s₂).1.1)
+    told_run s s₁ s₂ (after_read s₂).1.0 (saying (after_open s).0 (after_open s).1.1) (saying (after_frame s₁).0 []) (saying (after_read s₂).0 (after_read s₂).1.1)
     begins refl refl refl

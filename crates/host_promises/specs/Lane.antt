@@ -14,17 +14,17 @@ use Rattle.rules.specs.Checks.{place_of}
 use Rattle.rules.specs.Calls
 use Rattle.rules.specs.Calls.{Call, answer, next, run}
 use Rattle.state_rules.specs.Image.{view, tested}
-use Rattle.rules_steps.specs.Steps.{log, News, Opening, Closing, Hearing, Expiring, Nothing, news, learnt, history, history-next, run_next}
+use Rattle.rules_steps.specs.Steps.{log, News, Opening, Closing, Hearing, Expiring, Nothing, news, learnt, history, history_next, run_next}
 use Rattle.rules_lastword.specs.Words.{Word, word_of, no_word, in_run, holds, opens, early}
 use Rattle.rules_lastword.specs.LastWord.{lane-obeys, host-reads-the-word}
-use Rattle.rules_lastword.specs.Clearing.{Heard_lately, in-run-was-heard}
+use Rattle.rules_lastword.specs.Clearing.{Heard_lately, in_run_was_heard}
 use Rattle.app_starting.specs.Block.{setup_given, setup_call}
 use Rattle.host_runs.specs.Contracts.{Said, Met, Told}
 use Rattle.host_runs.specs.HostCalls.{HostCall, contract_of, call_of, CCall, contract}
 use Rattle.host_runs.specs.Steps.{agrees}
 use Rattle.host_runs.specs.Runs.{Turn, Ran, none, one, run_is_ruled}
 use Rattle.host_promises.specs.Owners.{late_refused}
-use Rattle.host_promises.specs.Logs.{calls_of, ruled, log_of, anew, One_setup, Looks, history-same, run_same}
+use Rattle.host_promises.specs.Logs.{calls_of, ruled, log_of, anew, One_setup, Looks, history_same, run_same}
 
 -- ---- what the calls made and the answers given tell
 
@@ -175,12 +175,12 @@ module _ (l block eds : List ℕ) (seed : ℕ) (s : List ℕ) (e : (0, s) ≡ se
     as-run = let f = run_is_ruled l block eds seed s e r in f.holds ∙ run_same ts (fresh u seed) f.answers same
 
     as-opens : history opens (log (calls_of ts) (fresh u seed)) 0 ≡ opens_in ts
-    as-opens = sym (history-same opens opens_look ts (fresh u seed) 0 (run_is_ruled l block eds seed s e r).answers same)
+    as-opens = sym (history_same opens opens_look ts (fresh u seed) 0 (run_is_ruled l block eds seed s e r).answers same)
 
     as-word : (n i : ℕ) → history (word_of u n (shape_at u i).size) (log (calls_of ts) (fresh u seed)) no_word ≡ last_word u n i ts
     as-word n i =
         let size = (shape_at u i).size in
-        sym (history-same (word_of u n size) (word_looks u n size) ts (fresh u seed) no_word (run_is_ruled l block eds seed s e r).answers same)
+        sym (history_same (word_of u n size) (word_looks u n size) ts (fresh u seed) no_word (run_is_ruled l block eds seed s e r).answers same)
 
   module _ (n i : ℕ) (there : place_of is_output u n ≡ some i) where
     -- WHAT OUTPUT ANSWERS is the last word of its live owner
@@ -211,7 +211,7 @@ module _ (l block eds : List ℕ) (seed : ℕ) (s : List ℕ) (e : (0, s) ≡ se
         let more = calls_more ts (HostCall.Expire t) a in
         let few₀ : early (history opens (log cs st) 0) ≡ true = ap early (as-opens r same) ∙ few in
         let few₁ : early (history opens (log (cs ++ (c ∷ [])) st) 0) ≡ true =
-        ap early (history-next opens cs c st 0 ∙ no-open (is_yes (answer c (run cs st))) t (history opens (log cs st) 0)) ∙ few₀ in
+        ap early (history_next opens cs c st 0 ∙ no-open (is_yes (answer c (run cs st))) t (history opens (log cs st) 0)) ∙ few₀ in
         let w = as-word r' same' n i in
         let few₂ : early (opens_in (ts ++ ((CCall.On (HostCall.Expire t), a) ∷ []))) ≡ true =
         ap early (sym (as-opens r' same') ∙ ap (λ (x : List Call). history opens (log x st) 0) more) ∙ few₁ in
@@ -219,7 +219,7 @@ module _ (l block eds : List ℕ) (seed : ℕ) (s : List ℕ) (e : (0, s) ≡ se
         let w' = ap (λ (x : List Call). history (word_of u n (shape_at u i).size) (log x st) no_word) (sym more) ∙ w in
         let runs : (content_at (next c (run cs st)) i).run ≡ true =
         ap (λ (x : State). (content_at x i).run) (sym (run_next cs c st)) ∙ (lane-obeys u n i there seed small (cs ++ (c ∷ [])) few₁).run ∙ ap in_run w' ∙ says in
-        subst (Heard_lately t) w' (in-run-was-heard u n i there seed small cs few₀ t (in-time (run_is_ruled l block eds seed s e r).passes) runs)
+        subst (Heard_lately t) w' (in_run_was_heard u n i there seed small cs few₀ t (in-time (run_is_ruled l block eds seed s e r).passes) runs)
       where
         no-open : (q : Bool) (t d : ℕ) → learnt opens (cond q (Expiring t) Nothing) d ≡ d
         no-open true t d = refl

@@ -146,64 +146,64 @@ setup_left block eds seed st a h n =
     (λ y. rw y refl)
 
 module _ {G : Type 0} (r : Reading G) (looks : Looks r) where
-  open-learnt : (t service : ℕ) (request : List ℕ) (g : Origin) (room : ℕ) (x y : Answer) (w : G) → is_yes x ≡ is_yes y
+  open_learnt : (t service : ℕ) (request : List ℕ) (g : Origin) (room : ℕ) (x y : Answer) (w : G) → is_yes x ≡ is_yes y
       → (is_yes y ≡ true → le 4 (answerBytes x) 0 ≡ le 4 (answerBytes y) 0) → (o : OpenAnswer) → open_asked service request ≡ o
       → learnt r (news (Calls.Open t service request g room) x) w ≡ learnt r (news (Calls.Open t service request g room) y) w
-  open-learnt t service request g room x y w e same NoOpen k = by_cases (is_yes y) (λ z. rw (k, e ∙ z, z) refl) (λ z. rw (e ∙ z, z) refl)
-  open-learnt t service request g room x y w e same (Open q) k = by_cases (is_yes y) (λ z. rw (k, e ∙ z, z) (looks t request q g x y w (same z))) (λ z. rw (e ∙ z, z) refl)
+  open_learnt t service request g room x y w e same NoOpen k = by_cases (is_yes y) (λ z. rw (k, e ∙ z, z) refl) (λ z. rw (e ∙ z, z) refl)
+  open_learnt t service request g room x y w e same (Open q) k = by_cases (is_yes y) (λ z. rw (k, e ∙ z, z) (looks t request q g x y w (same z))) (λ z. rw (e ∙ z, z) refl)
 
   -- of the calls that bring no news
-  no-news : (b c : Bool) (w : G) → learnt r (cond b Nothing Nothing) w ≡ learnt r (cond c Nothing Nothing) w
-  no-news true true w = refl
-  no-news true false w = refl
-  no-news false true w = refl
-  no-news false false w = refl
+  no_news : (b c : Bool) (w : G) → learnt r (cond b Nothing Nothing) w ≡ learnt r (cond c Nothing Nothing) w
+  no_news true true w = refl
+  no_news true false w = refl
+  no_news false true w = refl
+  no_news false false w = refl
 
   -- ONE CALL: what is learnt from what was seen is what is learnt from the rules' answer
-  learnt-same : (c : HostCall) (st : State) (a : Said) (w : G) → Answers (contract_of c) st (answer (call_of c) st) a
+  learnt_same : (c : HostCall) (st : State) (a : Said) (w : G) → Answers (contract_of c) st (answer (call_of c) st) a
       → learnt r (news (call_of c) (seen a)) w ≡ learnt r (news (call_of c) (answer (call_of c) st)) w
-  learnt-same (HostCall.Open time service request peer local mask given address port ioport out) st a w h =
+  learnt_same (HostCall.Open time service request peer local mask given address port ioport out) st a w h =
       let g : Origin = origin_of peer local mask given address port ioport in
       let x : Answer = (open_call time service request g (length out) st).0 in
       let e = seen_yes x a h.0 in
-      open-learnt time service request g (length out) (seen a) x w e
+      open_learnt time service request g (length out) (seen a) x w e
       (λ y. ap (λ (l : List ℕ). le 4 l 0) (id_seen a (e ∙ y) ∙ h.1) ∙ open_stands time service request g out st y) (open_asked service request) refl
-  learnt-same (HostCall.Close request out) st a w h =
+  learnt_same (HostCall.Close request out) st a w h =
       let x : Answer = answer (Calls.Close request (length out)) st in
       let e = seen_yes x a h.0 in
       by_cases (is_yes x) (λ y. rw (e ∙ y, y) refl) (λ y. rw (e ∙ y, y) refl)
-  learnt-same (HostCall.Receive time from frame) st a w h =
+  learnt_same (HostCall.Receive time from frame) st a w h =
       let x : Answer = answer (Calls.Receive time from frame) st in
       let e = seen_yes x a h in
       by_cases (is_yes x) (λ y. rw (e ∙ y, y) refl) (λ y. rw (e ∙ y, y) refl)
-  learnt-same (HostCall.Expire time) st a w h =
+  learnt_same (HostCall.Expire time) st a w h =
       let x : Answer = answer (Calls.Expire time) st in
       let e = seen_yes x a h in
       by_cases (is_yes x) (λ y. rw (e ∙ y, y) refl) (λ y. rw (e ∙ y, y) refl)
-  learnt-same (HostCall.SetInput instance bytes) st a w h = no-news (is_yes (seen a)) (is_yes (answer (Calls.SetInput instance bytes) st)) w
-  learnt-same (HostCall.Output instance out) st a w h = no-news (is_yes (seen a)) (is_yes (answer (Calls.ReadOutput instance (length out)) st)) w
-  learnt-same (HostCall.Assembly kind instance out) st a w h = no-news (is_yes (seen a)) (is_yes (answer (Calls.ReadAssembly kind instance (length out)) st)) w
-  learnt-same (HostCall.NextEvent out) st a w h = no-news (is_yes (seen a)) (is_yes (answer (Calls.NextEvent (length out)) st)) w
-  learnt-same (HostCall.Connections out) st a w h = no-news (is_yes (seen a)) (is_yes (answer (Calls.Connections (length out)) st)) w
-  learnt-same (HostCall.Stats out) st a w h = no-news (is_yes (seen a)) (is_yes (answer (Calls.Stats (length out)) st)) w
-  learnt-same (HostCall.OpenRefusal service request out) st a w h = no-news (is_yes (seen a)) (is_yes (answer (Calls.OpenRefusal service request (length out)) st)) w
-  learnt-same (HostCall.Produce time out) st a w h = no-news (is_yes (seen a)) (is_yes (answer (Calls.Produce time (length out)) st)) w
-  learnt-same (HostCall.NextDeadline out) st a w h = no-news (is_yes (seen a)) (is_yes (answer (Calls.Deadline (length out)) st)) w
-  learnt-same (HostCall.Message local mask message upload out) st a w h = no-news (is_yes (seen a)) (is_yes (answer (Calls.Message local mask message (length out) (dec_upload upload)) st)) w
+  learnt_same (HostCall.SetInput instance bytes) st a w h = no_news (is_yes (seen a)) (is_yes (answer (Calls.SetInput instance bytes) st)) w
+  learnt_same (HostCall.Output instance out) st a w h = no_news (is_yes (seen a)) (is_yes (answer (Calls.ReadOutput instance (length out)) st)) w
+  learnt_same (HostCall.Assembly kind instance out) st a w h = no_news (is_yes (seen a)) (is_yes (answer (Calls.ReadAssembly kind instance (length out)) st)) w
+  learnt_same (HostCall.NextEvent out) st a w h = no_news (is_yes (seen a)) (is_yes (answer (Calls.NextEvent (length out)) st)) w
+  learnt_same (HostCall.Connections out) st a w h = no_news (is_yes (seen a)) (is_yes (answer (Calls.Connections (length out)) st)) w
+  learnt_same (HostCall.Stats out) st a w h = no_news (is_yes (seen a)) (is_yes (answer (Calls.Stats (length out)) st)) w
+  learnt_same (HostCall.OpenRefusal service request out) st a w h = no_news (is_yes (seen a)) (is_yes (answer (Calls.OpenRefusal service request (length out)) st)) w
+  learnt_same (HostCall.Produce time out) st a w h = no_news (is_yes (seen a)) (is_yes (answer (Calls.Produce time (length out)) st)) w
+  learnt_same (HostCall.NextDeadline out) st a w h = no_news (is_yes (seen a)) (is_yes (answer (Calls.Deadline (length out)) st)) w
+  learnt_same (HostCall.Message local mask message upload out) st a w h = no_news (is_yes (seen a)) (is_yes (answer (Calls.Message local mask message (length out) (dec_upload upload)) st)) w
 
   -- ALL OF THEM: the history of what was seen is the history of the rules' run
-  turn-same : (c : CCall) (a : Said) (ts : List Turn) (st : State) (w : G) → Answers (contract c) st (answer_c c st) a → Answered ts (next_c c st) → anew c a ≡ false
+  turn_same : (c : CCall) (a : Said) (ts : List Turn) (st : State) (w : G) → Answers (contract c) st (answer_c c st) a → Answered ts (next_c c st) → anew c a ≡ false
       → ((st : State) (w : G) → Answered ts st → history r (log_of ts) w ≡ history r (log (calls_of ts) st) w)
       → history r (logged c a (log_of ts)) w ≡ history r (log (ruled c (calls_of ts)) st) w
-  turn-same (CCall.Setup block eds seed) a ts st w h k n on = on st w (subst (Answered ts) (setup_left block eds seed st a h n) k)
-  turn-same (CCall.On c) a ts st w h k n on =
-      ap (history r (log_of ts)) (learnt-same c st a w h) ∙ on (next (call_of c) st) (learnt r (news (call_of c) (answer (call_of c) st)) w) k
-  turn-same (CCall.Path path out) a ts st w h k n on = on st w k
-  turn-same (CCall.Request message out) a ts st w h k n on = on st w k
+  turn_same (CCall.Setup block eds seed) a ts st w h k n on = on st w (subst (Answered ts) (setup_left block eds seed st a h n) k)
+  turn_same (CCall.On c) a ts st w h k n on =
+      ap (history r (log_of ts)) (learnt_same c st a w h) ∙ on (next (call_of c) st) (learnt r (news (call_of c) (answer (call_of c) st)) w) k
+  turn_same (CCall.Path path out) a ts st w h k n on = on st w k
+  turn_same (CCall.Request message out) a ts st w h k n on = on st w k
 
-  pub history-same : (ts : List Turn) (st : State) (w : G) → Answered ts st → One_setup ts → history r (log_of ts) w ≡ history r (log (calls_of ts) st) w
-  history-same [] st w h n = refl
-  history-same (t ∷ ts) st w h n = turn-same t.0 t.1 ts st w h.0 h.1 n.0 (λ st w k. history-same ts st w k n.1)
+  pub history_same : (ts : List Turn) (st : State) (w : G) → Answered ts st → One_setup ts → history r (log_of ts) w ≡ history r (log (calls_of ts) st) w
+  history_same [] st w h n = refl
+  history_same (t ∷ ts) st w h n = turn_same t.0 t.1 ts st w h.0 h.1 n.0 (λ st w k. history_same ts st w k n.1)
 
 -- and their run is the rules' run
 turn_run : (c : CCall) (a : Said) (ts : List Turn) (st : State) → Answers (contract c) st (answer_c c st) a → Answered ts (next_c c st) → anew c a ≡ false

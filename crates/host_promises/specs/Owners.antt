@@ -19,8 +19,8 @@ use Rattle.state_rules.specs.Places.{setup_in, marks_in, data_in, marks_at, conn
 use Rattle.state_rules.specs.Setups.{setup_of}
 use Rattle.state_rules.specs.Bits.{run_in}
 use Rattle.state_rules.specs.Image.{view, tested, contents_of}
-use Rattle.state_image.specs.Fits.{few-assemblies, length-assemblies, is-sound}
-use Rattle.state_image.specs.TestLaws.{assemblies-in}
+use Rattle.state_image.specs.Fits.{few_assemblies, length_assemblies, is_sound}
+use Rattle.state_image.specs.TestLaws.{assemblies_in}
 use Rattle.rules_faults.specs.RunBit.{owner_of, Owned, run_has_owner, run_is_heard}
 use Rattle.host_runs.specs.Contracts.{Said, Met, Told}
 use Rattle.host_runs.specs.HostCalls.{HostCall, contract_of, CCall}
@@ -46,9 +46,9 @@ Owner s i = (k : ℕ) × (k < connections_of s) × (owns i (row_of s k).fixed �
 marked : (s : List ℕ) → tested s ≡ true → (i : ℕ) → i < assemblies_of s → le 1 s (marks_at + i) % 2 ≡ 1 → (get_or (view s).contents i no_content).run ≡ true
 unfolding view
 marked s ok i h e =
-    let n = length-assemblies s in
-    let a = assemblies-in s in
-    let f = few-assemblies (setup_in s) (is-sound s ok) in
+    let n = length_assemblies s in
+    let a = assemblies_in s in
+    let f = few_assemblies (setup_in s) (is_sound s ok) in
     let m : get_or (marks_in s) i 0 ≡ le 1 s (marks_at + i) = get_or-take 16 (drop marks_at s) i 0 (omega arith) ∙ get_or-drop marks_at s i 0 ∙ sym (le_1 s (marks_at + i)) in
     run_of (setup_of s).assemblies (marks_in s) (data_in s) i (omega arith) ∙ ap (λ (k : ℕ). to_bool (k % 2)) m ∙ ap to_bool e
 

@@ -9,7 +9,7 @@ use Rattle.rules.specs.Setup.{fresh}
 use Rattle.rules.specs.Calls.{Call, next, run}
 use Rattle.state_rules.specs.Image.{view, tested}
 use Rattle.app_starting.specs.Block.{setup_given, accepted, setup_call}
-use Rattle.app_starting.specs.Calls.{setup-fresh}
+use Rattle.app_starting.specs.Calls.{setup_fresh}
 use Rattle.host_runs.specs.Contracts.{Said, Met, Answers}
 use Rattle.host_runs.specs.HostCalls.{call_of, CCall, contract, next_c, answer_c}
 use Rattle.host_runs.specs.Steps.{agrees}
@@ -50,7 +50,7 @@ follows (one c a {ts} {s} {s'} m r) ok =
 pub run_is_ruled : (l block eds : List ℕ) (seed : ℕ) (s : List ℕ) → (0, s) ≡ setup_call l block eds seed → {ts : List Turn} {s'' : List ℕ} → Ran ts s s''
     → Follows ts (fresh (setup_given block eds) seed) s''
 run_is_ruled l block eds seed s e {ts} {s''} r =
-    let f = setup-fresh l block eds seed (sym (ap (λ (z : ℕ × List ℕ). z.0) e)) in
+    let f = setup_fresh l block eds seed (sym (ap (λ (z : ℕ × List ℕ). z.0) e)) in
     let b : s ≡ (setup_call l block eds seed).1 = ap (λ (z : ℕ × List ℕ). z.1) e in
     subst (λ (st : State). Follows ts st s'') (ap view b ∙ f.1) (follows r (ap tested b ∙ f.0))
 

@@ -13,16 +13,16 @@ use Rattle.rules.specs.Message.{message_call}
 use Rattle.rules.specs.Calls.{answer, next}
 use Rattle.msg_routing.specs.Answered.{answered}
 use Rattle.state_rules.specs.Image.{view, store, tested}
-use Rattle.state_image.specs.Fits.{Suits, is-long}
-use Rattle.state_image.specs.ViewLaws.{suits-view, view-store}
-use Rattle.state_image.specs.Passes.{tested-store}
-use Rattle.state_image.specs.Lift.{lifted_out, lifted_read, lifted-passes, lifted-tested, lifted-view}
+use Rattle.state_image.specs.Fits.{Suits, is_long}
+use Rattle.state_image.specs.ViewLaws.{suits_view, view_store}
+use Rattle.state_image.specs.Passes.{tested_store}
+use Rattle.state_image.specs.Lift.{lifted_out, lifted_read, lifted_passes, lifted-tested, lifted-view}
 use Rattle.app_starting.specs.Block.{accepted}
-use Rattle.app_starting.specs.Fresh.{view-started, tested-started}
+use Rattle.app_starting.specs.Fresh.{view_started, tested_started}
 use Rattle.app_starting.specs.Calls.{bad-setup, set-up}
 use Rattle.msg_answering.specs.Lifted.{lifted_message}
-use Rattle.app_answers.specs.Left.{input-suits, output-suits, event-suits}
-use Rattle.io_receiving.specs.Accepted.{receive-suits}
+use Rattle.app_answers.specs.Left.{input_suits, output_suits, event_suits}
+use Rattle.io_receiving.specs.Accepted.{receive_suits}
 use Rattle.io_producing.specs.Accepted.{produce_suits}
 use Rattle.conn_ending.specs.Accepted.{close-suits, expire-suits}
 use Rattle.open_answering.specs.Accepted.{open-suits}
@@ -39,30 +39,30 @@ record Agreed (k : Contract) (st : State) (s' : List ℕ) (a : Said) : Type 0 wh
   answers : Answers k st (answer_by k st) a
 
 module _ (s : List ℕ) (ok : tested s ≡ true) where
-  pub out-passes : (call : ℕ → State → Answer × State) (out : List ℕ)
+  pub out_passes : (call : ℕ → State → Answer × State) (out : List ℕ)
       → lifted_out call s out ≡ (answerNumber (call (length out) (view s)).0, (store (call (length out) (view s)).1 s, sets out 0 (answerBytes (call (length out) (view s)).0)))
   unfolding lifted_out
-  out-passes call out = rw ok
+  out_passes call out = rw ok
 
-  pub read-passes : (call : ℕ → State → Answer) (out : List ℕ)
+  pub read_passes : (call : ℕ → State → Answer) (out : List ℕ)
       → lifted_read call s out ≡ (answerNumber (call (length out) (view s)), sets out 0 (answerBytes (call (length out) (view s))))
   unfolding lifted_read
-  read-passes call out = rw ok
+  read_passes call out = rw ok
 
 module _ (s : List ℕ) (ok : tested s ≡ true) (s' : List ℕ) (a : Said) where
-  sets-up : (block eds : List ℕ) (seed : ℕ) → Met (Sets block eds seed) s s' a → Agreed (Sets block eds seed) (view s) s' a
+  sets_up : (block eds : List ℕ) (seed : ℕ) → Met (Sets block eds seed) s s' a → Agreed (Sets block eds seed) (view s) s' a
   unfolding answerNumber
-  sets-up block eds seed m =
+  sets_up block eds seed m =
       by_cases (accepted block eds)
       (λ y.
-      let e = m ∙ sym (set-up s block eds seed (is-long s ok) y) in
+      let e = m ∙ sym (set-up s block eds seed (is_long s ok) y) in
       record {
-        passes = ap (λ (z : ℕ × List ℕ). tested z.1) e ∙ tested-started block eds seed y;
-        holds = rw y (ap (λ (z : ℕ × List ℕ). view z.1) e ∙ view-started block eds seed y);
+        passes = ap (λ (z : ℕ × List ℕ). tested z.1) e ∙ tested_started block eds seed y;
+        holds = rw y (ap (λ (z : ℕ × List ℕ). view z.1) e ∙ view_started block eds seed y);
         answers = rw y (ap (λ (z : ℕ × List ℕ). z.0) e);
       })
       (λ n.
-      let e = m ∙ sym (bad-setup s block eds seed (is-long s ok) n) in
+      let e = m ∙ sym (bad-setup s block eds seed (is_long s ok) n) in
       record {
         passes = ap (λ (z : ℕ × List ℕ). tested z.1) e ∙ ok;
         holds = rw n (ap (λ (z : ℕ × List ℕ). view z.1) e);
@@ -75,21 +75,21 @@ module _ (s : List ℕ) (ok : tested s ≡ true) (s' : List ℕ) (a : Said) wher
       record {
         passes = ap tested e ∙ lifted-tested call s ok w;
         holds = ap view e ∙ lifted-view call s ok w;
-        answers = ap (λ (z : ℕ × List ℕ). z.0) (m ∙ lifted-passes call s ok);
+        answers = ap (λ (z : ℕ × List ℕ). z.0) (m ∙ lifted_passes call s ok);
       }
 
   writes : (call : ℕ → State → Answer × State) (out : List ℕ) → Suits (call (length out) (view s)).1 s → Met (Writes call out) s s' a → Agreed (Writes call out) (view s) s' a
   writes call out w m =
-      let e = m ∙ out-passes s ok call out in
+      let e = m ∙ out_passes s ok call out in
       record {
-        passes = ap (λ (z : ℕ × (List ℕ × List ℕ)). tested z.1.0) e ∙ tested-store (call (length out) (view s)).1 s w;
-        holds = ap (λ (z : ℕ × (List ℕ × List ℕ)). view z.1.0) e ∙ view-store (call (length out) (view s)).1 s w;
+        passes = ap (λ (z : ℕ × (List ℕ × List ℕ)). tested z.1.0) e ∙ tested_store (call (length out) (view s)).1 s w;
+        holds = ap (λ (z : ℕ × (List ℕ × List ℕ)). view z.1.0) e ∙ view_store (call (length out) (view s)).1 s w;
         answers = (ap (λ (z : ℕ × (List ℕ × List ℕ)). z.0) e, ap (λ (z : ℕ × (List ℕ × List ℕ)). z.1.1) e);
       }
 
   reads : (call : ℕ → State → Answer) (out : List ℕ) → Met (Reads call out) s s' a → Agreed (Reads call out) (view s) s' a
   reads call out m =
-      let e = m.0 ∙ read-passes s ok call out in
+      let e = m.0 ∙ read_passes s ok call out in
       record { passes = ap tested m.1 ∙ ok; holds = ap view m.1; answers = (ap (λ (z : ℕ × List ℕ). z.0) e, ap (λ (z : ℕ × List ℕ). z.1) e) }
 
   says : (call : ℕ → Answer) (out : List ℕ) → Met (Says call out) s s' a → Agreed (Says call out) (view s) s' a
@@ -111,7 +111,7 @@ module _ (s : List ℕ) (ok : tested s ≡ true) (s' : List ℕ) (a : Said) wher
       parts e = ((ap (λ (z : ℕ × (List ℕ × List ℕ)). z.0) e, ap (λ (z : ℕ × (List ℕ × List ℕ)). z.1.1) e), ap (λ (z : ℕ × (List ℕ × List ℕ)). z.1.0) e)
 
   agreed : (k : Contract) → Suits (next_by k (view s)) s → Met k s s' a → Agreed k (view s) s' a
-  agreed (Sets block eds seed) w m = sets-up block eds seed m
+  agreed (Sets block eds seed) w m = sets_up block eds seed m
   agreed (Changes call) w m = changes call w m
   agreed (Writes call out) w m = writes call out w m
   agreed (Reads call out) w m = reads call out m
@@ -157,21 +157,21 @@ same_answer (HostCall.Message local mask message upload out) st = refl
 -- what it leaves can be written over the bytes that it found
 module _ (s : List ℕ) (ok : tested s ≡ true) where
   pub suits : (c : HostCall) → Suits (next_by (contract_of c) (view s)) s
-  suits (HostCall.SetInput instance bytes) = input-suits s ok instance bytes
-  suits (HostCall.Output instance out) = output-suits s ok instance (length out)
-  suits (HostCall.Assembly kind instance out) = suits-view s ok
-  suits (HostCall.NextEvent out) = event-suits s ok (length out)
-  suits (HostCall.Connections out) = suits-view s ok
-  suits (HostCall.Stats out) = suits-view s ok
+  suits (HostCall.SetInput instance bytes) = input_suits s ok instance bytes
+  suits (HostCall.Output instance out) = output_suits s ok instance (length out)
+  suits (HostCall.Assembly kind instance out) = suits_view s ok
+  suits (HostCall.NextEvent out) = event_suits s ok (length out)
+  suits (HostCall.Connections out) = suits_view s ok
+  suits (HostCall.Stats out) = suits_view s ok
   suits (HostCall.Open time service request peer local mask given address port ioport out) =
       open-suits s ok time service request (origin_of peer local mask given address port ioport) (length out)
-  suits (HostCall.OpenRefusal service request out) = suits-view s ok
+  suits (HostCall.OpenRefusal service request out) = suits_view s ok
   suits (HostCall.Close request out) = close-suits s ok request (length out)
-  suits (HostCall.Receive time from frame) = receive-suits s ok time from frame
+  suits (HostCall.Receive time from frame) = receive_suits s ok time from frame
   suits (HostCall.Produce time out) = produce_suits s ok time (length out)
   suits (HostCall.Expire time) = expire-suits s ok time
-  suits (HostCall.NextDeadline out) = suits-view s ok
-  suits (HostCall.Message local mask message upload out) = suits-view s ok
+  suits (HostCall.NextDeadline out) = suits_view s ok
+  suits (HostCall.Message local mask message upload out) = suits_view s ok
 
 -- THE STEP: bytes that pass the state test are left that pass it and say what the rules leave, and the answer is the rules'
 pub record Agrees (c : CCall) (st : State) (s' : List ℕ) (a : Said) : Type 0 where
@@ -180,7 +180,7 @@ pub record Agrees (c : CCall) (st : State) (s' : List ℕ) (a : Said) : Type 0 w
   pub answers : Answers (contract c) st (answer_c c st) a
 
 pub agrees : (c : CCall) (s : List ℕ) → tested s ≡ true → (s' : List ℕ) (a : Said) → Met (contract c) s s' a → Agrees c (view s) s' a
-agrees (CCall.Setup block eds seed) s ok s' a m = let g = sets-up s ok s' a block eds seed m in record { passes = g.passes; holds = g.holds; answers = g.answers }
+agrees (CCall.Setup block eds seed) s ok s' a m = let g = sets_up s ok s' a block eds seed m in record { passes = g.passes; holds = g.holds; answers = g.answers }
 agrees (CCall.On c) s ok s' a m =
     let g = agreed s ok s' a (contract_of c) (suits s ok c) m in
     record {

@@ -3,7 +3,7 @@ use Rattle.std.specs.Prelude.{◌≡◌, ℕ, ◌+◌, ◌%◌, ◌<◌, ◌≤�
 use Rattle.std.proofs.Common.{ap, sym, ◌∙◌, arith, le-leb, leb-true, leb-false}
 use Rattle.std.proofs.lemmas.Bool.{lt-leb}
 use Rattle.base_tables.specs.Ring.{by_cases}
-use Rattle.base_tables.specs.Tables.{rows-rest, rows_end}
+use Rattle.base_tables.specs.Tables.{rows_rest, rows_end}
 use Rattle.rules.specs.Lists.{any}
 use Rattle.rules.specs.Producing.{due_by, due}
 use Rattle.rules.specs.declared.Conn.{Conn}
@@ -46,11 +46,11 @@ module _ (t n : ℕ) (r : List ℕ) where
   one_more m d v i least h ed ev hv ht em g =
       let rest : Bool = any (due t) (drop (i + 1) (conns_in n r)) in
       g
-      ∙ ap (λ (z : List Conn). nat_le m t || any (due t) z) (rows-rest row_size dec_conn n r i h)
+      ∙ ap (λ (z : List Conn). nat_le m t || any (due t) z) (rows_rest row_size dec_conn n r i h)
       ∙ ap (λ (b : Bool). nat_le m t || (b || rest)) (sym (reached_by v t (dec_sent (row_at r i)).due hv ht (ev ∙ ed)))
       ∙ or_or (nat_le m t) (nat_le v t) rest
       ∙ ap (λ (b : Bool). b || rest) (sym (least_reached m v t))
       ∙ ap (λ (k : ℕ). nat_le k t || rest) (sym em)
 
-  pub by-least : (m i : ℕ) → n ≤ i → DueSoFar t n r m i → nat_le m t ≡ any (due t) (conns_in n r)
-  by-least m i h g = sym (g ∙ ap (λ (z : List Conn). nat_le m t || any (due t) z) (rows_end row_size dec_conn n r i h) ∙ or_false (nat_le m t))
+  pub by_least : (m i : ℕ) → n ≤ i → DueSoFar t n r m i → nat_le m t ≡ any (due t) (conns_in n r)
+  by_least m i h g = sym (g ∙ ap (λ (z : List Conn). nat_le m t || any (due t) z) (rows_end row_size dec_conn n r i h) ∙ or_false (nat_le m t))

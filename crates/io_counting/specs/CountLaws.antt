@@ -17,7 +17,7 @@ use Rattle.rules.specs.declared.Due.TheVariants.{Never, At}
 use Rattle.state_rules.specs.Places.{table_in, state_size, connections_of, max_late_of}
 use Rattle.state_rules.specs.Setups.{setup_of}
 use Rattle.state_rules.specs.Rows.{dec_fixed, dec_sent, row_at}
-use Rattle.state_image.specs.Holds.{Holds, conns-held, setup-held, maxLate-held}
+use Rattle.state_image.specs.Holds.{Holds, conns_held, setup_held, max_late_held}
 use Rattle.state_image.specs.Updates.{no_conn}
 use Rattle.io_packets.specs.Steps.{Data}
 use Rattle.io_packets.specs.Rows.{packet_or, row_held, long_packet}
@@ -40,28 +40,28 @@ added_is n d limit late worst k el ew = λ j. record { need = k.need + n; count 
 -- ---- row i
 
 module _ (t limit i : ℕ) (s : List ℕ) (p : i < connections_of s) (d : Due) (ed : d ≡ (dec_sent (row_at (table_in s) i)).due) (k : Tally) where
-  due-is : (st : State) (l : List ℕ) → Holds s st l → (slice_index_or st.table i no_conn).sent.due ≡ d
-  due-is st l h = sym (ed ∙ ap (λ (c : Conn). c.sent.due) (row_held i s p st l h))
+  due_is : (st : State) (l : List ℕ) → Holds s st l → (slice_index_or st.table i no_conn).sent.due ≡ d
+  due_is st l h = sym (ed ∙ ap (λ (c : Conn). c.sent.due) (row_held i s p st l h))
 
-  not-counted : due_by t d ≡ false → Tallies t limit i s k k
+  not_counted : due_by t d ≡ false → Tallies t limit i s k k
   unfolding tallied
-  not-counted e st l h =
+  not_counted e st l h =
       let c : Conn = slice_index_or st.table i no_conn in
-      sym (ap (λ (b : Bool). cond b (added (33 + length (input_bytes st.contents c.fixed)) (late_by t c.sent.due) limit k) k) (ap (due_by t) (due-is st l h) ∙ e))
+      sym (ap (λ (b : Bool). cond b (added (33 + length (input_bytes st.contents c.fixed)) (late_by t c.sent.due) limit k) k) (ap (due_by t) (due_is st l h) ∙ e))
 
-  pub count-never : d ≡ Never → Tallies t limit i s k k
-  count-never e = not-counted (ap (due_by t) e)
+  pub count_never : d ≡ Never → Tallies t limit i s k k
+  count_never e = not_counted (ap (due_by t) e)
 
-  pub count-later : (v : ℕ) → d ≡ At v → t < v → Tallies t limit i s k k
-  count-later v e q = not-counted (ap (due_by t) e ∙ lt-leb v t q)
+  pub count_later : (v : ℕ) → d ≡ At v → t < v → Tallies t limit i s k k
+  count_later v e q = not_counted (ap (due_by t) e ∙ lt-leb v t q)
 
-  pub count-due : (v : ℕ) → d ≡ At v → v ≤ t → (j : ℕ) → j ≡ (dec_fixed (row_at (table_in s) i)).input
+  pub count_due : (v : ℕ) → d ≡ At v → v ≤ t → (j : ℕ) → j ≡ (dec_fixed (row_at (table_in s) i)).input
       → (a n : ℕ) → a + n ≤ state_size → length s ≡ state_size → Data j s a n → (r : Tally) → r ≡ added (33 + n) (t - v) limit k → Tallies t limit i s k r
   unfolding tallied
-  count-due v e q j ej a n inside long g r er st l h =
+  count_due v e q j ej a n inside long g r er st l h =
       let c : Conn = slice_index_or st.table i no_conn in
-      let now' : due_by t c.sent.due ≡ true = ap (due_by t) (due-is st l h ∙ e) ∙ le-leb v t q in
-      let by : t - v ≡ late_by t c.sent.due = sym (ap (late_by t) (due-is st l h ∙ e)) in
+      let now' : due_by t c.sent.due ≡ true = ap (due_by t) (due_is st l h ∙ e) ∙ le-leb v t q in
+      let by : t - v ≡ late_by t c.sent.due = sym (ap (late_by t) (due_is st l h ∙ e)) in
       let size : n ≡ length (input_bytes st.contents c.fixed) =
       sym (length-take-le n (drop a s) (rw length-drop (omega arith)))
       ∙ ap length (g st l h)
@@ -80,13 +80,13 @@ TallySoFar t limit worst i s k =
     (st : State) (l : List ℕ) → Holds s st l → tally_from t limit st.contents k (drop i st.table) ≡ tally_from t limit st.contents (start worst) st.table
 
 module _ (t limit worst : ℕ) (s : List ℕ) where
-  pub tally-start : (w : ℕ) → w ≡ worst → TallySoFar t limit worst 0 s (start w)
-  tally-start w e st l h = ap (λ (n : ℕ). tally_from t limit st.contents (start n) st.table) e
+  pub tally_start : (w : ℕ) → w ≡ worst → TallySoFar t limit worst 0 s (start w)
+  tally_start w e st l h = ap (λ (n : ℕ). tally_from t limit st.contents (start n) st.table) e
 
-  pub tally-turn : (i : ℕ) (k r : Tally) → i < connections_of s → TallySoFar t limit worst i s k → Tallies t limit i s k r → TallySoFar t limit worst (i + 1) s r
+  pub tally_turn : (i : ℕ) (k r : Tally) → i < connections_of s → TallySoFar t limit worst i s k → Tallies t limit i s k r → TallySoFar t limit worst (i + 1) s r
   unfolding tally_from
-  tally-turn i k r p g d st l h =
-      let e = conns-held s st l h in
+  tally_turn i k r p g d st l h =
+      let e = conns_held s st l h in
       let cs : List Conn = st.table in
       ap₂ (λ (z : Tally) (m : ℕ). tally_from t limit st.contents z (drop m cs)) (d st l h) (add-one i)
       ∙ sym (ap (tally_from t limit st.contents k) (drop-cons cs i no_conn (omega arith)))
@@ -107,21 +107,21 @@ module _ (t limit : ℕ) (contents : List Content) where
   one_more : (ds : List ℕ) (d : ℕ) → length (keep (leb limit) (d ∷ ds)) ≡ of_bool (nat_le limit d) + length (keep (leb limit) ds)
   one_more ds d = by_cases (nat_le limit d) (λ e. rw e (omega arith)) (λ e. rw e (omega arith))
 
-  counts-nil : (k : Tally) → k ≡ counts k []
+  counts_nil : (k : Tally) → k ≡ counts k []
   unfolding packets
-  counts-nil k = λ j. record { need = zero' k.need j; count = zero' k.count j; late = zero' k.late j; worst = k.worst }
+  counts_nil k = λ j. record { need = zero' k.need j; count = zero' k.count j; late = zero' k.late j; worst = k.worst }
     where
       zero' : (n : ℕ) → n ≡ n + 0
       zero' n = omega arith
 
-  counts-out : (k : Tally) (c : Conn) (cs : List Conn) → due t c ≡ false → counts k (c ∷ cs) ≡ counts k cs
+  counts_out : (k : Tally) (c : Conn) (cs : List Conn) → due t c ≡ false → counts k (c ∷ cs) ≡ counts k cs
   unfolding packets
-  counts-out k c cs e = rw e
+  counts_out k c cs e = rw e
 
-  counts-in : (k : Tally) (c : Conn) (cs : List Conn) → due t c ≡ true
+  counts_in : (k : Tally) (c : Conn) (cs : List Conn) → due t c ≡ true
       → counts k (c ∷ cs) ≡ counts (added (33 + length (input_bytes contents c.fixed)) (late_by t c.sent.due) limit k) cs
   unfolding packets added packet_or
-  counts-in k c cs e =
+  counts_in k c cs e =
       let d : ℕ = late_by t c.sent.due in
       let pk : List ℕ = packet t (input_bytes contents c.fixed) c in
       let n : length pk ≡ 33 + length (input_bytes contents c.fixed) = ap (λ (b : Bool). length (cond b pk [])) (sym e) ∙ long_packet t contents c e in
@@ -134,20 +134,20 @@ module _ (t limit : ℕ) (contents : List Content) where
       let a = ap (λ (z : List ℕ). length (keep (leb limit) z)) ds in let b = one_more (delays t cs) d in omega arith in
       λ j. record { need = need' j; count = count' j; late = late' j; worst = greatest k.worst (ds j) }
 
-  pub tally-counts : (k : Tally) (cs : List Conn) → tally_from t limit contents k cs ≡ counts k cs
+  pub tally_counts : (k : Tally) (cs : List Conn) → tally_from t limit contents k cs ≡ counts k cs
   unfolding tally_from tallied
-  tally-counts k [] = counts-nil k
-  tally-counts k (c ∷ cs) =
+  tally_counts k [] = counts_nil k
+  tally_counts k (c ∷ cs) =
       let more : Tally = added (33 + length (input_bytes contents c.fixed)) (late_by t c.sent.due) limit k in
       by_cases (due t c)
-      (λ e. ap (λ (b : Bool). tally_from t limit contents (cond b more k) cs) e ∙ tally-counts more cs ∙ sym (counts-in k c cs e))
-      (λ e. ap (λ (b : Bool). tally_from t limit contents (cond b more k) cs) e ∙ tally-counts k cs ∙ sym (counts-out k c cs e))
+      (λ e. ap (λ (b : Bool). tally_from t limit contents (cond b more k) cs) e ∙ tally_counts more cs ∙ sym (counts_in k c cs e))
+      (λ e. ap (λ (b : Bool). tally_from t limit contents (cond b more k) cs) e ∙ tally_counts k cs ∙ sym (counts_out k c cs e))
 
 -- ---- the whole pass
 
 limit_held : (s : List ℕ) (st : State) (l : List ℕ) → Holds s st l → limit_of (le 4 s 36) ≡ late_limit st.setup
 unfolding setup_of
-limit_held s st l h = ap limit_of (sym (le_take 4 s 192 36 (omega arith)) ∙ ap (λ (u : Setup). u.late_limit) (setup-held s st l h))
+limit_held s st l h = ap limit_of (sym (le_take 4 s 192 36 (omega arith)) ∙ ap (λ (u : Setup). u.late_limit) (setup_held s st l h))
 
 from_start : (t : ℕ) (st : State) → counts t (late_limit st.setup) st.contents (start st.counters.maxLate) st.table ≡ totals t st
 from_start t st =
@@ -158,10 +158,10 @@ from_start t st =
 pub tally_end : (t limit worst i : ℕ) (s : List ℕ) (k : Tally) → limit ≡ limit_of (le 4 s 36) → worst ≡ max_late_of s → connections_of s ≤ i → TallySoFar t limit worst i s k → Totals t s k
 unfolding tally_from
 tally_end t limit worst i s k el ew p g st l h =
-    let e = conns-held s st l h in
+    let e = conns_held s st l h in
     let cs : List Conn = st.table in
     let none : k ≡ tally_from t limit st.contents k (drop i cs) = sym (ap (tally_from t limit st.contents k) (drop_of_length-le cs {i = i} (omega arith))) in
     none ∙ g st l h
-    ∙ (λ j. tally_from t ((el ∙ limit_held s st l h) j) st.contents (start ((ew ∙ maxLate-held s st l h) j)) cs)
-    ∙ tally-counts t (late_limit st.setup) st.contents (start st.counters.maxLate) cs
+    ∙ (λ j. tally_from t ((el ∙ limit_held s st l h) j) st.contents (start ((ew ∙ max_late_held s st l h) j)) cs)
+    ∙ tally_counts t (late_limit st.setup) st.contents (start st.counters.maxLate) cs
     ∙ from_start t st

@@ -5,7 +5,7 @@ use Rattle.std.proofs.Common.{ap, sym, ◌∙◌}
 use native.Mathlib.Omega.{arith}
 use borrow.Author.Tests.{le-leb, lt-leb}
 use Rattle.base_cells.specs.Numbers.{le, put, le_bytes, length_le_bytes}
-use Rattle.base_tables.specs.Tables.{rows, rows-rest, rows_end}
+use Rattle.base_tables.specs.Tables.{rows, rows_rest, rows_end}
 use Rattle.rules.specs.State.{State}
 use Rattle.rules.specs.declared.Conn.{Conn}
 use Rattle.rules.specs.Lists.{maybe}
@@ -15,7 +15,7 @@ use Rattle.rules.specs.declared.Due.TheVariants.{Never, At}
 use Rattle.rules.specs.Removal.{due_or, deadline_of, least_of, deadline, deadline_answer}
 use Rattle.state_rules.specs.Places.{table_in, row_size, connections_of}
 use Rattle.state_rules.specs.Rows.{of_due, dec_heard, dec_sent, dec_conn, conn_at, conns_in}
-use Rattle.state_image.specs.Holds.{Holds, conns-held, table-held}
+use Rattle.state_image.specs.Holds.{Holds, conns_held, table_held}
 use Rattle.io_deadlines.specs.Reading.{Answered, Answers}
 
 -- a row's own deadline: one less than the due number, modulo 2^64
@@ -28,14 +28,14 @@ pub row_least : (b : List ℕ) (u d v x : ℕ) → u ≡ (dec_heard b).until →
 row_least b u d v x eu ed ev ex hu hv = ex ∙ least_due u v (dec_sent b).due hu hv (ev ∙ ed) ∙ ap (λ (z : ℕ). due_or z (dec_sent b).due) eu
 
 module _ (n : ℕ) (r : List ℕ) where
-  pub least-turn : (m x i : ℕ) → i < n → x ≡ deadline_of (conn_at r i)
+  pub least_turn : (m x i : ℕ) → i < n → x ≡ deadline_of (conn_at r i)
       → least_of m (drop i (conns_in n r)) ≡ least_of (min m x) (drop (i + 1) (conns_in n r))
-  least-turn m x i h e =
-      ap (least_of m) (rows-rest row_size dec_conn n r i h)
+  least_turn m x i h e =
+      ap (least_of m) (rows_rest row_size dec_conn n r i h)
       ∙ ap (λ (y : ℕ). least_of (min m y) (drop (i + 1) (conns_in n r))) (sym e)
 
-  pub least-end : (m i : ℕ) → n ≤ i → least_of m (drop i (conns_in n r)) ≡ m
-  least-end m i h = ap (least_of m) (rows_end row_size dec_conn n r i h)
+  pub least_end : (m i : ℕ) → n ≤ i → least_of m (drop i (conns_in n r)) ≡ m
+  least_end m i h = ap (least_of m) (rows_end row_size dec_conn n r i h)
 
 pub least_whole : (n : ℕ) (r : List ℕ) (m : ℕ) → 0 < n → m ≡ deadline_of (conn_at r 0)
     → deadline (conns_in n r) ≡ some (least_of m (drop 1 (conns_in n r)))
@@ -48,15 +48,15 @@ empty [] e = refl
 empty (c ∷ cs) e = absurd (omega arith)
 
 module _ (s out : List ℕ) (n : ℕ) (en : n ≡ connections_of s) where
-  pub none-waits : n ≡ 0 → Answers deadline_answer s out 9 out
+  pub none_waits : n ≡ 0 → Answers deadline_answer s out 9 out
   unfolding deadline_answer answerNumber
-  none-waits z st l h =
-      let e : deadline st.table ≡ none = empty st.table (let k = conns-held s st l h in omega arith) in
+  none_waits z st l h =
+      let e : deadline st.table ≡ none = empty st.table (let k = conns_held s st l h in omega arith) in
       record { number = rw e; bytes = rw e }
 
   module _ (x : ℕ) (ex : deadline (conns_in n (table_in s)) ≡ some x) where
     is : (st : State) (l : List ℕ) → Holds s st l → deadline st.table ≡ some x
-    is st l h = ap deadline (sym (ap (λ (k : ℕ). conns_in k (table_in s)) en ∙ table-held s st l h)) ∙ ex
+    is st l h = ap deadline (sym (ap (λ (k : ℕ). conns_in k (table_in s)) en ∙ table_held s st l h)) ∙ ex
 
     pub answered : 8 ≤ length out → (out' : List ℕ) → out' ≡ put 8 out 0 x → Answers deadline_answer s out 2048 out'
     unfolding deadline_answer answerNumber put
@@ -65,14 +65,14 @@ module _ (s out : List ℕ) (n : ℕ) (en : n ≡ connections_of s) where
         let b : nat_le (length (le_bytes 8 x)) (length out) ≡ true = le-leb (length (le_bytes 8 x)) (length out) (omega arith) in
         record { number = rw (is st l h, b) (omega arith); bytes = e ∙ rw (is st l h, b) }
 
-  some-waits : (cs : List Conn) → 0 < length cs → (Q : Option ℕ → Type 0) → ((x : ℕ) → Q (some x)) → Q (deadline cs)
-  some-waits [] p Q f = absurd (omega arith)
-  some-waits (c ∷ cs) p Q f = f (least_of (deadline_of c) cs)
+  some_waits : (cs : List Conn) → 0 < length cs → (Q : Option ℕ → Type 0) → ((x : ℕ) → Q (some x)) → Q (deadline cs)
+  some_waits [] p Q f = absurd (omega arith)
+  some_waits (c ∷ cs) p Q f = f (least_of (deadline_of c) cs)
 
   pub short : (n ≢ 0) → length out < 8 → Answers deadline_answer s out 8 out
   unfolding deadline_answer answerNumber
   short z p st l h =
-      some-waits st.table (let k = conns-held s st l h in by-ne (length st.table) (λ e. z (en ∙ k ∙ e)))
+      some_waits st.table (let k = conns_held s st l h in by-ne (length st.table) (λ e. z (en ∙ k ∙ e)))
       (λ o. Answered (maybe (Refused NothingThere) (λ t. fitting (length out) (le_bytes 8 t) (Wrote (le_bytes 8 t))) o) out 8 out)
       (λ x.
       let k : length (le_bytes 8 x) ≡ 8 = length_le_bytes 8 x in

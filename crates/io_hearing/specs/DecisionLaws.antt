@@ -9,7 +9,7 @@ use Rattle.rules.specs.declared.Kind.{Kind}
 use Rattle.rules.specs.declared.Heard.{Heard}
 use Rattle.state_rules.specs.Rows.{dec_fixed, dec_conn, conn_at}
 use Rattle.state_rules.specs.Places.{row_size}
-use Rattle.state_searches.specs.Searches.{search-miss}
+use Rattle.state_searches.specs.Searches.{search_miss}
 use Rattle.io_hearing.specs.Decisions.{has_id, hears, id_in_four, place_from}
 
 -- ---- the connection that is meant
@@ -49,46 +49,46 @@ none_of false false false false e = (refl, refl, refl, refl)
 
 -- a row with another id is passed over; and four of them
 module _ (id : OtId) (from n : ℕ) (r : List ℕ) where
-  row-passed : (i : ℕ) → i < n → has_id id (conn_at r i) ≡ false → place_from id from n r i ≡ place_from id from n r (i + 1)
-  row-passed i h e =
-      search-miss row_size dec_conn (hears id from) n r i h (ap (λ (b : Bool). b && eqb (conn_at r i).fixed.originator from) e)
+  row_passed : (i : ℕ) → i < n → has_id id (conn_at r i) ≡ false → place_from id from n r i ≡ place_from id from n r (i + 1)
+  row_passed i h e =
+      search_miss row_size dec_conn (hears id from) n r i h (ap (λ (b : Bool). b && eqb (conn_at r i).fixed.originator from) e)
 
-  pub four-passed : (i : ℕ) → i + 4 ≤ n → id_in_four id r i ≡ false → place_from id from n r i ≡ place_from id from n r (i + 4)
-  four-passed i h e =
+  pub four_passed : (i : ℕ) → i + 4 ≤ n → id_in_four id r i ≡ false → place_from id from n r i ≡ place_from id from n r (i + 4)
+  four_passed i h e =
       let z = none_of (has_id id (conn_at r i)) (has_id id (conn_at r (i + 1))) (has_id id (conn_at r (i + 2))) (has_id id (conn_at r (i + 3))) e in
       let to : (j k : ℕ) → j ≡ k → place_from id from n r j ≡ place_from id from n r k = λ j k q. ap (place_from id from n r) q in
-      row-passed i (omega arith) z.0
-      ∙ row-passed (i + 1) (omega arith) z.1
+      row_passed i (omega arith) z.0
+      ∙ row_passed (i + 1) (omega arith) z.1
       ∙ to (i + 1 + 1) (i + 2) (omega arith)
-      ∙ row-passed (i + 2) (omega arith) z.2
+      ∙ row_passed (i + 2) (omega arith) z.2
       ∙ to (i + 2 + 1) (i + 3) (omega arith)
-      ∙ row-passed (i + 3) (omega arith) z.3
+      ∙ row_passed (i + 3) (omega arith) z.3
       ∙ to (i + 3 + 1) (i + 4) (omega arith)
 
 -- ---- sequences
 
 module _ (h : Heard) (q : ℕ) where
-  pub newer-first : h.any ≡ false → true ≡ newer h q
+  pub newer_first : h.any ≡ false → true ≡ newer h q
   unfolding newer
-  newer-first e = simp e
+  newer_first e = simp e
 
-  pub newer-low : h.any ≡ true → ahead h.sequence q < 1 → false ≡ newer h q
+  pub newer_low : h.any ≡ true → ahead h.sequence q < 1 → false ≡ newer h q
   unfolding newer
-  newer-low e p = simp (e, lt-leb 1 (ahead h.sequence q) p)
+  newer_low e p = simp (e, lt-leb 1 (ahead h.sequence q) p)
 
-  pub newer-rest : h.any ≡ true → 1 ≤ ahead h.sequence q → leb (ahead h.sequence q) 2147483647 ≡ newer h q
+  pub newer_rest : h.any ≡ true → 1 ≤ ahead h.sequence q → leb (ahead h.sequence q) 2147483647 ≡ newer h q
   unfolding newer
-  newer-rest e p = simp (e, le-leb 1 (ahead h.sequence q) p)
+  newer_rest e p = simp (e, le-leb 1 (ahead h.sequence q) p)
 
-  pub repeats-not : h.anycip ≡ false → false ≡ h.anycip && eqb h.cip q
-  repeats-not e = simp e
+  pub repeats_not : h.anycip ≡ false → false ≡ h.anycip && eqb h.cip q
+  repeats_not e = simp e
 
-  pub repeats-rest : h.anycip ≡ true → eqb h.cip q ≡ h.anycip && eqb h.cip q
-  repeats-rest e = simp e
+  pub repeats_rest : h.anycip ≡ true → eqb h.cip q ≡ h.anycip && eqb h.cip q
+  repeats_rest e = simp e
 
 module _ (k : Kind) (o : Bool) (eo : o ≡ is_owner k) (d : List ℕ) where
-  pub cip-not : o ≡ false → false ≡ is_owner k && leb 2 (length d)
-  cip-not e = simp (sym eo ∙ e)
+  pub cip_not : o ≡ false → false ≡ is_owner k && leb 2 (length d)
+  cip_not e = simp (sym eo ∙ e)
 
-  pub cip-rest : o ≡ true → leb 2 (length d) ≡ is_owner k && leb 2 (length d)
-  cip-rest e = simp (sym eo ∙ e)
+  pub cip_rest : o ≡ true → leb 2 (length d) ≡ is_owner k && leb 2 (length d)
+  cip_rest e = simp (sym eo ∙ e)

@@ -19,7 +19,7 @@ use Rattle.base_cells.specs.declared.Written.{Written}
 use Rattle.base_cells.specs.declared.Written.TheVariants.{Bytes, NoRoom}
 use Rattle.base_tables.specs.Store.{sets_right}
 use Rattle.wire_rules.specs.Writing.{frame_written, behind, frame_appended}
-use Rattle.wire_frames.proofs.WriteLaws.{frame-length}
+use Rattle.wire_frames.proofs.WriteLaws.{frame_length}
 use Rattle.rules.specs.State.{Content, content_at, no_content, Shape}
 use Rattle.rules.specs.Producing.{due_by, next_time, next_due}
 use Rattle.rules.specs.declared.Due.{Due}
@@ -29,17 +29,17 @@ use Rattle.rules.specs.declared.Sent.{Sent}
 use Rattle.state_rules.specs.Setups.{shape_in}
 use Rattle.state_rules.specs.Rows.{of_due}
 use Rattle.state_rules.specs.Places.{data_from, assemblies_of}
-use Rattle.state_image.specs.Holds.{assemblies-held, shape-held, bytes-held}
+use Rattle.state_image.specs.Holds.{assemblies_held, shape_held, bytes_held}
 use Rattle.io_packets.specs.Steps.{stepped, head, frame_bytes, packet_of, Data}
 
 -- ---- due times
 
 module _ (t rpi v : ℕ) where
-  pub next-late : v + rpi ≤ t → t + rpi ≡ next_time t rpi v
-  next-late h = rw (le-leb (v + rpi) t h)
+  pub next_late : v + rpi ≤ t → t + rpi ≡ next_time t rpi v
+  next_late h = rw (le-leb (v + rpi) t h)
 
-  pub next-old : t < v + rpi → v + rpi ≡ next_time t rpi v
-  next-old h = rw (lt-leb (v + rpi) t h)
+  pub next_old : t < v + rpi → v + rpi ≡ next_time t rpi v
+  next_old h = rw (lt-leb (v + rpi) t h)
 
 pub due_before : (t v : ℕ) (d : Due) → d ≡ At v → due_by t d ≡ true → v ≤ t
 due_before t v d e h = leb-true v t (ap (due_by t) (sym e) ∙ h)
@@ -68,24 +68,24 @@ module _ (a p m l n : ℕ) where
       (e₃ ∙ ap (λ (z : List ℕ). sets z 6 (m ∷ [])) (e₂ ∙ ap (λ (z : List ℕ). sets z 4 (bytes_be 2 p)) e₁)))
 
 module _ (f : Fixed) (x : Sent) (d : List ℕ) where
-  frame-long : length (frame_bytes f x d) ≡ 20 + length d
-  frame-long = frame-length f.toid.0 x.sequence x.cip d
+  frame_long : length (frame_bytes f x d) ≡ 20 + length d
+  frame_long = frame_length f.toid.0 x.sequence x.cip d
 
-  pub length-packet : length (packet_of f x d) ≡ 33 + length d
+  pub length_packet : length (packet_of f x d) ≡ 33 + length d
   unfolding packet_of
-  length-packet =
+  length_packet =
       let n : ℕ = length (frame_bytes f x d) in
       let h : List ℕ = head f.dest.address f.dest.port (of_bool f.multicast) f.local n in
       let e = length_head f.dest.address f.dest.port (of_bool f.multicast) f.local n in
-      let g = frame-long in
+      let g = frame_long in
       length-append h (frame_bytes f x d) ∙ omega arith
 
   -- the frame writer's output behind 13 bytes, where there is room
-  appended-is : (o : List ℕ) → length d ≤ 512 → 33 + length d ≤ length o → (frame_appended o 13 f.toid.0 x.sequence x.cip d).1 ≡ sets o 13 (frame_bytes f x d)
+  appended_is : (o : List ℕ) → length d ≤ 512 → 33 + length d ≤ length o → (frame_appended o 13 f.toid.0 x.sequence x.cip d).1 ≡ sets o 13 (frame_bytes f x d)
   unfolding frame_appended frame_written
-  appended-is o p q =
+  appended_is o p q =
       let fr : List ℕ = frame_bytes f x d in
-      let g = frame-long in
+      let g = frame_long in
       let m : length (drop 13 o) ≡ length o - 13 = length-drop 13 o in
       let t : length (take 13 o) ≡ 13 = length-take-le 13 o (omega arith) in
       let a : leb 13 (length o) ≡ true = le-leb 13 (length o) (omega arith) in
@@ -96,19 +96,19 @@ module _ (f : Fixed) (x : Sent) (d : List ℕ) where
       ∙ sym (sets_right (take 13 o) (drop 13 o) 13 t 0 fr)
       ∙ ap (λ (z : List ℕ). sets z 13 fr) (take-append-drop 13 o)
 
-  pub packet-put : (o o₁ o₂ : List ℕ) (n : ℕ) (r : Written) → length d ≤ 512 → 33 + length d ≤ length o → n ≡ 20 + length d
+  pub packet_put : (o o₁ o₂ : List ℕ) (n : ℕ) (r : Written) → length d ≤ 512 → 33 + length d ≤ length o → n ≡ 20 + length d
       → o₁ ≡ sets o 0 (head f.dest.address f.dest.port (of_bool f.multicast) f.local n)
       → (r, o₂) ≡ frame_appended o₁ 13 f.toid.0 x.sequence x.cip d → o₂ ≡ sets o 0 (packet_of f x d)
   unfolding packet_of
-  packet-put o o₁ o₂ n r p q en e₁ e₂ =
+  packet_put o o₁ o₂ n r p q en e₁ e₂ =
       let fr : List ℕ = frame_bytes f x d in
       let h : List ℕ = head f.dest.address f.dest.port (of_bool f.multicast) f.local (length fr) in
-      let w : n ≡ length fr = en ∙ sym frame-long in
+      let w : n ≡ length fr = en ∙ sym frame_long in
       let k : o₁ ≡ sets o 0 h = e₁ ∙ ap (λ (m : ℕ). sets o 0 (head f.dest.address f.dest.port (of_bool f.multicast) f.local m)) w in
       let lo : length o₁ ≡ length o = ap length k ∙ length-sets o 0 h in
       let lh : 13 ≡ 0 + length h = let z = length_head f.dest.address f.dest.port (of_bool f.multicast) f.local (length fr) in omega arith in
       ap (λ (z : Written × List ℕ). z.1) e₂
-      ∙ appended-is o₁ p (omega arith)
+      ∙ appended_is o₁ p (omega arith)
       ∙ ap (λ (z : List ℕ). sets z 13 fr) k
       ∙ ap (λ (m : ℕ). sets (sets o 0 h) m fr) lh
       ∙ sym (sets_append o 0 h fr)
@@ -118,14 +118,14 @@ module _ (f : Fixed) (x : Sent) (d : List ℕ) where
 module _ (s : List ℕ) (i n : ℕ) (en : n ≡ assemblies_of s) where
   pub data_none : n ≤ i → Data i s 0 0
   data_none p st l h =
-      let a = assemblies-held s st l h in
+      let a = assemblies_held s st l h in
       ap (λ (z : Content). z.bytes) (sym (get_or-eq_default st.contents no_content {n = i} (omega arith)))
 
   pub data_some : i < n → (v : ℕ) → v ≡ (shape_in s i).size → Data i s (data_from + i * 512) v
   data_some p v ev st l h =
-      let a = assemblies-held s st l h in
-      let e : v ≡ length (content_at st i).bytes = ev ∙ ap (λ (z : Shape). z.size) (shape-held s st l h i (omega arith)) ∙ sym (h.suits.fits.sized i) in
-      ap (λ (k : ℕ). take k (drop (data_from + i * 512) s)) e ∙ bytes-held s st l h i (omega arith)
+      let a = assemblies_held s st l h in
+      let e : v ≡ length (content_at st i).bytes = ev ∙ ap (λ (z : Shape). z.size) (shape_held s st l h i (omega arith)) ∙ sym (h.suits.fits.sized i) in
+      ap (λ (k : ℕ). take k (drop (data_from + i * 512) s)) e ∙ bytes_held s st l h i (omega arith)
 
 -- ---- a step
 

@@ -7,10 +7,10 @@ use Rattle.rules.specs.declared.Conn.{Conn}
 use Rattle.rules.specs.declared.Sent.{Sent}
 use Rattle.state_rules.specs.Places.{table_in, connections_of}
 use Rattle.state_rules.specs.Rows.{conn_at}
-use Rattle.state_image.specs.Holds.{Holds, conns-held, conn-held}
+use Rattle.state_image.specs.Holds.{Holds, conns_held, conn_held}
 use Rattle.state_image.specs.Updates.{no_conn}
 use Rattle.io_packets.specs.Steps.{stepped, head, packet_of}
-use Rattle.io_packets.specs.PacketLaws.{length-packet}
+use Rattle.io_packets.specs.PacketLaws.{length_packet}
 
 -- the bytes of a connection's packet; none where it is not due
 unfoldable pub packet_or : ℕ → List Content → Conn → List ℕ
@@ -40,9 +40,9 @@ no_packet t contents c e = ap (λ (b : Bool). cond b (packet t (input_bytes cont
 
 pub long_packet : (t : ℕ) (contents : List Content) (c : Conn) → due t c ≡ true → length (packet_or t contents c) ≡ 33 + length (input_bytes contents c.fixed)
 long_packet t contents c e =
-    ap length (due_packet t contents c e) ∙ length-packet c.fixed (stepped t c.fixed.torpi c.sent) (input_bytes contents c.fixed)
+    ap length (due_packet t contents c e) ∙ length_packet c.fixed (stepped t c.fixed.torpi c.sent) (input_bytes contents c.fixed)
 
 -- ---- row i of a held state
 
 pub row_held : (i : ℕ) (s : List ℕ) → i < connections_of s → (st : State) (l : List ℕ) → Holds s st l → conn_at (table_in s) i ≡ get_or st.table i no_conn
-row_held i s p st l h = conn-held s st l h i (let e = conns-held s st l h in omega arith)
+row_held i s p st l h = conn_held s st l h i (let e = conns_held s st l h in omega arith)

@@ -19,7 +19,7 @@ use Rattle.rules_laws.specs.ListLaws.{clash}
 use Rattle.state_rules.specs.Places.{table_in, connections_of, produced_of, late_of}
 use Rattle.state_rules.specs.Rows.{conns_in}
 use Rattle.state_rules.specs.Image.{store}
-use Rattle.state_image.specs.Holds.{Becomes, table-held, produced-held, late-held}
+use Rattle.state_image.specs.Holds.{Becomes, table_held, produced_held, late_held}
 use Rattle.state_image.specs.Changes.{counters_as}
 use Rattle.io_counting.specs.declared.Tally.{Tally}
 use Rattle.io_counting.specs.Tallies.{totals, Totals}
@@ -43,15 +43,15 @@ module _ (t room : ℕ) (st : State) where
   unfolding produce_call produce_answer
   done h q = rw (le-leb t 9223372036854775807 h, le-leb (length out) room q)
 
-  pub late-number : 9223372036854775807 < t → 3 ≡ answerNumber (produce_call t room st).0
+  pub late_number : 9223372036854775807 < t → 3 ≡ answerNumber (produce_call t room st).0
   unfolding answerNumber
-  late-number h = sym (ap (λ (z : Answer × State). answerNumber z.0) (late h))
+  late_number h = sym (ap (λ (z : Answer × State). answerNumber z.0) (late h))
 
-  pub late-state : 9223372036854775807 < t → (produce_call t room st).1 ≡ st
-  late-state h = ap (λ (z : Answer × State). z.1) (late h)
+  pub late_state : 9223372036854775807 < t → (produce_call t room st).1 ≡ st
+  late_state h = ap (λ (z : Answer × State). z.1) (late h)
 
-  pub late-bytes : 9223372036854775807 < t → answerBytes (produce_call t room st).0 ≡ []
-  late-bytes h = ap (λ (z : Answer × State). answerBytes z.0) (late h)
+  pub late_bytes : 9223372036854775807 < t → answerBytes (produce_call t room st).0 ≡ []
+  late_bytes h = ap (λ (z : Answer × State). answerBytes z.0) (late h)
 
 -- ---- the counters
 
@@ -59,7 +59,7 @@ pub kept_becomes : (s s' : List ℕ) (k : Tally) (p q : ℕ) → p ≡ counted (
     → Becomes s s' (counters_as p q k.worst) → Becomes s s' (tally_kept k)
 kept_becomes s s' k p q ep eq b st l h =
     b st l h
-    ∙ (λ j. store (counters_as ((ep ∙ ap (λ (n : ℕ). counted n k.count) (produced-held s st l h)) j) ((eq ∙ ap (λ (n : ℕ). counted n k.late) (late-held s st l h)) j) k.worst st) l)
+    ∙ (λ j. store (counters_as ((ep ∙ ap (λ (n : ℕ). counted n k.count) (produced_held s st l h)) j) ((eq ∙ ap (λ (n : ℕ). counted n k.late) (late_held s st l h)) j) k.worst st) l)
 
 -- what was counted is what the rules count
 effect_is : (t : ℕ) (k : Tally) (st : State) → k ≡ totals t st → tally_kept k (sent_all t st) ≡ produce_effect t st
@@ -92,13 +92,13 @@ unfolding counters
 same_counters t st d p q = rw d (λ j. record { produced = no_more st.counters.produced p j; late = no_more st.counters.late q j; maxLate = st.counters.maxLate })
 
 module _ (t : ℕ) (s o : List ℕ) (n : ℕ) (en : n ≡ connections_of s) (early : t < 9223372036854775808) where
-  pub nothing-due : Bytes s → any (due t) (conns_in n (table_in s)) ≡ false → Produces t s s o o 0
+  pub nothing_due : Bytes s → any (due t) (conns_in n (table_in s)) ≡ false → Produces t s s o o 0
   unfolding produce_effect counters answerNumber packets
-  nothing-due b z st l h =
-      let held : conns_in n (table_in s) ≡ st.table = ap (λ (k : ℕ). conns_in k (table_in s)) en ∙ table-held s st l h in
+  nothing_due b z st l h =
+      let held : conns_in n (table_in s) ≡ st.table = ap (λ (k : ℕ). conns_in k (table_in s)) en ∙ table_held s st l h in
       let f = none_sends t st.table (ap (any (due t)) (sym held) ∙ z) in
-      let p : st.counters.produced ≤ 18446744073709551615 = rw (sym (produced-held s st l h)) (small s b 192) in
-      let q : st.counters.late ≤ 18446744073709551615 = rw (sym (late-held s st l h)) (small s b 200) in
+      let p : st.counters.produced ≤ 18446744073709551615 = rw (sym (produced_held s st l h)) (small s b 192) in
+      let q : st.counters.late ≤ 18446744073709551615 = rw (sym (late_held s st l h)) (small s b 200) in
       let pk : packets t st.contents st.table ≡ [] = rw f.0 in
       let same : st ≡ produce_effect t st =
       λ j. record {
@@ -132,9 +132,9 @@ module _ (t : ℕ) (s o : List ℕ) (k : Tally) (e : Totals t s k) (early : t < 
       }
 
   -- all of it
-  pub all-out : k.need ≤ length o → (s₁ s₂ o' : List ℕ) → SendsAll t s s₁ o o' → Becomes s₁ s₂ (tally_kept k) → Produces t s s₂ o o' (k.need * 256)
+  pub all_out : k.need ≤ length o → (s₁ s₂ o' : List ℕ) → SendsAll t s s₁ o o' → Becomes s₁ s₂ (tally_kept k) → Produces t s s₂ o o' (k.need * 256)
   unfolding answerNumber
-  all-out q s₁ s₂ o' d b st l h =
+  all_out q s₁ s₂ o' d b st l h =
       let n : k.need ≡ length (packets t st.contents st.table) = ap (λ (y : Tally). y.need) (e st l h) in
       let c = done t (length o) st (omega arith) (omega arith) in
       let y = d st l h (omega arith) in

@@ -17,7 +17,7 @@ use Rattle.state_image.specs.Holds.{Holds, Becomes}
 use Rattle.state_image.specs.Updates.{no_conn}
 use Rattle.state_image.specs.Changes.{sent_as}
 use Rattle.io_packets.specs.Steps.{stepped, packet_of, Data}
-use Rattle.io_packets.specs.PacketLaws.{length-packet}
+use Rattle.io_packets.specs.PacketLaws.{length_packet}
 use Rattle.io_packets.specs.Rows.{row_held, sent_is, due_packet, no_packet}
 use Rattle.io_producing.specs.Passes.{packet_at, Sends}
 
@@ -57,7 +57,7 @@ module _ (t i : ℕ) (s : List ℕ) (p : i < connections_of s) where
       size-held : (st : State) (l : List ℕ) → Holds s st l → length (packet_at t i st) ≡ 33 + n
       size-held st l h =
           ap length (packet-held st l h)
-          ∙ length-packet f (stepped t f.torpi x) (take n (drop a s))
+          ∙ length_packet f (stepped t f.torpi x) (take n (drop a s))
           ∙ ap (λ (m : ℕ). 33 + m) (length-take-le n (drop a s) (rw length-drop (omega arith)))
 
       -- no room: this cannot be where there is room

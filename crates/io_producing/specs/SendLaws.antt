@@ -13,8 +13,8 @@ use Rattle.rules.specs.declared.Conn.{Conn}
 use Rattle.state_rules.specs.Places.{connections_of}
 use Rattle.state_rules.specs.Image.{store}
 use Rattle.state_image.specs.Fits.{Suits}
-use Rattle.state_image.specs.Holds.{Holds, conns-held}
-use Rattle.state_image.specs.Kept.{suits-row}
+use Rattle.state_image.specs.Holds.{Holds, conns_held}
+use Rattle.state_image.specs.Kept.{suits_row}
 use Rattle.state_image.specs.Updates.{no_conn}
 use Rattle.io_packets.specs.Rows.{packet_or}
 use Rattle.io_producing.specs.Passes.{packet_at, sent_row, Sends, SendsAll}
@@ -75,20 +75,20 @@ module _ (t i : ℕ) (cs : List Conn) (h : i < length cs) where
   split : map (sends t) (take i cs) ++ drop i cs ≡ map (sends t) (take i cs) ++ (get_or cs i no_conn ∷ drop (suc i) cs)
   split = ap (λ (z : List Conn). map (sends t) (take i cs) ++ z) (drop-cons cs i no_conn h)
 
-  len-done : length (map (sends t) (take i cs)) ≡ i
-  len-done = length-map (take i cs) (sends t) ∙ length-take-le i cs (omega arith)
+  len_done : length (map (sends t) (take i cs)) ≡ i
+  len_done = length-map (take i cs) (sends t) ∙ length-take-le i cs (omega arith)
 
-  now-at : get_or (map (sends t) (take i cs) ++ drop i cs) i no_conn ≡ get_or cs i no_conn
-  now-at = ap (λ (z : List Conn). get_or z i no_conn) split ∙ get_or_at (map (sends t) (take i cs)) (get_or cs i no_conn) (drop (suc i) cs) no_conn i len-done
+  now_at : get_or (map (sends t) (take i cs) ++ drop i cs) i no_conn ≡ get_or cs i no_conn
+  now_at = ap (λ (z : List Conn). get_or z i no_conn) split ∙ get_or_at (map (sends t) (take i cs)) (get_or cs i no_conn) (drop (suc i) cs) no_conn i len_done
 
-  now-set : set (map (sends t) (take i cs) ++ drop i cs) i (sends t (get_or (map (sends t) (take i cs) ++ drop i cs) i no_conn)) ≡ map (sends t) (take (i + 1) cs) ++ drop (i + 1) cs
-  now-set =
+  now_set : set (map (sends t) (take i cs) ++ drop i cs) i (sends t (get_or (map (sends t) (take i cs) ++ drop i cs) i no_conn)) ≡ map (sends t) (take (i + 1) cs) ++ drop (i + 1) cs
+  now_set =
       let p : List Conn = map (sends t) (take i cs) in
       let y : Conn = get_or cs i no_conn in
       let ys : List Conn = drop (suc i) cs in
-      ap (λ (z : Conn). set (p ++ drop i cs) i (sends t z)) now-at
+      ap (λ (z : Conn). set (p ++ drop i cs) i (sends t z)) now_at
       ∙ ap (λ (z : List Conn). set z i (sends t y)) split
-      ∙ set_at p y ys (sends t y) i len-done
+      ∙ set_at p y ys (sends t y) i len_done
       ∙ sym (append_snoc p (sends t y) ys)
       ∙ ap (λ (z : List Conn). z ++ ys) (sym (ap (map (sends t)) (take-suc cs i no_conn h) ∙ map-append (sends t) (take i cs) (y ∷ [])))
       ∙ ap (λ (k : ℕ). map (sends t) (take k cs) ++ drop k cs) (sym (add-one i))
@@ -100,18 +100,18 @@ pub send_turn : (t i at r : ℕ) (s₀ s s' o₀ o o' : List ℕ) → i < connec
 send_turn t i at r s₀ s s' o₀ o o' p g d st l h q =
     let cs : List Conn = st.table in
     let pk : Conn → List ℕ = packet_or t st.contents in
-    let here : i < length cs = let e = conns-held s₀ st l h in omega arith in
+    let here : i < length cs = let e = conns_held s₀ st l h in omega arith in
     let w = g st l h q in
-    let same : packet_at t i (after t i st) ≡ pk (get_or cs i no_conn) = ap pk (now-at t i cs here) in
+    let same : packet_at t i (after t i st) ≡ pk (get_or cs i no_conn) = ap pk (now_at t i cs here) in
     let lo : length o ≡ length o₀ = ap length w.out ∙ length-sets o₀ 0 (before t i st) in
     let fits : at + length (packet_at t i (after t i st)) ≤ length o =
     let u = joined-room pk cs i here in let v = ap length same in let z = w.place in let n = ap length (packets_is t st.contents cs) in omega arith in
     let y = d (after t i st) l w.held fits in
-    let nx : sent_row t i (after t i st) ≡ after t (i + 1) st = ap (λ (z : List Conn). with_table z st) (now-set t i cs here) in
+    let nx : sent_row t i (after t i st) ≡ after t (i + 1) st = ap (λ (z : List Conn). with_table z st) (now_set t i cs here) in
     let more = joined-more pk cs i here in
     let at₀ : at ≡ 0 + length (before t i st) = let z = w.place in omega arith in
     record {
-      held = record { is = y.is ∙ ap (λ (z : State). store z l) nx; suits = subst (λ (z : State). Suits z l) nx (suits-row (after t i st) l w.held.suits i (sends t (get_or (after t i st).table i no_conn)) (send_fixed t (get_or (after t i st).table i no_conn))) };
+      held = record { is = y.is ∙ ap (λ (z : State). store z l) nx; suits = subst (λ (z : State). Suits z l) nx (suits_row (after t i st) l w.held.suits i (sends t (get_or (after t i st).table i no_conn)) (send_fixed t (get_or (after t i st).table i no_conn))) };
       out = y.out
           ∙ ap₂ (λ (z : List ℕ) (b : List ℕ). sets z at b) w.out same
           ∙ ap (λ (k : ℕ). sets (sets o₀ 0 (before t i st)) k (pk (get_or cs i no_conn))) at₀
@@ -124,7 +124,7 @@ pub send_end : (t i at : ℕ) (s₀ s o₀ o : List ℕ) → connections_of s₀
 send_end t i at s₀ s o₀ o p g st l h q =
     let w = g st l h q in
     let cs : List Conn = st.table in
-    let n : length cs ≤ i = let e = conns-held s₀ st l h in omega arith in
+    let n : length cs ≤ i = let e = conns_held s₀ st l h in omega arith in
     record {
       holds = subst (λ (z : List Conn). Holds s (with_table z st) l) (whole i cs n) w.held;
       out = w.out ∙ ap (λ (z : List Conn). sets o₀ 0 (joined (packet_or t st.contents) z)) (take_all i cs n) ∙ ap (sets o₀ 0) (sym (packets_is t st.contents cs));

@@ -5,8 +5,8 @@ use mathlib.Core.List.{List, [], ◌∷◌}
 use Rattle.std.proofs.Math.Option.{Option, none, some}
 use Rattle.std.proofs.Common.{◌∙◌, arith, length-drop}
 use Rattle.std.proofs.Math.ListN.{length}
-use Rattle.rules.specs.Lists.{maybe, find, changeFirst}
-use Rattle.rules_laws.specs.ListLaws.{by_cases, either_way, and_right, eqb_true, length-change}
+use Rattle.rules.specs.Lists.{maybe, find, change_first}
+use Rattle.rules_laws.specs.ListLaws.{by_cases, either_way, and_right, eqb_true, length_change}
 use Rattle.rules.specs.State.{Content, State, no_content, shape_at, content_at, with_contents, with_events}
 use Rattle.rules.specs.Events.{pushed, pushed_all}
 use Rattle.rules.specs.Answers.{is_yes}
@@ -17,9 +17,9 @@ use Rattle.wire_rules.specs.Frames.{io_of}
 use Rattle.state_rules.specs.Image.{view, store, tested}
 use Rattle.state_image.specs.RowsFit.{fits_change}
 use Rattle.state_image.specs.Fits.{Suits}
-use Rattle.state_image.specs.ViewLaws.{suits-view}
-use Rattle.state_image.specs.Passes.{tested-store}
-use Rattle.state_image.specs.Kept.{suits-table, suits-content}
+use Rattle.state_image.specs.ViewLaws.{suits_view}
+use Rattle.state_image.specs.Passes.{tested_store}
+use Rattle.state_image.specs.Kept.{suits_table, suits_content}
 use Rattle.state_searches.specs.Searches.{change_at_place}
 use Rattle.state_events.specs.Pushes.{suits_told}
 
@@ -36,9 +36,9 @@ unfolding hear
 hear_fixed t f c = either_way (λ (x : Conn). x.fixed ≡ c.fixed) (newer c.heard f.sequence) refl refl
 
 module _ (l : List ℕ) where
-  suits-delivered : (f : Frame) (c : Conn) (st : State) → Suits st l → Suits (with_contents (delivered st.setup f c st.contents) st) l
+  suits_delivered : (f : Frame) (c : Conn) (st : State) → Suits st l → Suits (with_contents (delivered st.setup f c st.contents) st) l
   unfolding deliver
-  suits-delivered f c st w =
+  suits_delivered f c st w =
       let o : ℕ = c.fixed.output in
       let a : Content = content_at st o in
       by_cases (taken st.setup f c)
@@ -47,39 +47,39 @@ module _ (l : List ℕ) where
       by_cases (changes f a)
       (λ x. rw x (length-drop 6 f.payload ∙ (let y = taken_size st f c e in let z = w.fits.sized o in omega arith)))
       (λ x. rw x) in
-      rw (e, change_at_place (deliver f) no_content st.contents o) (suits-content st l w o (deliver f a) n))
+      rw (e, change_at_place (deliver f) no_content st.contents o) (suits_content st l w o (deliver f a) n))
       (λ e. rw e w)
 
-  suits-one : (es : List Event) (st : State) → Suits st l → Suits (with_events (pushed_all es st.events) st) l
+  suits_one : (es : List Event) (st : State) → Suits st l → Suits (with_events (pushed_all es st.events) st) l
   unfolding pushed_all
-  suits-one [] st w = w
-  suits-one (e ∷ es) st w = suits-one es (with_events (pushed e st.events) st) (suits_told st l e w)
+  suits_one [] st w = w
+  suits_one (e ∷ es) st w = suits_one es (with_events (pushed e st.events) st) (suits_told st l e w)
 
-  suits-received : (t from : ℕ) (f : Frame) (st : State) → Suits st l → Suits (received t from f st) l
+  suits_received : (t from : ℕ) (f : Frame) (st : State) → Suits st l → Suits (received t from f st) l
   unfolding received
-  suits-received t from f st w =
-      let cs : List Conn = changeFirst (meant_for from f) (hear t f) st.table in
-      let n = length-change (meant_for from f) (hear t f) st.table in
+  suits_received t from f st w =
+      let cs : List Conn = change_first (meant_for from f) (hear t f) st.table in
+      let n = length_change (meant_for from f) (hear t f) st.table in
       let m = w.fits.table in
       let parts = go (find (meant_for from f) st.table) in
-      suits-table _ l parts cs (omega arith) (fits_change (meant_for from f) (hear t f) (hear_fixed t f) st.table w.fits.rows)
+      suits_table _ l parts cs (omega arith) (fits_change (meant_for from f) (hear t f) (hear_fixed t f) st.table w.fits.rows)
     where
       go : (to : Option Conn) → Suits (with_events (pushed_all (maybe [] (λ c. output_events st.setup f c st.contents) to) st.events) (with_contents (maybe st.contents (λ c. delivered st.setup f c st.contents) to) st)) l
-      go none = suits-one [] st w
-      go (some c) = suits-one (output_events st.setup f c st.contents) (with_contents (delivered st.setup f c st.contents) st) (suits-delivered f c st w)
+      go none = suits_one [] st w
+      go (some c) = suits_one (output_events st.setup f c st.contents) (with_contents (delivered st.setup f c st.contents) st) (suits_delivered f c st w)
 
-  suits-effect : (t from : ℕ) (bytes : List ℕ) (st : State) → Suits st l → Suits (receive_effect t from bytes st) l
+  suits_effect : (t from : ℕ) (bytes : List ℕ) (st : State) → Suits st l → Suits (receive_effect t from bytes st) l
   unfolding receive_effect
-  suits-effect t from bytes st w = go (frame_of bytes (io_of bytes))
+  suits_effect t from bytes st w = go (frame_of bytes (io_of bytes))
     where
       go : (o : Option Frame) → Suits (maybe st (λ f. received t from f st) o) l
       go none = w
-      go (some f) = suits-received t from f st w
+      go (some f) = suits_received t from f st w
 
-  pub receive-suits : tested l ≡ true → (t from : ℕ) (bytes : List ℕ) → Suits (receive_call t from bytes (view l)).1 l
+  pub receive_suits : tested l ≡ true → (t from : ℕ) (bytes : List ℕ) → Suits (receive_call t from bytes (view l)).1 l
   unfolding receive_call
-  receive-suits ok t from bytes =
-      either_way (λ (z : State). Suits z l) (is_yes (receive_answer t)) {x = receive_effect t from bytes (view l)} {y = view l} (suits-effect t from bytes (view l) (suits-view l ok)) (suits-view l ok)
+  receive_suits ok t from bytes =
+      either_way (λ (z : State). Suits z l) (is_yes (receive_answer t)) {x = receive_effect t from bytes (view l)} {y = view l} (suits_effect t from bytes (view l) (suits_view l ok)) (suits_view l ok)
 
-  pub receive-accepted : tested l ≡ true → (t from : ℕ) (bytes : List ℕ) → tested (store (receive_call t from bytes (view l)).1 l) ≡ true
-  receive-accepted ok t from bytes = tested-store (receive_call t from bytes (view l)).1 l (receive-suits ok t from bytes)
+  pub receive_accepted : tested l ≡ true → (t from : ℕ) (bytes : List ℕ) → tested (store (receive_call t from bytes (view l)).1 l) ≡ true
+  receive_accepted ok t from bytes = tested_store (receive_call t from bytes (view l)).1 l (receive_suits ok t from bytes)

@@ -16,16 +16,16 @@ module _ (t from : ℕ) (bytes : List ℕ) (st : State) where
   unfolding receive_call receive_answer
   timely h = rw (le-leb t 9223372036854775807 h)
 
-  pub late-number : 9223372036854775807 < t → 3 ≡ answerNumber (receive_call t from bytes st).0
+  pub late_number : 9223372036854775807 < t → 3 ≡ answerNumber (receive_call t from bytes st).0
   unfolding answerNumber
-  late-number h = sym (ap (λ (z : Answer × State). answerNumber z.0) (late h))
+  late_number h = sym (ap (λ (z : Answer × State). answerNumber z.0) (late h))
 
-  pub late-state : 9223372036854775807 < t → (receive_call t from bytes st).1 ≡ st
-  late-state h = ap (λ (z : Answer × State). z.1) (late h)
+  pub late_state : 9223372036854775807 < t → (receive_call t from bytes st).1 ≡ st
+  late_state h = ap (λ (z : Answer × State). z.1) (late h)
 
-  pub done-number : t ≤ 9223372036854775807 → 0 ≡ answerNumber (receive_call t from bytes st).0
+  pub done_number : t ≤ 9223372036854775807 → 0 ≡ answerNumber (receive_call t from bytes st).0
   unfolding answerNumber
-  done-number h = sym (ap (λ (z : Answer × State). answerNumber z.0) (timely h))
+  done_number h = sym (ap (λ (z : Answer × State). answerNumber z.0) (timely h))
 
-  pub done-state : t ≤ 9223372036854775807 → receive_effect t from bytes st ≡ (receive_call t from bytes st).1
-  done-state h = sym (ap (λ (z : Answer × State). z.1) (timely h))
+  pub done_state : t ≤ 9223372036854775807 → receive_effect t from bytes st ≡ (receive_call t from bytes st).1
+  done_state h = sym (ap (λ (z : Answer × State). z.1) (timely h))

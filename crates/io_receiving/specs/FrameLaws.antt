@@ -95,15 +95,15 @@ payload_inside s x id q start len ex e = inside_items s (items_of s) (inside_all
 -- ---- what a frame does
 
 module _ (s frame : List ℕ) (t from : ℕ) (x : IoFrame) (ex : x ≡ io_of frame) where
-  pub receive-none : frame_of frame x ≡ none → Becomes s s (receive_effect t from frame)
+  pub receive_none : frame_of frame x ≡ none → Becomes s s (receive_effect t from frame)
   unfolding receive_effect
-  receive-none e st l h =
+  receive_none e st l h =
       h.is ∙ ap (λ (z : Option Frame). store (maybe st (λ (f : Frame). received t from f st) z) l) (sym (ap (frame_of frame) (sym ex) ∙ e))
 
-  pub receive-io : (id : OtId) (q start len : ℕ) → x ≡ Io id q start len → (d : List ℕ) → d ≡ take (start + len - start) (drop start frame) → (s₂ : List ℕ)
+  pub receive_io : (id : OtId) (q start len : ℕ) → x ≡ Io id q start len → (d : List ℕ) → d ≡ take (start + len - start) (drop start frame) → (s₂ : List ℕ)
       → HearsFrom t from id q d s s₂ → Becomes s s₂ (receive_effect t from frame)
   unfolding receive_effect
-  receive-io id q start len e d ed s₂ b st l h =
+  receive_io id q start len e d ed s₂ b st l h =
       let k : start + len - start ≡ len = omega arith in
       b st l h
       ∙ ap (λ (z : List ℕ). store (received t from (record { id = id; sequence = q; payload = z }) st) l) (ed ∙ ap (λ (n : ℕ). take n (drop start frame)) k)

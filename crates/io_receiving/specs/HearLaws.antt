@@ -10,10 +10,10 @@ use Rattle.std.proofs.Math.ListN.{get_or, set}
 use Rattle.std.proofs.Math.Seq.{set-get_or}
 use Rattle.base_cells.specs.Numbers.{le}
 use Rattle.base_tables.specs.Ring.{by_cases}
-use Rattle.base_tables.specs.Tables.{rows, length-rows}
+use Rattle.base_tables.specs.Tables.{rows, length_rows}
 use Rattle.base_ids.specs.declared.OtId.{OtId}
 use Rattle.wire_rules.specs.Timeout.{timeout_of}
-use Rattle.rules.specs.Lists.{find, place, changeFirst, changeAt, maybe}
+use Rattle.rules.specs.Lists.{find, place, change_first, change_at, maybe}
 use Rattle.rules.specs.State.{State, Content, no_content, content_at, shape_at, is_owner, with_table, with_heard}
 use Rattle.rules.specs.Events.{pushed_all}
 use Rattle.rules.specs.Receiving.{Frame, meant_for, newer, has_cip, recorded, hear, repeats, right_size, taken, deliver, delivered, announces, output_events, received}
@@ -27,10 +27,10 @@ use Rattle.state_rules.specs.Rows.{dec_fixed, dec_heard, dec_conn, row_at, conn_
 use Rattle.state_rules.specs.Image.{store}
 use Rattle.state_image.specs.Updates.{no_conn}
 use Rattle.state_image.specs.Fits.{Suits}
-use Rattle.state_image.specs.Holds.{Holds, Becomes, conns-held, conn-held, table-held}
-use Rattle.state_image.specs.Kept.{suits-row}
+use Rattle.state_image.specs.Holds.{Holds, Becomes, conns_held, conn_held, table_held}
+use Rattle.state_image.specs.Kept.{suits_row}
 use Rattle.state_image.specs.Changes.{heard_as}
-use Rattle.state_searches.specs.Searches.{place-in, find_at, change-at, change_at_place}
+use Rattle.state_searches.specs.Searches.{place_in_lem, find_at, change_at_lem, change_at_place}
 use Rattle.state_layout.specs.Searched.{place_in}
 use Rattle.state_layout.specs.declared.Found.{Found}
 use Rattle.state_layout.specs.declared.Found.TheVariants.{At, Nowhere}
@@ -49,9 +49,9 @@ module _ (t : ℕ) (f : Frame) (i : ℕ) (st : State) where
       let b : output_events st.setup f (get_or st.table i no_conn) st.contents ≡ [] = rw e in
       λ j. record { setup = st.setup; contents = a j; table = q j; events = pushed_all (b j) st.events; fault = st.fault; nextId = st.nextId; counters = st.counters }
 
-  old-state : newer (get_or st.table i no_conn).heard f.sequence ≡ false → heard_at t f i st ≡ st
+  old_state : newer (get_or st.table i no_conn).heard f.sequence ≡ false → heard_at t f i st ≡ st
   unfolding hear taken
-  old-state e =
+  old_state e =
       untaken (rw e) st.table (ap (set st.table i) (rw e) ∙ set-get_or st.table i no_conn)
 
   module _ (nw : newer (get_or st.table i no_conn).heard f.sequence ≡ true) (y : Heard) (ey : recorded t f (get_or st.table i no_conn) ≡ y) where
@@ -88,7 +88,7 @@ module _ (t : ℕ) (f : Frame) (i : ℕ) (st : State) where
         (λ w.
         let tk : taken u f c ≡ true = is_right ∙ w in
         let a : delivered u f c cs ≡ set cs o (deliver f (get_or cs o no_content)) =
-        ap (λ (b : Bool). cond b (changeAt o (deliver f) cs) cs) tk ∙ change_at_place (deliver f) no_content cs o in
+        ap (λ (b : Bool). cond b (change_at o (deliver f) cs) cs) tk ∙ change_at_place (deliver f) no_content cs o in
         let v : List Event = OutputChanged (shape_at u o).instance ∷ [] in
         let b : output_events u f c cs ≡ cond (announces f (get_or cs o no_content)) v [] =
         ap (λ (z : Bool). cond (z && announces f (get_or cs o no_content)) v []) tk in
@@ -105,22 +105,22 @@ module _ (s : List ℕ) (st : State) (l : List ℕ) (h : Holds s st l) (i : ℕ)
   abbrev c : Conn
   c = get_or st.table i no_conn
 
-  is-conn : conn_at (table_in s) i ≡ get_or st.table i no_conn
-  is-conn = conn-held s st l h i (let e = conns-held s st l h in omega arith)
+  is_conn : conn_at (table_in s) i ≡ get_or st.table i no_conn
+  is_conn = conn_held s st l h i (let e = conns_held s st l h in omega arith)
 
   heard_is : (get_or st.table i no_conn).heard ≡ y
-  heard_is = sym (ey ∙ ap (λ (z : Conn). z.heard) is-conn)
+  heard_is = sym (ey ∙ ap (λ (z : Conn). z.heard) is_conn)
 
   newer_is : newer (get_or st.table i no_conn).heard f.sequence ≡ newer y q
   newer_is = ap₂ newer heard_is eq
 
   pub hear_old : newer y q ≡ false → s ≡ store (heard_at t f i st) l
-  hear_old e = h.is ∙ ap (λ (z : State). store z l) (sym (old-state t f i st (newer_is ∙ e)))
+  hear_old e = h.is ∙ ap (λ (z : State). store z l) (sym (old_state t f i st (newer_is ∙ e)))
 
   module _ (nw : newer y q ≡ true) (x : Fixed) (ex : x ≡ dec_fixed (row_at (table_in s) i))
       (u : ℕ) (eu : u ≡ t + timeout_of x.otrpi x.multiplier) (b : Bool) (eb : b ≡ is_owner x.kind && leb 2 (length d)) where
     fixed_is : (get_or st.table i no_conn).fixed ≡ x
-    fixed_is = sym (ex ∙ ap (λ (z : Conn). z.fixed) is-conn)
+    fixed_is = sym (ex ∙ ap (λ (z : Conn). z.fixed) is_conn)
 
     cip-is : has_cip f (get_or st.table i no_conn) ≡ b
     cip-is = (λ j. is_owner (fixed_is j).kind && leb 2 (length (ed j))) ∙ sym eb
@@ -165,7 +165,7 @@ module _ (s : List ℕ) (st : State) (l : List ℕ) (h : Holds s st l) (i : ℕ)
       pub hear-offered : r ≡ false → (s₂ : List ℕ) → Offers x.output d s₁ s₂ → s₂ ≡ store (heard_at t f i st) l
       hear-offered e s₂ bo =
           let st₁ : State = heard_as i new st in
-          let w : Suits st₁ l = suits-row st l h.suits i (with_heard new c) refl in
+          let w : Suits st₁ l = suits_row st l h.suits i (with_heard new c) refl in
           bo f ed st₁ l (record { is = be st l h; suits = w })
           ∙ ap (λ (z : Fixed). store (offered f z.output st₁) l) (sym fixed_is)
           ∙ ap (λ (z : State). store z l) (sym (offer-state t f i st (newer_is ∙ nw) new whole_is (cip-is ∙ aye) (repeats-is ∙ e)))
@@ -187,18 +187,18 @@ module _ (pr : Conn → Bool) where
   find_none [] e = refl
   find_none (x ∷ xs) e = let k = none_here x xs e in ap (λ (b : Bool). cond b (some x) (find pr xs)) k.0 ∙ find_none xs k.1
 
-  pub change_none : (u : Conn → Conn) (xs : List Conn) → place pr xs ≡ none → changeFirst pr u xs ≡ xs
+  pub change_none : (u : Conn → Conn) (xs : List Conn) → place pr xs ≡ none → change_first pr u xs ≡ xs
   change_none u [] e = refl
   change_none u (x ∷ xs) e =
       let k = none_here x xs e in
-      ap (λ (b : Bool). cond b (u x ∷ xs) (x ∷ changeFirst pr u xs)) k.0 ∙ ap (λ (z : List Conn). x ∷ z) (change_none u xs k.1)
+      ap (λ (b : Bool). cond b (u x ∷ xs) (x ∷ change_first pr u xs)) k.0 ∙ ap (λ (z : List Conn). x ∷ z) (change_none u xs k.1)
 
 module _ (t from : ℕ) (f : Frame) (st : State) where
-  there-state : (i : ℕ) → place (meant_for from f) st.table ≡ some i → received t from f st ≡ heard_at t f i st
+  there_state : (i : ℕ) → place (meant_for from f) st.table ≡ some i → received t from f st ≡ heard_at t f i st
   unfolding received heard_at pushed_all
-  there-state i e =
+  there_state i e =
       let fd = find_at (meant_for from f) no_conn st.table i e in
-      let ch = change-at (meant_for from f) no_conn (hear t f) st.table i e in
+      let ch = change_at_lem (meant_for from f) no_conn (hear t f) st.table i e in
       λ j. record {
         setup = st.setup;
         contents = maybe st.contents (λ (z : Conn). delivered st.setup f z st.contents) (fd j);
@@ -209,9 +209,9 @@ module _ (t from : ℕ) (f : Frame) (st : State) where
         counters = st.counters;
       }
 
-  nowhere-state : place (meant_for from f) st.table ≡ none → received t from f st ≡ st
+  nowhere_state : place (meant_for from f) st.table ≡ none → received t from f st ≡ st
   unfolding received pushed_all
-  nowhere-state e =
+  nowhere_state e =
       let fd = find_none (meant_for from f) st.table e in
       let ch = change_none (meant_for from f) (hear t f) st.table e in
       λ j. record {
@@ -230,16 +230,16 @@ module _ (s : List ℕ) (t from : ℕ) (id : OtId) (q : ℕ) (d : List ℕ) (n :
   frame = record { id = id; sequence = q; payload = d }
 
   place_is : (st : State) (l : List ℕ) → Holds s st l → place (hears id from) st.table ≡ place_in r
-  place_is st l h = ap (place (hears id from)) (sym (ap (λ (k : ℕ). conns_in k (table_in s)) en ∙ table-held s st l h)) ∙ sym er
+  place_is st l h = ap (place (hears id from)) (sym (ap (λ (k : ℕ). conns_in k (table_in s)) en ∙ table_held s st l h)) ∙ sym er
 
   pub found_inside : (i : ℕ) → r ≡ At i → i < connections_of s
   found_inside i e =
-      let z = place-in (hears id from) no_conn (conns_in n (table_in s)) i (sym er ∙ ap place_in e) in
-      let k = length-rows row_size dec_conn n (table_in s) in omega arith
+      let z = place_in_lem (hears id from) no_conn (conns_in n (table_in s)) i (sym er ∙ ap place_in e) in
+      let k = length_rows row_size dec_conn n (table_in s) in omega arith
 
   pub from_found : (i : ℕ) → r ≡ At i → (s₂ : List ℕ) → Hears i t q d s s₂ → HearsFrom t from id q d s s₂
   from_found i e s₂ b st l h =
-      b frame refl refl st l h ∙ ap (λ (z : State). store z l) (sym (there-state t from frame st i (place_is st l h ∙ ap place_in e)))
+      b frame refl refl st l h ∙ ap (λ (z : State). store z l) (sym (there_state t from frame st i (place_is st l h ∙ ap place_in e)))
 
-  pub from-nowhere : r ≡ Nowhere → HearsFrom t from id q d s s
-  from-nowhere e st l h = h.is ∙ ap (λ (z : State). store z l) (sym (nowhere-state t from frame st (place_is st l h ∙ ap place_in e)))
+  pub from_nowhere : r ≡ Nowhere → HearsFrom t from id q d s s
+  from_nowhere e st l h = h.is ∙ ap (λ (z : State). store z l) (sym (nowhere_state t from frame st (place_is st l h ∙ ap place_in e)))

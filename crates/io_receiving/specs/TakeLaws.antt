@@ -23,8 +23,8 @@ use Rattle.state_rules.specs.Places.{data_from, mark_at, assemblies_of}
 use Rattle.state_rules.specs.Bits.{run_in, notified_in}
 use Rattle.state_rules.specs.Image.{store}
 use Rattle.state_image.specs.Fits.{Suits}
-use Rattle.state_image.specs.Holds.{Holds, Ready, Becomes, assemblies-held, shape-held, run-held, notified-held, bytes-held}
-use Rattle.state_image.specs.Kept.{suits-content}
+use Rattle.state_image.specs.Holds.{Holds, Ready, Becomes, assemblies_held, shape_held, run_held, notified_held, bytes_held}
+use Rattle.state_image.specs.Kept.{suits_content}
 use Rattle.state_image.specs.Changes.{BytesBecome, bytes_as, mark_as, marked, bytes_become}
 use Rattle.state_events.specs.Pushes.{event_told}
 use Rattle.io_receiving.specs.DecisionLaws.{same_eq, told_same}
@@ -33,22 +33,22 @@ use Rattle.io_receiving.specs.Steps.{Replaces, TakesIn, Offers, told, accepted, 
 -- ---- put_data
 
 module _ (s : List ℕ) (i : ℕ) (p : i < assemblies_of s) (d : List ℕ) (v : Bool) (t : Tells v (take (length d) (drop (data_from + i * 512) s) ≡ d)) where
-  told-held : (st : State) (l : List ℕ) → Holds s st l → length d ≡ length (content_at st i).bytes → v ≡ same (content_at st i).bytes d
-  told-held st l h n =
-      let m = assemblies-held s st l h in
+  told_held : (st : State) (l : List ℕ) → Holds s st l → length d ≡ length (content_at st i).bytes → v ≡ same (content_at st i).bytes d
+  told_held st l h n =
+      let m = assemblies_held s st l h in
       told_same v (take (length d) (drop (data_from + i * 512) s)) d t
-      ∙ ap (λ (z : List ℕ). same z d) (ap (λ (j : ℕ). take j (drop (data_from + i * 512) s)) n ∙ bytes-held s st l h i (omega arith))
+      ∙ ap (λ (z : List ℕ). same z d) (ap (λ (j : ℕ). take j (drop (data_from + i * 512) s)) n ∙ bytes_held s st l h i (omega arith))
 
   -- the same bytes, put, would leave what stands there
-  pub data-same : v ≡ true → Ready s → length d ≤ 512 → Replaces i d s s false
-  data-same e r q st l h n =
+  pub data_same : v ≡ true → Ready s → length d ≤ 512 → Replaces i d s s false
+  data_same e r q st l h n =
       let w = r.long in let b = r.assemblies in
       let a : ℕ = data_from + i * 512 in
       let there : s ≡ sets s a d = sym (ap (sets s a) (sym (t.0 e)) ∙ sets_same s a (length d) (omega arith)) in
-      record { is = there ∙ bytes_become s i d p st l h n; changed = ap not (sym e ∙ told-held st l h n) }
+      record { is = there ∙ bytes_become s i d p st l h n; changed = ap not (sym e ∙ told_held st l h n) }
 
-  pub data-new : v ≡ false → (x : List ℕ) → BytesBecome i d s x → Replaces i d s x true
-  data-new e x b st l h n = record { is = b st l h n; changed = ap not (sym e ∙ told-held st l h n) }
+  pub data_new : v ≡ false → (x : List ℕ) → BytesBecome i d s x → Replaces i d s x true
+  data_new e x b st l h n = record { is = b st l h n; changed = ap not (sym e ∙ told_held st l h n) }
 
 -- ---- take_in
 
@@ -65,9 +65,9 @@ or_left true y e = e
 or_left false y e = refl
 
 module _ (f : Frame) (o : ℕ) (st : State) where
-  same-state : changes f (content_at st o) ≡ false → accepted f o st ≡ st
+  same_state : changes f (content_at st o) ≡ false → accepted f o st ≡ st
   unfolding accepted deliver pushed_all
-  same-state e =
+  same_state e =
       let c : set st.contents o (deliver f (content_at st o)) ≡ st.contents =
       ap (set st.contents o) (rw e) ∙ set-get_or st.contents o no_content in
       let v : told f o st ≡ [] = rw e in
@@ -76,16 +76,16 @@ module _ (f : Frame) (o : ℕ) (st : State) where
   abbrev fresh : State
   fresh = with_contents (set st.contents o (record { bytes = data_of f; run = run_bit f; notified = true })) st
 
-  quiet-state : changes f (content_at st o) ≡ true → (content_at st o).notified ≡ true → accepted f o st ≡ fresh
+  quiet_state : changes f (content_at st o) ≡ true → (content_at st o).notified ≡ true → accepted f o st ≡ fresh
   unfolding accepted deliver pushed_all
-  quiet-state e n =
+  quiet_state e n =
       let c : deliver f (content_at st o) ≡ record { bytes = data_of f; run = run_bit f; notified = true } = rw e in
       let v : told f o st ≡ [] = rw (e, n) in
       λ j. record { setup = st.setup; contents = set st.contents o (c j); table = st.table; events = pushed_all (v j) st.events; fault = st.fault; nextId = st.nextId; counters = st.counters }
 
-  told-state : changes f (content_at st o) ≡ true → (content_at st o).notified ≡ false → accepted f o st ≡ event_told (OutputChanged (shape_at st.setup o).instance) fresh
+  told_state : changes f (content_at st o) ≡ true → (content_at st o).notified ≡ false → accepted f o st ≡ event_told (OutputChanged (shape_at st.setup o).instance) fresh
   unfolding accepted deliver pushed_all
-  told-state e n =
+  told_state e n =
       let c : deliver f (content_at st o) ≡ record { bytes = data_of f; run = run_bit f; notified = true } = rw e in
       let v : told f o st ≡ OutputChanged (shape_at st.setup o).instance ∷ [] = rw (e, n) in
       λ j. record { setup = st.setup; contents = set st.contents o (c j); table = st.table; events = pushed_all (v j) st.events; fault = st.fault; nextId = st.nextId; counters = st.counters }
@@ -101,7 +101,7 @@ module _ (s : List ℕ) (o : ℕ) (p : o < assemblies_of s) (d : List ℕ) (was 
     old = content_at st o
 
     there : o < length st.contents
-    there = let e = assemblies-held s st l h in omega arith
+    there = let e = assemblies_held s st l h in omega arith
 
     long : length (drop 6 d) ≡ length (content_at st o).bytes
     long = length-drop 6 d ∙ omega arith
@@ -113,7 +113,7 @@ module _ (s : List ℕ) (o : ℕ) (p : o < assemblies_of s) (d : List ℕ) (was 
     run_is = er ∙ ap (λ (z : List ℕ). eqb (get_or z 2 0 % 2) 1) (sym ef)
 
     was-is : was ≡ (content_at st o).run
-    was-is = ew ∙ run-held s st l h o there
+    was-is = ew ∙ run_held s st l h o there
 
     test-is : b ≡ changes f (content_at st o)
     unfolding changes
@@ -130,10 +130,10 @@ module _ (s : List ℕ) (o : ℕ) (p : o < assemblies_of s) (d : List ℕ) (was 
         same_eq (content_at st o).bytes (drop 6 d) (not_false_is (same (content_at st o).bytes (drop 6 d)) (sym (rep st l h long).changed ∙ c)) in
         let k : bytes_as o (drop 6 d) st ≡ st =
         ap (λ (z : List ℕ). bytes_as o z st) (sym w) ∙ ap (λ (z : List Content). with_contents z st) (set-get_or st.contents o no_content) in
-        (rep st l h long).is ∙ ap (λ (z : State). store z l) (k ∙ sym (same-state f o st (sym test-is ∙ e)))
+        (rep st l h long).is ∙ ap (λ (z : State). store z l) (k ∙ sym (same_state f o st (sym test-is ∙ e)))
 
     held : Holds s₁ (bytes_as o (drop 6 d) st) l
-    held = record { is = (rep st l h long).is; suits = suits-content st l h.suits o (record { bytes = drop 6 d; run = old.run; notified = old.notified }) long }
+    held = record { is = (rep st l h long).is; suits = suits_content st l h.suits o (record { bytes = drop 6 d; run = old.run; notified = old.notified }) long }
 
     marked-is : mark_as o run true (bytes_as o (drop 6 d) st) ≡ fresh f o st
     marked-is =
@@ -151,25 +151,25 @@ module _ (s : List ℕ) (o : ℕ) (p : o < assemblies_of s) (d : List ℕ) (was 
       -- whether an event waits already
       module _ (waits : Bool) (ew' : waits ≡ notified_in (mark_at s o)) where
         told_is : waits ≡ (content_at st o).notified
-        told_is = ew' ∙ notified-held s st l h o there
+        told_is = ew' ∙ notified_held s st l h o there
 
         pub take-quiet : waits ≡ true → s₂ ≡ store (accepted f o st) l
-        take-quiet y = is₂ ∙ ap (λ (z : State). store z l) (sym (quiet-state f o st (sym test-is ∙ e) (sym told_is ∙ y)))
+        take-quiet y = is₂ ∙ ap (λ (z : State). store z l) (sym (quiet_state f o st (sym test-is ∙ e) (sym told_is ∙ y)))
 
         pub take-told : waits ≡ false → (v : ℕ) → v ≡ (shape_in s o).instance → (s₃ : List ℕ) → Becomes s₂ s₃ (event_told (OutputChanged v)) → s₃ ≡ store (accepted f o st) l
         take-told y v ev s₃ bp =
-            let w : Suits (fresh f o st) l = suits-content st l h.suits o (record { bytes = data_of f; run = run_bit f; notified = true }) (ap length (sym data_is) ∙ long) in
+            let w : Suits (fresh f o st) l = suits_content st l h.suits o (record { bytes = data_of f; run = run_bit f; notified = true }) (ap length (sym data_is) ∙ long) in
             bp (fresh f o st) l (record { is = is₂; suits = w })
-            ∙ ap (λ (z : ℕ). store (event_told (OutputChanged z) (fresh f o st)) l) (ev ∙ ap (λ (z : Shape). z.instance) (shape-held s st l h o p))
-            ∙ ap (λ (z : State). store z l) (sym (told-state f o st (sym test-is ∙ e) (sym told_is ∙ y)))
+            ∙ ap (λ (z : ℕ). store (event_told (OutputChanged z) (fresh f o st)) l) (ev ∙ ap (λ (z : Shape). z.instance) (shape_held s st l h o p))
+            ∙ ap (λ (z : State). store z l) (sym (told_state f o st (sym test-is ∙ e) (sym told_is ∙ y)))
 
 -- ---- offer
 
 module _ (s : List ℕ) (o : ℕ) (d : List ℕ) (n : ℕ) (en : n ≡ assemblies_of s) where
-  pub offer-nowhere : n ≤ o → Offers o d s s
+  pub offer_nowhere : n ≤ o → Offers o d s s
   unfolding offered
-  offer-nowhere p f ef st l h =
-      let a = assemblies-held s st l h in
+  offer_nowhere p f ef st l h =
+      let a = assemblies_held s st l h in
       let c = h.suits.fits.contents in
       let t : ltb o (length st.setup.assemblies) ≡ false = le-ltb o (length st.setup.assemblies) (omega arith) in
       h.is ∙ ap (λ (z : State). store z l) (sym (rw t))
@@ -177,12 +177,12 @@ module _ (s : List ℕ) (o : ℕ) (d : List ℕ) (n : ℕ) (en : n ≡ assemblie
   module _ (p : o < n) (v : ℕ) (ev : v ≡ (shape_in s o).size) where
     in-range : (st : State) (l : List ℕ) → Holds s st l → ltb o (length st.setup.assemblies) ≡ true
     in-range st l h =
-        let a = assemblies-held s st l h in
+        let a = assemblies_held s st l h in
         let c = h.suits.fits.contents in
         lt-ltb o (length st.setup.assemblies) (omega arith)
 
     size_is : (st : State) (l : List ℕ) → Holds s st l → v ≡ (shape_at st.setup o).size
-    size_is st l h = ev ∙ ap (λ (z : Shape). z.size) (shape-held s st l h o (omega arith))
+    size_is st l h = ev ∙ ap (λ (z : Shape). z.size) (shape_held s st l h o (omega arith))
 
     pub offer-other : (length d ≡ v + 6 → ⊥) → Offers o d s s
     unfolding offered

@@ -33,7 +33,7 @@ use Rattle.state_rules.specs.Places.{setup_in, assemblies_of}
 use Rattle.state_rules.specs.Image.{view, tested}
 use Rattle.msg_positions.specs.Positions.{w_position, dec_upload, last_number, any_last, last_offset, list_position, held_in, list_upload, enc_upload, plain, plain_list}
 use Rattle.msg_positions.specs.PositionLaws.{read_none, read_under}
-use Rattle.msg_answering.specs.Positions.{position_tested, position-ok, eds_none, eds_some, eds-long, mark-small, sized_tested}
+use Rattle.msg_answering.specs.Positions.{position_tested, position_ok_lem, eds_none, eds_some, eds-long, mark-small, sized_tested}
 use Rattle.msg_answering.specs.Lifted.{lifted_message, message_on}
 
 -- ---- a position whose numbers fit their bytes
@@ -130,29 +130,29 @@ zeros_pass u = refl
 -- ---- a message leaves a position whose numbers fit
 
 module _ (st : State) (local mask : ℕ) (limited : st.setup.transferLimit ≤ 255) (short : (eds : List ℕ) → st.setup.eds ≡ some eds → length eds ≤ 65535) where
-  initiate-small : (eds : List ℕ) (up : Upload) → Small up → (bytes : List ℕ) → Small (initiate st.setup.transferLimit eds up bytes).1
+  initiate_small : (eds : List ℕ) (up : Upload) → Small up → (bytes : List ℕ) → Small (initiate st.setup.transferLimit eds up bytes).1
   unfolding initiate clamped
-  initiate-small eds up h [] = h
-  initiate-small eds up h (wanted ∷ rest) = (omega arith, omega arith, omega arith, omega arith, omega arith)
+  initiate_small eds up h [] = h
+  initiate_small eds up h (wanted ∷ rest) = (omega arith, omega arith, omega arith, omega arith, omega arith)
 
-  advanced-small : (eds : List ℕ) → length eds ≤ 65535 → (p : Position) → Small (Under p) → Small (Under (advanced eds p))
+  advanced_small : (eds : List ℕ) → length eds ≤ 65535 → (p : Position) → Small (Under p) → Small (Under (advanced eds p))
   unfolding advanced
-  advanced-small eds l p h = (h.0, omega arith, omega arith, h.1, h.2)
+  advanced_small eds l p h = (h.0, omega arith, omega arith, h.1, h.2)
 
   turn_small : (eds : List ℕ) → length eds ≤ 65535 → (p : Position) → Small (Under p) → (number : ℕ) (t : Turn) → Small (transfer_for eds p number t).1
   turn_small eds l p h number (Repeat offset) = h
-  turn_small eds l p h number InTurn = advanced-small eds l p h
+  turn_small eds l p h number InTurn = advanced_small eds l p h
   turn_small eds l p h number OutOfTurn = h
 
-  transfer-small : (eds : List ℕ) → length eds ≤ 65535 → (up : Upload) → Small up → (bytes : List ℕ) → Small (transfer eds up bytes).1
+  transfer_small : (eds : List ℕ) → length eds ≤ 65535 → (up : Upload) → Small up → (bytes : List ℕ) → Small (transfer eds up bytes).1
   unfolding transfer
-  transfer-small eds l up h [] = h
-  transfer-small eds l NoUpload h (number ∷ rest) = tt
-  transfer-small eds l (Under p) h (number ∷ rest) = turn_small eds l p h number (turn_of p number)
+  transfer_small eds l up h [] = h
+  transfer_small eds l NoUpload h (number ∷ rest) = tt
+  transfer_small eds l (Under p) h (number ∷ rest) = turn_small eds l p h number (turn_of p number)
 
-  either-small : (b : Bool) (x y : Outcome × Upload) → Small x.1 → Small y.1 → Small (cond b x y).1
-  either-small true x y h g = h
-  either-small false x y h g = g
+  either_small : (b : Bool) (x y : Outcome × Upload) → Small x.1 → Small y.1 → Small (cond b x y).1
+  either_small true x y h g = h
+  either_small false x y h g = g
 
   module _ (up : Upload) (h : Small up) where
     file-small : (service instance : ℕ) (a : FirstAttribute) (bytes : List ℕ) (eds : Option (List ℕ)) → st.setup.eds ≡ eds
@@ -160,39 +160,39 @@ module _ (st : State) (local mask : ℕ) (limited : st.setup.transferLimit ≤ 2
     unfolding file eds_file
     file-small service instance a bytes none e = h
     file-small service instance a bytes (some eds) e =
-        either-small (eqb instance 0) _ _ h
-        (either-small (eqb instance eds_instance) _ _
-        (either-small (eqb service initiate_upload) _ _ (initiate-small eds up h bytes)
-        (either-small (eqb service upload_transfer) _ _ (transfer-small eds (short eds e) up h bytes) h))
+        either_small (eqb instance 0) _ _ h
+        (either_small (eqb instance eds_instance) _ _
+        (either_small (eqb service initiate_upload) _ _ (initiate_small eds up h bytes)
+        (either_small (eqb service upload_transfer) _ _ (transfer_small eds (short eds e) up h bytes) h))
         h)
 
     object-small : (service : ℕ) (a : FirstAttribute) (bytes : List ℕ) (o : Object) → Small (of_object st local mask service a bytes up o).1
     unfolding of_class
     object-small service a bytes NoObject = h
     object-small service a bytes (Named class instance) =
-        either-small (eqb class 0x01) _ _ h
-        (either-small (eqb class 0x04) _ _ h
-        (either-small (eqb class 0xF5) _ _ h
-        (either-small (eqb class 0xF6) _ _ h
-        (either-small (eqb class 0x37) _ _ (file-small service instance a bytes st.setup.eds refl)
-        (either-small (eqb class 0x02) _ _ h h)))))
+        either_small (eqb class 0x01) _ _ h
+        (either_small (eqb class 0x04) _ _ h
+        (either_small (eqb class 0xF5) _ _ h
+        (either_small (eqb class 0xF6) _ _ h
+        (either_small (eqb class 0x37) _ _ (file-small service instance a bytes st.setup.eds refl)
+        (either_small (eqb class 0x02) _ _ h h)))))
 
-    request-small : (message : List ℕ) (r : RequestAnswer) → Small (of_request st local mask message up r).1
-    request-small message (Unparsed service) = h
-    request-small message (Parsed r) = object-small r.service r.attribute (drop r.datastart message) r.object
+    request_small : (message : List ℕ) (r : RequestAnswer) → Small (of_request st local mask message up r).1
+    request_small message (Unparsed service) = h
+    request_small message (Parsed r) = object-small r.service r.attribute (drop r.datastart message) r.object
 
     message-small : (message : List ℕ) (room : ℕ) → Small (message_call local mask message room st up).1
     unfolding message_call message_outcome
-    message-small message room = either_way Small (is_yes (message_answer local mask message room st up)) (request-small message (request_of message)) h
+    message-small message room = either_way Small (is_yes (message_answer local mask message room st up)) (request_small message (request_of message)) h
 
 -- ---- MESSAGE
 
 module _ (s : List ℕ) (t : tested s ≡ true) (b : Bytes s) where
-  limit-small : (view s).setup.transferLimit ≤ 255
-  limit-small = (sized_tested s t b).limitHigh
+  limit_small : (view s).setup.transferLimit ≤ 255
+  limit_small = (sized_tested s t b).limitHigh
 
-  eds-small : (eds : List ℕ) → (view s).setup.eds ≡ some eds → length eds ≤ 65535
-  eds-small eds e = by (eqb (le 4 (setup_in s) 4) 0) refl
+  eds_small : (eds : List ℕ) → (view s).setup.eds ≡ some eds → length eds ≤ 65535
+  eds_small eds e = by (eqb (le 4 (setup_in s) 4) 0) refl
     where
       some_is : {x y : List ℕ} → some x ≡ some y → x ≡ y
       some_is {x} q = ap (λ (o : Option (List ℕ)). from x o) q
@@ -217,11 +217,11 @@ module _ (s : List ℕ) (t : tested s ≡ true) (b : Bytes s) where
     unfolding left message_call
     left-ok =
         either_way (λ (x : Upload). upload_ok (view s).setup x ≡ true) (is_yes (message_answer local mask message (length out) (view s) (dec_upload upload)))
-        (position-kept (view s) local mask (sized_tested s t b) (dec_upload upload) (position-ok (view s).setup upload p) message) (position-ok (view s).setup upload p)
+        (position-kept (view s) local mask (sized_tested s t b) (dec_upload upload) (position_ok_lem (view s).setup upload p) message) (position_ok_lem (view s).setup upload p)
 
     left-small : Small left
     unfolding left
-    left-small = message-small (view s) local mask limit-small eds-small (dec_upload upload) (small_read upload c) message (length out)
+    left-small = message-small (view s) local mask limit_small eds_small (dec_upload upload) (small_read upload c) message (length out)
 
     left_is : (lifted_message local mask message s upload out).1.0 ≡ enc_upload left
     unfolding lifted_message left

@@ -11,7 +11,7 @@ use Rattle.rules.specs.State.{State}
 use Rattle.rules.specs.Attributes.{Outcome}
 use Rattle.rules.specs.Answers.{Answer, answerNumber, answerBytes, Wrote, Refused, NoRoom}
 use Rattle.rules.specs.Message.{service_of, message_outcome, message_reply, reply_room, message_call}
-use Rattle.rules_laws.specs.ReplyLaws.{no_room, always-replied}
+use Rattle.rules_laws.specs.ReplyLaws.{no_room, always_replied}
 use Rattle.state_rules.specs.Image.{view, tested}
 use Rattle.msg_positions.specs.Positions.{dec_upload, enc_upload}
 use Rattle.msg_answering.specs.Positions.{position_tested}
@@ -29,9 +29,9 @@ lifted_message local mask message l upload out =
     (1, (upload, out))
 
 module _ (local mask : ℕ) (message l upload out : List ℕ) where
-  pub message-untested : tested l ≡ false → (1, (upload, out)) ≡ lifted_message local mask message l upload out
+  pub message_untested : tested l ≡ false → (1, (upload, out)) ≡ lifted_message local mask message l upload out
   unfolding lifted_message
-  message-untested e = rw e
+  message_untested e = rw e
 
   module _ (t : tested l ≡ true) where
     pub message-misplaced : position_tested (view l).setup upload ≡ false → (1, (upload, out)) ≡ lifted_message local mask message l upload out
@@ -48,9 +48,9 @@ module _ (local mask : ℕ) (message l upload out : List ℕ) where
       answered a up e = passes ∙ ap (λ (z : Answer × Upload). (answerNumber z.0, (enc_upload z.1, sets out 0 (answerBytes z.0)))) e
 
       -- No. 8
-      pub message-short : length out < 516 → enc_upload (dec_upload upload) ≡ upload → (8, (upload, out)) ≡ lifted_message local mask message l upload out
+      pub message_short : length out < 516 → enc_upload (dec_upload upload) ≡ upload → (8, (upload, out)) ≡ lifted_message local mask message l upload out
       unfolding answerNumber
-      message-short h w =
+      message_short h w =
           (λ i. (8, (sym w i, out)))
           ∙ sym (answered (Refused NoRoom) (dec_upload upload) (no_room (view l) local mask message (length out) (dec_upload upload) h))
 
@@ -62,4 +62,4 @@ module _ (local mask : ℕ) (message l upload out : List ℕ) where
       message-replied h n p' o e =
           (λ i. (2 ^ 8 * (e i).0, ((e i).1.0, (e i).1.1)))
           ∙ sym (answered (Wrote (message_reply (view l) local mask message (dec_upload upload))) (message_outcome (view l) local mask message (dec_upload upload)).1
-          (always-replied (view l) local mask message (length out) (dec_upload upload) h))
+          (always_replied (view l) local mask message (length out) (dec_upload upload) h))

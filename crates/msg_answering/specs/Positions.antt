@@ -20,9 +20,9 @@ use Rattle.rules_laws.specs.ReplyLaws.{Sized}
 use Rattle.state_rules.specs.Places.{setup_in, eds_in, eds_at}
 use Rattle.state_rules.specs.Setups.{setup_from, setup_of}
 use Rattle.state_rules.specs.Image.{view, tested}
-use Rattle.state_image.specs.Fits.{is-sound, is-long, short-name, short-eds-name, short-eds, some-transfer}
-use Rattle.state_image.specs.StoreLaws.{length-edsIn, content-short}
-use Rattle.state_image.specs.ViewLaws.{suits-view}
+use Rattle.state_image.specs.Fits.{is_sound, is_long, short_name, short_eds_name, short_eds, some_transfer}
+use Rattle.state_image.specs.StoreLaws.{length_eds_in, content_short}
+use Rattle.state_image.specs.ViewLaws.{suits_view}
 use Rattle.msg_attributes.specs.declared.Given.{Given}
 use Rattle.msg_positions.specs.Positions.{w_position, plain_list, ok_with, dec_upload, upload_tested}
 use Rattle.msg_positions.specs.PositionLaws.{ok_none, ok_some, write_again}
@@ -42,16 +42,16 @@ module _ (s : List ℕ) where
   abbrev mark : ℕ
   mark = le 4 (setup_in s) 4
 
-  abbrev edsBytes : List ℕ
-  edsBytes = take (le 4 (setup_in s) 4 - 1) (eds_in s)
+  abbrev eds_bytes : List ℕ
+  eds_bytes = take (le 4 (setup_in s) 4 - 1) (eds_in s)
 
   pub eds_none : le 4 (setup_in s) 4 ≡ 0 → (view s).setup.eds ≡ none
   unfolding view setup_of
-  eds_none h = ap (λ (b : Bool). cond b none (some edsBytes)) (eq-eqb mark 0 h)
+  eds_none h = ap (λ (b : Bool). cond b none (some eds_bytes)) (eq-eqb mark 0 h)
 
   pub eds_some : (le 4 (setup_in s) 4 ≡ 0 → ⊥) → (view s).setup.eds ≡ some (take (le 4 (setup_in s) 4 - 1) (eds_in s))
   unfolding view setup_of
-  eds_some h = ap (λ (b : Bool). cond b none (some edsBytes)) (ne_eqb mark 0 h)
+  eds_some h = ap (λ (b : Bool). cond b none (some eds_bytes)) (ne_eqb mark 0 h)
 
   limit_is : (view s).setup.transferLimit ≡ le 1 (setup_in s) 1
   unfolding view setup_of
@@ -59,29 +59,29 @@ module _ (s : List ℕ) where
 
   module _ (t : tested s ≡ true) where
     pub mark-small : le 4 (setup_in s) 4 ≤ 65536
-    mark-small = short-eds (setup_in s) (is-sound s t)
+    mark-small = short_eds (setup_in s) (is_sound s t)
 
     pub eds-long : length (take (le 4 (setup_in s) 4 - 1) (eds_in s)) ≡ le 4 (setup_in s) 4 - 1
-    eds-long = length-take-le (mark - 1) (eds_in s) (let a = mark-small in let b = length-edsIn s (is-long s t) in omega arith)
+    eds-long = length-take-le (mark - 1) (eds_in s) (let a = mark-small in let b = length_eds_in s (is_long s t) in omega arith)
 
     -- the EDS as it is lent
     pub eds-lent : take (le 4 (setup_in s) 4 - 1) (drop eds_at s) ≡ take (le 4 (setup_in s) 4 - 1) (eds_in s)
     eds-lent = sym (take-take (mark - 1) 65536 (drop eds_at s) (let a = mark-small in omega arith))
 
     pub names-short : le 1 (setup_in s) 3 ≤ 32
-    names-short = short-eds-name (setup_in s) (is-sound s t)
+    names-short = short_eds_name (setup_in s) (is_sound s t)
 
   -- the test, with an EDS and without
-  pub test-none : (l : List ℕ) (limit : ℕ) (x : Bool) → le 4 (setup_in s) 4 ≡ 0 → limit ≡ le 1 (setup_in s) 1 → x ≡ upload_tested limit false 0 l → x ≡ position_tested (view s).setup l
-  test-none l limit x h e f =
+  pub test_none : (l : List ℕ) (limit : ℕ) (x : Bool) → le 4 (setup_in s) 4 ≡ 0 → limit ≡ le 1 (setup_in s) 1 → x ≡ upload_tested limit false 0 l → x ≡ position_tested (view s).setup l
+  test_none l limit x h e f =
       f ∙ ap (λ (n : ℕ). upload_tested n false 0 l) (e ∙ sym limit_is)
       ∙ same_test (view s).setup (view s).setup.transferLimit false 0 l (ok_none (view s).setup 0 (dec_upload l) (eds_none h))
 
-  pub test-some : tested s ≡ true → (l : List ℕ) (limit size : ℕ) (x : Bool) → (le 4 (setup_in s) 4 ≡ 0 → ⊥) → limit ≡ le 1 (setup_in s) 1 → size ≡ le 4 (setup_in s) 4 - 1
+  pub test_some : tested s ≡ true → (l : List ℕ) (limit size : ℕ) (x : Bool) → (le 4 (setup_in s) 4 ≡ 0 → ⊥) → limit ≡ le 1 (setup_in s) 1 → size ≡ le 4 (setup_in s) 4 - 1
       → x ≡ upload_tested limit true size l → x ≡ position_tested (view s).setup l
-  test-some t l limit size x h e g f =
+  test_some t l limit size x h e g f =
       f ∙ (λ i. upload_tested ((e ∙ sym limit_is) i) true ((g ∙ sym (eds-long t)) i) l)
-      ∙ same_test (view s).setup (view s).setup.transferLimit true (length edsBytes) l (ok_some (view s).setup edsBytes (dec_upload l) (eds_some h))
+      ∙ same_test (view s).setup (view s).setup.transferLimit true (length eds_bytes) l (ok_some (view s).setup eds_bytes (dec_upload l) (eds_some h))
 
   -- ---- File, with an EDS and without
 
@@ -99,7 +99,7 @@ module _ (s : List ℕ) where
         → x ≡ stepped (file_in (view s).setup service instance a bytes up (view s).setup.eds) out
     the-file t h eds e f =
         f ∙ ap (λ (z : List ℕ). stepped (file (setup_from (setup_in s) []) z service instance a bytes up) out) (e ∙ eds-lent t)
-        ∙ ap (λ (z : Outcome × Upload). stepped z out) (same-file edsBytes)
+        ∙ ap (λ (z : Outcome × Upload). stepped z out) (same-file eds_bytes)
         ∙ ap (λ (o : Option (List ℕ)). stepped (file_in (view s).setup service instance a bytes up o) out) (sym (eds_some h))
 
 -- ---- what the test says
@@ -108,9 +108,9 @@ module _ (u : Setup) (l : List ℕ) (t : position_tested u l ≡ true) where
   abbrev tests : List Bool
   tests = eqb (length l) 8 ∷ plain_list (dec_fields w_position l 0) ∷ upload_ok u (dec_upload l) ∷ []
 
-  pub position-ok : upload_ok u (dec_upload l) ≡ true
+  pub position_ok_lem : upload_ok u (dec_upload l) ≡ true
   unfolding position_tested
-  position-ok = all_at tests t 2
+  position_ok_lem = all_at tests t 2
 
 -- a tested position is whole
 pub whole_tested : (s l : List ℕ) → tested s ≡ true → Bytes l → position_tested (view s).setup l ≡ true → Whole l
@@ -142,10 +142,10 @@ pub sized_tested : (s : List ℕ) → tested s ≡ true → Bytes s → Sized (v
 unfolding view setup_of
 sized_tested s t b =
     record {
-      name = let e = length-take (le 1 (setup_in s) 2) (drop 46 (setup_in s)) in let h = short-name (setup_in s) (is-sound s t) in omega arith;
-      edsName = let e = length-take (le 1 (setup_in s) 3) (drop 78 (setup_in s)) in let h = short-eds-name (setup_in s) (is-sound s t) in omega arith;
+      name = let e = length-take (le 1 (setup_in s) 2) (drop 46 (setup_in s)) in let h = short_name (setup_in s) (is_sound s t) in omega arith;
+      edsName = let e = length-take (le 1 (setup_in s) 3) (drop 78 (setup_in s)) in let h = short_eds_name (setup_in s) (is_sound s t) in omega arith;
       mac = let e = length-take 6 (drop 40 (setup_in s)) in omega arith;
-      limitLow = let h = some-transfer (setup_in s) (is-sound s t) in omega arith;
+      limitLow = let h = some_transfer (setup_in s) (is_sound s t) in omega arith;
       limitHigh = let e = le_1 (setup_in s) 1 in let h = bytes_take 192 (drop 0 s) (bytes_drop 0 s b) 1 in omega arith;
-      contents = λ i. content-short (view s) s (suits-view s t) i;
+      contents = λ i. content_short (view s) s (suits_view s t) i;
     }

@@ -60,21 +60,21 @@ module _ (out bs : List ℕ) (h : 4 ≤ length out) (a b c d : ℕ) where
   abbrev front : List ℕ
   front = a ∷ b ∷ c ∷ d ∷ []
 
-  in-front : (x rest : List ℕ) → 4 ≤ length x → drop 4 x ≡ rest → sets x 0 front ≡ a ∷ b ∷ c ∷ d ∷ rest
-  in-front x rest g e = sets-eq front x 0 (omega arith) ∙ ap (λ (z : List ℕ). front ++ z) e
+  in_front : (x rest : List ℕ) → 4 ≤ length x → drop 4 x ≡ rest → sets x 0 front ≡ a ∷ b ∷ c ∷ d ∷ rest
+  in_front x rest g e = sets-eq front x 0 (omega arith) ∙ ap (λ (z : List ℕ). front ++ z) e
 
   behind : (x : List ℕ) → sets x 4 bs ≡ take 4 x ++ sets (drop 4 x) 0 bs
   behind x =
       sym (take-append-drop 4 (sets x 4 bs))
       ∙ (λ i. take_sets 4 x 4 bs (omega arith) i ++ drop_sets_add 4 x 0 bs i)
 
-  pub both-put : sets (take 4 out ++ sets (drop 4 out) 0 bs) 0 front ≡ sets out 0 (front ++ bs)
-  both-put =
+  pub both_put : sets (take 4 out ++ sets (drop 4 out) 0 bs) 0 front ≡ sets out 0 (front ++ bs)
+  both_put =
       let n : length (take 4 out) ≡ 4 = length-take-le 4 out h in
       let rest : List ℕ = sets (drop 4 out) 0 bs in
-      in-front (take 4 out ++ rest) rest (let e = length-append (take 4 out) rest in omega arith) (drop_at (take 4 out) rest 4 n)
+      in_front (take 4 out ++ rest) rest (let e = length-append (take 4 out) rest in omega arith) (drop_at (take 4 out) rest 4 n)
       ∙ sym (sets_append out 0 front bs
-      ∙ ap (λ (z : List ℕ). sets z 4 bs) (in-front out (drop 4 out) h refl)
+      ∙ ap (λ (z : List ℕ). sets z 4 bs) (in_front out (drop 4 out) h refl)
       ∙ behind (a ∷ b ∷ c ∷ d ∷ drop 4 out))
 
 module _ (service : ℕ) (out : List ℕ) (h : 516 ≤ length out) where
@@ -94,22 +94,22 @@ module _ (service : ℕ) (out : List ℕ) (h : 516 ≤ length out) where
   unfolding told reply_to reply_head
   finished (Gives bs) =
       (λ i. (4 + length bs, sets ((back_is (sets lent 0 bs) ∙ ap (λ (z : List ℕ). take 4 out ++ sets z 0 bs) lent_is) i) 0 (reply_head service 0)))
-      ∙ (λ i. ((let z : 4 + length bs ≡ length (reply_head service 0 ++ bs) = omega arith in z) i, both-put out bs (omega arith) (0x80 + service % 0x80) 0 0 0 i))
+      ∙ (λ i. ((let z : 4 + length bs ≡ length (reply_head service 0 ++ bs) = omega arith in z) i, both_put out bs (omega arith) (0x80 + service % 0x80) 0 0 0 i))
   finished (Fails f) = ap (λ (z : List ℕ). (4, sets z 0 (reply_head service (status_number f)))) (put_same 4 (length out - 4) out)
 
   -- an object's step behind, and the head in front, are the reply
-  pub reply-done : (x : Outcome × Upload) (g : Given) (p o : List ℕ) (n : ℕ) (z : List ℕ) → (g, (p, o)) ≡ stepped x (mid_of 4 (length out - 4) out)
+  pub reply_done : (x : Outcome × Upload) (g : Given) (p o : List ℕ) (n : ℕ) (z : List ℕ) → (g, (p, o)) ≡ stepped x (mid_of 4 (length out - 4) out)
       → (n, z) ≡ headed service g (put_mid 4 (length out - 4) out o) → (n, (p, z)) ≡ replied service x out
-  reply-done x g p o n z e f =
+  reply_done x g p o n z e f =
       let q : ◌≡◌ {A = ℕ × List ℕ} (n, z) (length (reply_to service x.0), sets out 0 (reply_to service x.0)) =
       f ∙ (λ i. headed service (e i).0 (put_mid 4 (length out - 4) out (e i).1.1)) ∙ finished x.0 in
       λ i. ((q i).0, ((e i).1.0, (q i).1))
 
   -- no object: the head alone
-  pub reply-alone : (f : Fault) (up : Upload) (p : List ℕ) (n : ℕ) (z : List ℕ) → enc_upload up ≡ p → (n, z) ≡ headed service (given.TheVariants.Fails f) out
+  pub reply_alone : (f : Fault) (up : Upload) (p : List ℕ) (n : ℕ) (z : List ℕ) → enc_upload up ≡ p → (n, z) ≡ headed service (given.TheVariants.Fails f) out
       → (n, (p, z)) ≡ replied service (Fails f, up) out
   unfolding reply_to reply_head
-  reply-alone f up p n z e q = λ i. ((q i).0, (sym e i, (q i).1))
+  reply_alone f up p n z e q = λ i. ((q i).0, (sym e i, (q i).1))
 
   -- what fits a reply is few
   pub few : (x : Outcome × Upload) (g : Given) (p o : List ℕ) → (g, (p, o)) ≡ stepped x (mid_of 4 (length out - 4) out) → length (reply_to service x.0) ≤ 516 → count g ≤ 512

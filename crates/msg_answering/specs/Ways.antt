@@ -23,22 +23,22 @@ use Rattle.msg_answering.specs.Replies.{replied}
 
 module _ (st : State) (local mask service : ℕ) (a : FirstAttribute) (bytes : List ℕ) (up : Upload) (out : List ℕ) (x : Given × (List ℕ × List ℕ)) where
   -- the class is one of the six
-  pub class-is : (class instance k : ℕ) (y : Outcome × Upload) → class ≡ k → of_class st local mask service a bytes up k instance ≡ y → x ≡ stepped y out
+  pub class_is : (class instance k : ℕ) (y : Outcome × Upload) → class ≡ k → of_class st local mask service a bytes up k instance ≡ y → x ≡ stepped y out
       → x ≡ stepped (of_class st local mask service a bytes up class instance) out
-  class-is class instance k y e f g =
+  class_is class instance k y e f g =
       g ∙ ap (λ (z : Outcome × Upload). stepped z out) (sym f) ∙ ap (λ (m : ℕ). stepped (of_class st local mask service a bytes up m instance) out) (sym e)
 
   -- or none of them
-  pub class-none : (class instance : ℕ) → (class ≡ 0x01 → ⊥) → (class ≡ 0x04 → ⊥) → (class ≡ 0xF5 → ⊥) → (class ≡ 0xF6 → ⊥) → (class ≡ 0x37 → ⊥) → (class ≡ 0x02 → ⊥)
+  pub class_none : (class instance : ℕ) → (class ≡ 0x01 → ⊥) → (class ≡ 0x04 → ⊥) → (class ≡ 0xF5 → ⊥) → (class ≡ 0xF6 → ⊥) → (class ≡ 0x37 → ⊥) → (class ≡ 0x02 → ⊥)
       → x ≡ stepped (Fails PathUnknown, up) out → x ≡ stepped (of_class st local mask service a bytes up class instance) out
   unfolding of_class
-  class-none class instance h₁ h₂ h₃ h₄ h₅ h₆ g =
+  class_none class instance h₁ h₂ h₃ h₄ h₅ h₆ g =
       let e : of_class st local mask service a bytes up class instance ≡ (Fails PathUnknown, up) =
       rw (ne_eqb class 0x01 h₁, ne_eqb class 0x04 h₂, ne_eqb class 0xF5 h₃, ne_eqb class 0xF6 h₄, ne_eqb class 0x37 h₅, ne_eqb class 0x02 h₆) in
       g ∙ ap (λ (z : Outcome × Upload). stepped z out) (sym e)
 
-  pub object-is : (object v : Object) → object ≡ v → x ≡ stepped (of_object st local mask service a bytes up v) out → x ≡ stepped (of_object st local mask service a bytes up object) out
-  object-is object v e g = g ∙ ap (λ (o : Object). stepped (of_object st local mask service a bytes up o) out) (sym e)
+  pub object_is : (object v : Object) → object ≡ v → x ≡ stepped (of_object st local mask service a bytes up v) out → x ≡ stepped (of_object st local mask service a bytes up object) out
+  object_is object v e g = g ∙ ap (λ (o : Object). stepped (of_object st local mask service a bytes up o) out) (sym e)
 
 -- the data of a message, as they are lent
 pub data_lent : (m : List ℕ) (start : ℕ) → take (length m - start) (drop start m) ≡ drop start m
@@ -52,14 +52,14 @@ object_lent st local mask r m up out x e =
 
 module _ (st : State) (local mask : ℕ) (m : List ℕ) (up : Upload) (v : RequestAnswer) (e : request_of m ≡ v) where
   -- the request, by what it was parsed to
-  pub reply-for : (out : List ℕ) (x : ℕ × (List ℕ × List ℕ)) → x ≡ replied (service_of v) (of_request st local mask m up v) out
+  pub reply_for_lem : (out : List ℕ) (x : ℕ × (List ℕ × List ℕ)) → x ≡ replied (service_of v) (of_request st local mask m up v) out
       → x ≡ replied (service_of (request_of m)) (message_outcome st local mask m up) out
   unfolding message_outcome
-  reply-for out x f = f ∙ ap (λ (r : RequestAnswer). replied (service_of r) (of_request st local mask m up r) out) (sym e)
+  reply_for_lem out x f = f ∙ ap (λ (r : RequestAnswer). replied (service_of r) (of_request st local mask m up r) out) (sym e)
 
-  pub reply-short : Sized st → upload_ok st.setup up ≡ true → length (reply_to (service_of v) (of_request st local mask m up v).0) ≤ 516
+  pub reply_short : Sized st → upload_ok st.setup up ≡ true → length (reply_to (service_of v) (of_request st local mask m up v).0) ≤ 516
   unfolding message_reply message_outcome
-  reply-short sized ok =
+  reply_short sized ok =
       let h = reply-fits st local mask sized up ok m in
       let q : length (reply_to (service_of (request_of m)) (of_request st local mask m up (request_of m)).0) ≡ length (reply_to (service_of v) (of_request st local mask m up v).0) =
       ap (λ (r : RequestAnswer). length (reply_to (service_of r) (of_request st local mask m up r).0)) e in

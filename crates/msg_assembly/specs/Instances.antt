@@ -9,7 +9,7 @@ use Rattle.wire_rules.specs.declared.FirstAttribute.{FirstAttribute}
 use Rattle.rules.specs.Attributes.{Attributes, single}
 use Rattle.rules.specs.Objects.{largest_instance, assembly_class, assembly_place, assembly_object, assembly}
 use Rattle.state_rules.specs.Places.{setup_in}
-use Rattle.state_rules.specs.Listed.{listed, listed-rest, listed-end}
+use Rattle.state_rules.specs.Listed.{listed, listed_rest, listed_end}
 use Rattle.state_rules.specs.Setups.{shape_in, setup_from, setup_of, shapes_of}
 use Rattle.state_rules.specs.Image.{view}
 use Rattle.state_layout.specs.Searched.{place_in}
@@ -26,19 +26,19 @@ module _ (n : ℕ) (r : List ℕ) where
   abbrev shapes : List Shape
   shapes = listed (shape_in r) n
 
-  pub largest-starts : max 0 (largest_instance (drop 0 shapes)) ≡ largest_instance shapes
-  largest-starts = omega arith
+  pub largest_starts : max 0 (largest_instance (drop 0 shapes)) ≡ largest_instance shapes
+  largest_starts = omega arith
 
-  pub largest-on : (i most : ℕ) → i < n → (m : ℕ) → m ≡ (shape_in r i).instance
+  pub largest_on : (i most : ℕ) → i < n → (m : ℕ) → m ≡ (shape_in r i).instance
       → max (max most m) (largest_instance (drop (i + 1) shapes)) ≡ max most (largest_instance (drop i shapes))
-  largest-on i most h m e =
+  largest_on i most h m e =
       (let z : max (max most m) (largest_instance (drop (i + 1) shapes)) ≡ max most (max (shape_in r i).instance (largest_instance (drop (i + 1) shapes))) = omega (arith, e) in z)
-      ∙ ap (λ (xs : List Shape). max most (largest_instance xs)) (sym (listed-rest (shape_in r) n i h))
+      ∙ ap (λ (xs : List Shape). max most (largest_instance xs)) (sym (listed_rest (shape_in r) n i h))
 
-  pub largest-ends : (i most : ℕ) → n ≤ i → most ≡ max most (largest_instance (drop i shapes))
-  largest-ends i most h =
+  pub largest_ends : (i most : ℕ) → n ≤ i → most ≡ max most (largest_instance (drop i shapes))
+  largest_ends i most h =
       (let z : most ≡ max most 0 = omega arith in z)
-      ∙ ap (λ (xs : List Shape). max most (largest_instance xs)) (sym (listed-end (shape_in r) n i h))
+      ∙ ap (λ (xs : List Shape). max most (largest_instance xs)) (sym (listed_end (shape_in r) n i h))
 
 -- ---- the class
 
@@ -49,16 +49,16 @@ class_table s = refl
 -- ---- the object
 
 module _ (s out : List ℕ) (service instance : ℕ) (a : FirstAttribute) (x : Given × List ℕ) where
-  pub assembly-class : instance ≡ 0 → x ≡ told (single service a (assembly_class (setup_from (setup_in s) []))) out → x ≡ told (assembly (view s) service instance a) out
+  pub assembly_class_lem : instance ≡ 0 → x ≡ told (single service a (assembly_class (setup_from (setup_in s) []))) out → x ≡ told (assembly (view s) service instance a) out
   unfolding assembly
-  assembly-class e f =
+  assembly_class_lem e f =
       f ∙ ap (λ (t : Attributes). told (single service a t) out) (class_table s)
       ∙ sym (ap (λ (b : Bool). told (cond b (single service a (assembly_class (view s).setup)) (assembly_object (view s) service a (assembly_place (view s).setup instance))) out) (eq-eqb instance 0 e))
 
-  pub assembly-place : (instance ≡ 0 → ⊥) → (o : Option ℕ) → assembly_place (view s).setup instance ≡ o → x ≡ told (assembly_object (view s) service a o) out
+  pub assembly_place_lem : (instance ≡ 0 → ⊥) → (o : Option ℕ) → assembly_place (view s).setup instance ≡ o → x ≡ told (assembly_object (view s) service a o) out
       → x ≡ told (assembly (view s) service instance a) out
   unfolding assembly
-  assembly-place h o e f =
+  assembly_place_lem h o e f =
       f ∙ ap (λ (p : Option ℕ). told (assembly_object (view s) service a p) out) (sym e)
       ∙ sym (ap (λ (b : Bool). told (cond b (single service a (assembly_class (view s).setup)) (assembly_object (view s) service a (assembly_place (view s).setup instance))) out) (ne_eqb instance 0 h))
 

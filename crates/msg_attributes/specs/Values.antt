@@ -28,33 +28,33 @@ module _ (out : List ℕ) where
   fails f = refl
 
   -- a number in its width
-  pub gives-number : (w v : ℕ) (o : List ℕ) → o ≡ put w out 0 v → (given.TheVariants.Gives w, o) ≡ told (Gives (le_bytes w v)) out
+  pub gives_number : (w v : ℕ) (o : List ℕ) → o ≡ put w out 0 v → (given.TheVariants.Gives w, o) ≡ told (Gives (le_bytes w v)) out
   unfolding put
-  gives-number w v o e = gives (le_bytes w v) w o (sym (length_le_bytes w v)) e
+  gives_number w v o e = gives (le_bytes w v) w o (sym (length_le_bytes w v)) e
 
-  pub gives-pair : (a b : ℕ) (o₁ o₂ : List ℕ) → o₁ ≡ put 1 out 0 a → o₂ ≡ put 1 o₁ 1 b → (given.TheVariants.Gives 2, o₂) ≡ told (Gives (a ∷ b ∷ [])) out
+  pub gives_pair : (a b : ℕ) (o₁ o₂ : List ℕ) → o₁ ≡ put 1 out 0 a → o₂ ≡ put 1 o₁ 1 b → (given.TheVariants.Gives 2, o₂) ≡ told (Gives (a ∷ b ∷ [])) out
   unfolding put le_bytes
-  gives-pair a b o₁ o₂ e f = gives (a ∷ b ∷ []) 2 o₂ refl (f ∙ ap (λ (z : List ℕ). set z 1 b) e)
+  gives_pair a b o₁ o₂ e f = gives (a ∷ b ∷ []) 2 o₂ refl (f ∙ ap (λ (z : List ℕ). set z 1 b) e)
 
-  pub gives-text : (d : List ℕ) (o₁ o₂ : List ℕ) → o₁ ≡ put 1 out 0 (length d) → o₂ ≡ sets o₁ 1 d → (given.TheVariants.Gives (1 + length d), o₂) ≡ told (Gives (short_string d)) out
+  pub gives_text : (d : List ℕ) (o₁ o₂ : List ℕ) → o₁ ≡ put 1 out 0 (length d) → o₂ ≡ sets o₁ 1 d → (given.TheVariants.Gives (1 + length d), o₂) ≡ told (Gives (short_string d)) out
   unfolding put le_bytes short_string
-  gives-text d o₁ o₂ e f = gives (length d ∷ d) (1 + length d) o₂ (omega arith) (f ∙ ap (λ (z : List ℕ). sets z 1 d) e)
+  gives_text d o₁ o₂ e f = gives (length d ∷ d) (1 + length d) o₂ (omega arith) (f ∙ ap (λ (z : List ℕ). sets z 1 d) e)
 
-  pub gives-tagged : (d : List ℕ) (o₁ o₂ o₃ : List ℕ) → o₁ ≡ sets out 0 language_tag → o₂ ≡ put 1 o₁ 7 (length d) → o₃ ≡ sets o₂ 8 d
+  pub gives_tagged : (d : List ℕ) (o₁ o₂ o₃ : List ℕ) → o₁ ≡ sets out 0 language_tag → o₂ ≡ put 1 o₁ 7 (length d) → o₃ ≡ sets o₂ 8 d
       → (given.TheVariants.Gives (8 + length d), o₃) ≡ told (Gives (tagged_text d)) out
   unfolding put le_bytes short_string tagged_text
-  gives-tagged d o₁ o₂ o₃ e f g =
+  gives_tagged d o₁ o₂ o₃ e f g =
       gives (language_tag ++ (length d ∷ d)) (8 + length d) o₃ (omega arith) (g ∙ ap (λ (z : List ℕ). sets z 8 d) (f ∙ ap (λ (z : List ℕ). set z 7 (length d)) e))
 
   -- ---- an attribute looked up in a table
 
-  pub value-is : (table : Attributes) (n k : ℕ) (x : Given × List ℕ) (o : Outcome) → n ≡ k → value_of k table ≡ o → x ≡ told o out → x ≡ told (value_of n table) out
-  value-is table n k x o e f g = g ∙ ap (λ (z : Outcome). told z out) (sym f) ∙ ap (λ (m : ℕ). told (value_of m table) out) (sym e)
+  pub value_is : (table : Attributes) (n k : ℕ) (x : Given × List ℕ) (o : Outcome) → n ≡ k → value_of k table ≡ o → x ≡ told o out → x ≡ told (value_of n table) out
+  value_is table n k x o e f g = g ∙ ap (λ (z : Outcome). told z out) (sym f) ∙ ap (λ (m : ℕ). told (value_of m table) out) (sym e)
 
 -- a number read and told, in its width
 pub value_number : (out : List ℕ) (table : Attributes) (n k w v u : ℕ) (x : Given × List ℕ) → n ≡ k → value_of k table ≡ Gives (le_bytes w v) → u ≡ v
     → x ≡ told (Gives (le_bytes w u)) out → x ≡ told (value_of n table) out
-value_number out table n k w v u x e f g h = value-is out table n k x (Gives (le_bytes w v)) e f (h ∙ ap (λ (m : ℕ). told (Gives (le_bytes w m)) out) g)
+value_number out table n k w v u x e f g h = value_is out table n k x (Gives (le_bytes w v)) e f (h ∙ ap (λ (m : ℕ). told (Gives (le_bytes w m)) out) g)
 
 -- a number that no entry has
 abbrev pub Without : ℕ → Attributes → Type 0
@@ -82,23 +82,23 @@ unfolding wanted
 wanted_single service a table = named (eqb service get_single) a table
 
 module _ (service : ℕ) (a : FirstAttribute) where
-  pub wanted-other : (service ≡ get_single → ⊥) → Refused ServiceUnknown ≡ wanted service a
+  pub wanted_other : (service ≡ get_single → ⊥) → Refused ServiceUnknown ≡ wanted service a
   unfolding wanted
-  wanted-other h = sym (ap (λ (b : Bool). cond b (wanted_of a) (Refused ServiceUnknown)) (ne_eqb service get_single h))
+  wanted_other h = sym (ap (λ (b : Bool). cond b (wanted_of a) (Refused ServiceUnknown)) (ne_eqb service get_single h))
 
-  pub wanted-one : service ≡ get_single → wanted_of a ≡ wanted service a
+  pub wanted_one : service ≡ get_single → wanted_of a ≡ wanted service a
   unfolding wanted
-  wanted-one h = sym (ap (λ (b : Bool). cond b (wanted_of a) (Refused ServiceUnknown)) (eq-eqb service get_single h))
+  wanted_one h = sym (ap (λ (b : Bool). cond b (wanted_of a) (Refused ServiceUnknown)) (eq-eqb service get_single h))
 
 module _ (service : ℕ) (a : FirstAttribute) (table : Attributes) (out : List ℕ) (w : Asked) (e : w ≡ wanted service a) where
-  pub told-wanted : (x : Given × List ℕ) (v : Asked) → w ≡ v → x ≡ told (value_for v table) out → x ≡ told (single service a table) out
-  told-wanted x v f g = g ∙ ap (λ (z : Asked). told (value_for z table) out) (sym f ∙ e) ∙ ap (λ (z : Outcome). told z out) (wanted_single service a table)
+  pub told_wanted : (x : Given × List ℕ) (v : Asked) → w ≡ v → x ≡ told (value_for v table) out → x ≡ told (single service a table) out
+  told_wanted x v f g = g ∙ ap (λ (z : Asked). told (value_for z table) out) (sym f ∙ e) ∙ ap (λ (z : Outcome). told z out) (wanted_single service a table)
 
 -- ---- the instance: the class, the one that there is, or none
 
 module _ (one instance : ℕ) (class here : Outcome) (out : List ℕ) (x : Given × List ℕ) where
-  pub among-class : instance ≡ 0 → x ≡ told class out → x ≡ told (among one instance class here) out
-  among-class e f = f ∙ sym (ap (λ (b : Bool). told (cond b class (cond (eqb instance one) here (Fails ObjectUnknown))) out) (eq-eqb instance 0 e))
+  pub among_class : instance ≡ 0 → x ≡ told class out → x ≡ told (among one instance class here) out
+  among_class e f = f ∙ sym (ap (λ (b : Bool). told (cond b class (cond (eqb instance one) here (Fails ObjectUnknown))) out) (eq-eqb instance 0 e))
 
   module _ (h : instance ≡ 0 → ⊥) where
     past : among one instance class here ≡ cond (eqb instance one) here (Fails ObjectUnknown)

@@ -8,7 +8,7 @@ use Rattle.rules.specs.Objects.{identity_status, identity_attributes}
 use Rattle.state_rules.specs.Places.{setup_in}
 use Rattle.state_rules.specs.Setups.{identity_of, setup_of}
 use Rattle.state_rules.specs.Image.{view, tested}
-use Rattle.state_image.specs.Fits.{is-sound, short-name}
+use Rattle.state_image.specs.Fits.{is_sound, short_name}
 
 abbrev pub identity_table : Identity → ℕ → Attributes
 identity_table us status =
@@ -28,4 +28,4 @@ identity_table_lem s status e = ap (identity_table (identity_of (setup_in s))) e
 
 -- the region that a tested state's identity is read from
 pub name_ready : (s : List ℕ) → tested s ≡ true → le 1 (setup_in s) 2 ≤ 32
-name_ready s t = short-name (setup_in s) (is-sound s t)
+name_ready s t = short_name (setup_in s) (is_sound s t)

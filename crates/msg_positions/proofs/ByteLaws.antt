@@ -23,14 +23,14 @@ held_none up e = sym (ap held_in e)
 -- ---- read
 
 module _ (l : List ℕ) (n : ℕ) (e : n ≡ le 1 l 0) where
-  pub dec-none : n ≡ 0 → NoUpload ≡ dec_upload l
+  pub dec_none : n ≡ 0 → NoUpload ≡ dec_upload l
   unfolding dec_upload
-  dec-none z =
+  dec_none z =
       sym (ap (λ (b : Bool). cond b NoUpload (Under (as_position (dec_fields w_position l 0)))) (eq-eqb (le 1 l 0) 0 (sym e ∙ z)))
 
-  pub dec-under : (n ≡ 0 → ⊥) → (p : Position) → p ≡ dec_position l → Under p ≡ dec_upload l
+  pub dec_under : (n ≡ 0 → ⊥) → (p : Position) → p ≡ dec_position l → Under p ≡ dec_upload l
   unfolding dec_upload dec_position
-  dec-under f p h =
+  dec_under f p h =
       ap Under h
       ∙ sym (ap (λ (b : Bool). cond b NoUpload (Under (as_position (dec_fields w_position l 0)))) (ne_eqb (le 1 l 0) 0 (λ q. f (e ∙ q))))
 
@@ -44,20 +44,20 @@ module _ (size next number any offset before : ℕ) where
   pub mark : 1 < any → false ≡ plain size next number any offset before
   mark h = not_plain 0 (lt-leb any 1 h)
 
-  pub mark-without : size < any → false ≡ plain size next number any offset before
-  mark-without h = not_plain 1 (lt-leb any size h)
+  pub mark_without : size < any → false ≡ plain size next number any offset before
+  mark_without h = not_plain 1 (lt-leb any size h)
 
-  pub number-without : 255 * any < number → false ≡ plain size next number any offset before
-  number-without h = not_plain 2 (lt-leb number (255 * any) h)
+  pub number_without : 255 * any < number → false ≡ plain size next number any offset before
+  number_without h = not_plain 2 (lt-leb number (255 * any) h)
 
-  pub before-without : 65535 * any < before → false ≡ plain size next number any offset before
-  before-without h = not_plain 3 (lt-leb before (65535 * any) h)
+  pub before_without : 65535 * any < before → false ≡ plain size next number any offset before
+  before_without h = not_plain 3 (lt-leb before (65535 * any) h)
 
-  pub next-without : 255 * size < next → false ≡ plain size next number any offset before
-  next-without h = not_plain 4 (lt-leb next (255 * size) h)
+  pub next_without : 255 * size < next → false ≡ plain size next number any offset before
+  next_without h = not_plain 4 (lt-leb next (255 * size) h)
 
-  pub offset-without : 65535 * size < offset → false ≡ plain size next number any offset before
-  offset-without h = not_plain 5 (lt-leb offset (65535 * size) h)
+  pub offset_without : 65535 * size < offset → false ≡ plain size next number any offset before
+  offset_without h = not_plain 5 (lt-leb offset (65535 * size) h)
 
   pub is_plain : any ≤ 1 → any ≤ size → number ≤ 255 * any → before ≤ 65535 * any → next ≤ 255 * size → offset ≤ 65535 * size
       → true ≡ plain size next number any offset before
@@ -72,9 +72,9 @@ only true = refl
 only false = refl
 
 module _ (limit size : ℕ) (given : Bool) (p : Position) where
-  pub no-eds : given ≡ false → false ≡ fits limit given size p
+  pub no_eds : given ≡ false → false ≡ fits limit given size p
   unfolding fits
-  no-eds e = sym (ap (λ (b : Bool). fits limit b size p) e)
+  no_eds e = sym (ap (λ (b : Bool). fits limit b size p) e)
 
   module _ (g : given ≡ true) where
     tests : fits limit given size p ≡ all (position_tests limit size p)

@@ -19,18 +19,18 @@ module _ (limit : ℕ) (given : Bool) (size : ℕ) (l : List ℕ) where
   abbrev parts : List Bool
   parts = eqb (length l) 8 ∷ plain_list (dec_fields w_position l 0) ∷ ok_with limit given size (dec_upload l) ∷ []
 
-  pub wrong-length : (length l ≡ 8 → ⊥) → false ≡ upload_tested limit given size l
+  pub wrong_length : (length l ≡ 8 → ⊥) → false ≡ upload_tested limit given size l
   unfolding upload_tested
-  wrong-length h = sym (all_fails parts 0 (ne_eqb (length l) 8 h))
+  wrong_length h = sym (all_fails parts 0 (ne_eqb (length l) 8 h))
 
-  pub another-way : plain_list (dec_fields w_position l 0) ≡ false → false ≡ upload_tested limit given size l
+  pub another_way : plain_list (dec_fields w_position l 0) ≡ false → false ≡ upload_tested limit given size l
   unfolding upload_tested
-  another-way h = sym (all_fails parts 1 h)
+  another_way h = sym (all_fails parts 1 h)
 
-  pub value-decides : length l ≡ 8 → plain_list (dec_fields w_position l 0) ≡ true → (r : Bool) → r ≡ ok_with limit given size (dec_upload l)
+  pub value_decides : length l ≡ 8 → plain_list (dec_fields w_position l 0) ≡ true → (r : Bool) → r ≡ ok_with limit given size (dec_upload l)
       → r ≡ upload_tested limit given size l
   unfolding upload_tested
-  value-decides n e r h =
+  value_decides n e r h =
       h
       ∙ sym (only (ok_with limit given size (dec_upload l)))
       ∙ sym (ap₂ (λ (x y : Bool). all (x ∷ y ∷ ok_with limit given size (dec_upload l) ∷ [])) (eq-eqb (length l) 8 n) e)

@@ -67,8 +67,8 @@ module _ (size next number any offset before : ℕ) (t : plain size next number 
   unfolding plain
   test k = all_at (plain_tests size next number any offset before) t k
 
-  under-list : list_position (as_position (size ∷ next ∷ number ∷ any ∷ offset ∷ before ∷ [])) ≡ size ∷ next ∷ number ∷ any ∷ offset ∷ before ∷ []
-  under-list =
+  under_list : list_position (as_position (size ∷ next ∷ number ∷ any ∷ offset ∷ before ∷ [])) ≡ size ∷ next ∷ number ∷ any ∷ offset ∷ before ∷ []
+  under_list =
       let q = last_list number any before (leb-true any 1 (test 0)) (leb-true number (255 * any) (test 2)) (leb-true before (65535 * any) (test 3)) in
       rw (q.0, q.1, q.2)
 
@@ -81,20 +81,20 @@ module _ (size next number any offset before : ℕ) (t : plain size next number 
       let o : offset ≡ 0 = omega (arith, e, leb-true offset (65535 * size) (test 5)) in
       rw (e, a, n, b, x, o)
 
-  list-again : list_upload (as_upload (size ∷ next ∷ number ∷ any ∷ offset ∷ before ∷ [])) ≡ size ∷ next ∷ number ∷ any ∷ offset ∷ before ∷ []
-  list-again = by (eqb size 0) refl
+  list_again : list_upload (as_upload (size ∷ next ∷ number ∷ any ∷ offset ∷ before ∷ [])) ≡ size ∷ next ∷ number ∷ any ∷ offset ∷ before ∷ []
+  list_again = by (eqb size 0) refl
     where
       by : (b : Bool) → eqb size 0 ≡ b
           → list_upload (cond b NoUpload (Under (as_position (size ∷ next ∷ number ∷ any ∷ offset ∷ before ∷ [])))) ≡ size ∷ next ∷ number ∷ any ∷ offset ∷ before ∷ []
       by true e = zeros (eqb-true size 0 e)
-      by false e = under-list
+      by false e = under_list
 
 pub write_again : (limit : ℕ) (given : Bool) (size : ℕ) (l : List ℕ) → Bytes l → upload_tested limit given size l ≡ true → enc_upload (dec_upload l) ≡ l
 unfolding upload_tested enc_upload dec_upload sum
 write_again limit given size l b t =
     let tests : List Bool = eqb (length l) 8 ∷ plain_list (dec_fields w_position l 0) ∷ ok_with limit given size (as_upload (dec_fields w_position l 0)) ∷ [] in
     let n : length l ≡ 8 = eqb-true (length l) 8 (all_at tests t 0) in
-    ap (enc_fields w_position) (list-again _ _ _ _ _ _ (all_at tests t 1))
+    ap (enc_fields w_position) (list_again _ _ _ _ _ _ (all_at tests t 1))
     ∙ enc_dec w_position tt l 0 b (omega (arith, n))
     ∙ ap (λ (k : ℕ). take k l) (sym n)
     ∙ take-length l

@@ -17,19 +17,19 @@ unfoldable pub answered : (ℕ → Answer) → List ℕ → ℕ × List ℕ
 answered call out = saying (call (length out)) out
 
 module _ (call : ℕ → Answer) (out : List ℕ) where
-  pub answered-by : (a : Answer) → call (length out) ≡ a → answered call out ≡ saying a out
+  pub answered_by : (a : Answer) → call (length out) ≡ a → answered call out ≡ saying a out
   unfolding answered
-  answered-by a e = ap (λ (x : Answer). saying x out) e
+  answered_by a e = ap (λ (x : Answer). saying x out) e
 
   -- a no leaves the output
-  pub answered-no : (w : No) → call (length out) ≡ Refused w → (noNumber w, out) ≡ answered call out
+  pub answered_no : (w : No) → call (length out) ≡ Refused w → (noNumber w, out) ≡ answered call out
   unfolding answerNumber
-  answered-no w e = sym (answered-by (Refused w) e)
+  answered_no w e = sym (answered_by (Refused w) e)
 
   -- two calls that say the same there
-  pub answered-same : (other : ℕ → Answer) → call (length out) ≡ other (length out) → answered call out ≡ answered other out
+  pub answered_same : (other : ℕ → Answer) → call (length out) ≡ other (length out) → answered call out ≡ answered other out
   unfolding answered
-  answered-same other e = ap (λ (x : Answer). saying x out) e
+  answered_same other e = ap (λ (x : Answer). saying x out) e
 
 -- a record, where it fits
 abbrev pub wrote : List ℕ → ℕ → Answer
@@ -40,10 +40,10 @@ module _ (ws vs out : List ℕ) (t : T (Laid ws vs)) (n : ℕ) (e : sum ws ≡ n
   long = length_enc_fields ws vs t ∙ e
 
   pub wrote_none : length out < n → (8, out) ≡ answered (wrote (enc_fields ws vs)) out
-  wrote_none h = answered-no _ out No.NoRoom (simp (lt-leb (length (enc_fields ws vs)) (length out) (rw long h)))
+  wrote_none h = answered_no _ out No.NoRoom (simp (lt-leb (length (enc_fields ws vs)) (length out) (rw long h)))
 
-  pub wrote-all : (out' : List ℕ) → n ≤ length out → out' ≡ put_fields ws out 0 vs → (256 * n, out') ≡ answered (wrote (enc_fields ws vs)) out
+  pub wrote_all : (out' : List ℕ) → n ≤ length out → out' ≡ put_fields ws out 0 vs → (256 * n, out') ≡ answered (wrote (enc_fields ws vs)) out
   unfolding answerNumber
-  wrote-all out' h f =
+  wrote_all out' h f =
       ap₂ (λ (k : ℕ) (x : List ℕ). (256 * k, x)) (sym long) (f ∙ put_fields_eq ws out 0 vs)
-      ∙ sym (answered-by _ out (Wrote (enc_fields ws vs)) (simp (le-leb (length (enc_fields ws vs)) (length out) (rw long h))))
+      ∙ sym (answered_by _ out (Wrote (enc_fields ws vs)) (simp (le-leb (length (enc_fields ws vs)) (length out) (rw long h))))

@@ -37,8 +37,8 @@ module _ (s : List ℕ) (p : ConnectionPath) (e : Parsed p ≡ path_of s) where
       go (segs l) q = let n : p.count ≡ min (length (numbers_in l)) 4 = cc in omega arith
       go (broken o) q = absurd (let z : ◌≡◌ {A = ℕ} 0 1 = cc in omega arith)
 
-  pub path-bounds : (p.count ≤ 4) × (p.datastart + p.datalen ≤ 510)
-  path-bounds = (count, omega (arith, size, paths.data_inside s p e))
+  pub path_bounds : (p.count ≤ 4) × (p.datastart + p.datalen ≤ 510)
+  path_bounds = (count, omega (arith, size, paths.data_inside s p e))
 
 module _ (m : List ℕ) (q : Request) (e : requests.TheVariants.Parsed q ≡ request_of m) where
   message : length m ≤ message_max
@@ -52,5 +52,5 @@ module _ (m : List ℕ) (q : Request) (e : requests.TheVariants.Parsed q ≡ req
       by false f g = ltb-false message_max (length m) f
       by true f g = absurd (let z : ◌≡◌ {A = ℕ} 0 1 = cc in omega arith)
 
-  pub request-bounds : q.datastart ≤ 65536
-  request-bounds = omega (arith, message, places.data_inside m q e)
+  pub request_bounds : q.datastart ≤ 65536
+  request_bounds = omega (arith, message, places.data_inside m q e)

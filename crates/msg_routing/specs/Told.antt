@@ -12,7 +12,7 @@ use Rattle.wire_rules.specs.declared.RequestAnswer as requests
 use Rattle.wire_rules.specs.Requests.{request_of}
 use Rattle.rules.specs.Answers.{Answer, NotParsed}
 use Rattle.rules.specs.Routing.{path_record, path_for, path_answer, is_named, class_of, instance_of, has_attribute, attribute_of, request_record, request_for, request_answer}
-use Rattle.msg_routing.specs.Answered.{wrote, wrote_none, wrote-all, answered, answered-no, answered-same}
+use Rattle.msg_routing.specs.Answered.{wrote, wrote_none, wrote_all, answered, answered_no, answered_same}
 
 -- the fields of the records, and their widths
 abbrev pub path_widths : List ℕ
@@ -40,58 +40,58 @@ request_told q room = wrote (request_record q) room
 
 -- the writers
 module _ (out : List ℕ) where
-  pub path-none : (p : ConnectionPath) → length out < 32 → (8, out) ≡ answered (path_told p) out
+  pub path_none : (p : ConnectionPath) → length out < 32 → (8, out) ≡ answered (path_told p) out
   unfolding path_told path_record sum
-  path-none p h = wrote_none path_widths (path_fields p) out tt 32 refl h
+  path_none p h = wrote_none path_widths (path_fields p) out tt 32 refl h
 
-  pub path-all : (p : ConnectionPath) (out' : List ℕ) → 32 ≤ length out → out' ≡ put_fields path_widths out 0 (path_fields p) → (8192, out') ≡ answered (path_told p) out
+  pub path_all : (p : ConnectionPath) (out' : List ℕ) → 32 ≤ length out → out' ≡ put_fields path_widths out 0 (path_fields p) → (8192, out') ≡ answered (path_told p) out
   unfolding path_told path_record sum
-  path-all p out' h f = wrote-all path_widths (path_fields p) out tt 32 refl out' h f
+  path_all p out' h f = wrote_all path_widths (path_fields p) out tt 32 refl out' h f
 
-  pub request-none : (q : Request) → length out < 20 → (8, out) ≡ answered (request_told q) out
+  pub request_none : (q : Request) → length out < 20 → (8, out) ≡ answered (request_told q) out
   unfolding request_told request_record sum
-  request-none q h = wrote_none request_widths (request_fields q) out tt 20 refl h
+  request_none q h = wrote_none request_widths (request_fields q) out tt 20 refl h
 
-  pub request-all : (q : Request) (out' : List ℕ) → 20 ≤ length out → out' ≡ put_fields request_widths out 0 (request_fields q) → (5120, out') ≡ answered (request_told q) out
+  pub request_all : (q : Request) (out' : List ℕ) → 20 ≤ length out → out' ≡ put_fields request_widths out 0 (request_fields q) → (5120, out') ≡ answered (request_told q) out
   unfolding request_told request_record sum
-  request-all q out' h f = wrote-all request_widths (request_fields q) out tt 20 refl out' h f
+  request_all q out' h f = wrote_all request_widths (request_fields q) out tt 20 refl out' h f
 
   -- a record's parts, one after the other
-  pub path-parts : (p : ConnectionPath) (o₁ o₂ o₃ o₄ : List ℕ)
+  pub path_parts : (p : ConnectionPath) (o₁ o₂ o₃ o₄ : List ℕ)
       → o₁ ≡ put_fields (1 ∷ 1 ∷ 1 ∷ 1 ∷ []) out 0 (of_bool p.barred ∷ of_bool p.haskey ∷ of_bool p.hasclass ∷ p.count ∷ [])
       → o₂ ≡ put_fields (2 ∷ 2 ∷ 2 ∷ 1 ∷ 1 ∷ []) o₁ 4 (p.key.vendor ∷ p.key.device ∷ p.key.product ∷ p.key.major ∷ p.key.minor ∷ [])
       → o₃ ≡ put_fields (4 ∷ 4 ∷ 4 ∷ 4 ∷ []) o₂ 12 (p.class ∷ p.first ∷ p.second ∷ p.third ∷ [])
       → o₄ ≡ put_fields (2 ∷ 2 ∷ []) o₃ 28 (p.datastart ∷ p.datalen ∷ [])
       → o₄ ≡ put_fields path_widths out 0 (path_fields p)
-  path-parts p o₁ o₂ o₃ o₄ e₁ e₂ e₃ e₄ =
+  path_parts p o₁ o₂ o₃ o₄ e₁ e₂ e₃ e₄ =
       e₄ ∙ ap (λ (x : List ℕ). put_fields (2 ∷ 2 ∷ []) x 28 (p.datastart ∷ p.datalen ∷ []))
       (e₃ ∙ ap (λ (x : List ℕ). put_fields (4 ∷ 4 ∷ 4 ∷ 4 ∷ []) x 12 (p.class ∷ p.first ∷ p.second ∷ p.third ∷ []))
       (e₂ ∙ ap (λ (x : List ℕ). put_fields (2 ∷ 2 ∷ 2 ∷ 1 ∷ 1 ∷ []) x 4 (p.key.vendor ∷ p.key.device ∷ p.key.product ∷ p.key.major ∷ p.key.minor ∷ [])) e₁))
 
-  pub request-parts : (q : Request) (o₁ o₂ : List ℕ) (n h a b c : ℕ) → n ≡ is_named q.object → h ≡ has_attribute q.attribute
+  pub request_parts : (q : Request) (o₁ o₂ : List ℕ) (n h a b c : ℕ) → n ≡ is_named q.object → h ≡ has_attribute q.attribute
       → a ≡ class_of q.object → b ≡ instance_of q.object → c ≡ attribute_of q.attribute
       → o₁ ≡ put_fields (1 ∷ 1 ∷ 1 ∷ 1 ∷ []) out 0 (q.service ∷ n ∷ h ∷ 0 ∷ [])
       → o₂ ≡ put_fields (4 ∷ 4 ∷ 4 ∷ 4 ∷ []) o₁ 4 (a ∷ b ∷ c ∷ q.datastart ∷ [])
       → o₂ ≡ put_fields request_widths out 0 (request_fields q)
-  request-parts q o₁ o₂ n h a b c en eh ea eb ec e₁ e₂ =
+  request_parts q o₁ o₂ n h a b c en eh ea eb ec e₁ e₂ =
       let m : o₁ ≡ put_fields (1 ∷ 1 ∷ 1 ∷ 1 ∷ []) out 0 (q.service ∷ is_named q.object ∷ has_attribute q.attribute ∷ 0 ∷ []) =
       e₁ ∙ (λ i. put_fields (1 ∷ 1 ∷ 1 ∷ 1 ∷ []) out 0 (q.service ∷ en i ∷ eh i ∷ 0 ∷ [])) in
       e₂ ∙ (λ i. put_fields (4 ∷ 4 ∷ 4 ∷ 4 ∷ []) (m i) 4 (ea i ∷ eb i ∷ ec i ∷ q.datastart ∷ []))
 
 -- the readers
 module _ (s out : List ℕ) where
-  pub path-told : (p : ConnectionPath) → paths.TheVariants.Parsed p ≡ path_of s → answered (path_told p) out ≡ answered (path_answer s) out
+  pub path_told_lem : (p : ConnectionPath) → paths.TheVariants.Parsed p ≡ path_of s → answered (path_told p) out ≡ answered (path_answer s) out
   unfolding path_answer path_told
-  path-told p e = answered-same (path_told p) out (path_answer s) (ap (path_for (length out)) e)
+  path_told_lem p e = answered_same (path_told p) out (path_answer s) (ap (path_for (length out)) e)
 
-  pub no-path : (o : ℕ) → paths.TheVariants.Unparsed o ≡ path_of s → (4, out) ≡ answered (path_answer s) out
+  pub no_path_lem : (o : ℕ) → paths.TheVariants.Unparsed o ≡ path_of s → (4, out) ≡ answered (path_answer s) out
   unfolding path_answer
-  no-path o e = answered-no (path_answer s) out NotParsed (sym (ap (path_for (length out)) e))
+  no_path_lem o e = answered_no (path_answer s) out NotParsed (sym (ap (path_for (length out)) e))
 
-  pub request-told : (q : Request) → requests.TheVariants.Parsed q ≡ request_of s → answered (request_told q) out ≡ answered (request_answer s) out
+  pub request_told_lem : (q : Request) → requests.TheVariants.Parsed q ≡ request_of s → answered (request_told q) out ≡ answered (request_answer s) out
   unfolding request_answer request_told
-  request-told q e = answered-same (request_told q) out (request_answer s) (ap (request_for (length out)) e)
+  request_told_lem q e = answered_same (request_told q) out (request_answer s) (ap (request_for (length out)) e)
 
   pub no_request : (o : ℕ) → requests.TheVariants.Unparsed o ≡ request_of s → (4, out) ≡ answered (request_answer s) out
   unfolding request_answer
-  no_request o e = answered-no (request_answer s) out NotParsed (sym (ap (request_for (length out)) e))
+  no_request o e = answered_no (request_answer s) out NotParsed (sym (ap (request_for (length out)) e))

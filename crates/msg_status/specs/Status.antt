@@ -7,7 +7,7 @@ use native.Mathlib.Omega.{arith}
 use Rattle.std.proofs.Math.ListN.{get_or-eq_default}
 use Rattle.base_cells.specs.Records.{to_bool, of_bool}
 use Rattle.base_cells.specs.Back.{Bytes}
-use Rattle.base_tables.specs.Tables.{rows, length-rows}
+use Rattle.base_tables.specs.Tables.{rows, length_rows}
 use Rattle.rules.specs.Lists.{any}
 use Rattle.rules.specs.declared.Fixed.{Fixed}
 use Rattle.rules.specs.declared.Conn.{Conn}
@@ -17,7 +17,7 @@ use Rattle.state_rules.specs.Places.{table_in, row_size, connections_of, fault_o
 use Rattle.state_rules.specs.Bits.{run_in}
 use Rattle.state_rules.specs.Rows.{dec_conn, conns_in}
 use Rattle.state_rules.specs.Image.{view, tested}
-use Rattle.state_image.specs.Holds.{holds-tested, assemblies-held}
+use Rattle.state_image.specs.Holds.{holds_tested, assemblies_held}
 use Rattle.app_answers.specs.Assemblies.{run_is}
 
 abbrev pub owner_in : Conn → Bool
@@ -31,7 +31,7 @@ runs_in st c = is_owner c.fixed.kind && (content_at st c.fixed.output).run
 module _ (s : List ℕ) (t : tested s ≡ true) (b : Bytes s) (i : ℕ) where
   pub run_past : assemblies_of s ≤ i → false ≡ (content_at (view s) i).run
   run_past h =
-      let e = assemblies-held s (view s) s (holds-tested s t b) in
+      let e = assemblies_held s (view s) s (holds_tested s t b) in
       ap (λ (x : Content). x.run) (sym (get_or-eq_default (view s).contents no_content {n = i} (omega arith)))
 
   pub run_at : i < assemblies_of s → run_in (mark_at s i) ≡ (content_at (view s) i).run
@@ -40,30 +40,30 @@ module _ (s : List ℕ) (t : tested s ≡ true) (b : Bytes s) (i : ℕ) where
 -- ---- the extended device status
 
 module _ (s : List ℕ) where
-  pub table-long : length (view s).table ≡ connections_of s
+  pub table_long : length (view s).table ≡ connections_of s
   unfolding view
-  table-long = length-rows row_size dec_conn (connections_of s) (table_in s)
+  table_long = length_rows row_size dec_conn (connections_of s) (table_in s)
 
-  fault-is : (view s).fault ≡ to_bool (fault_of s)
+  fault_is : (view s).fault ≡ to_bool (fault_of s)
   unfolding view
-  fault-is = refl
+  fault_is = refl
 
   extended : (a b c : Bool) → (view s).fault ≡ a → eqb (length (view s).table) 0 ≡ b → running (view s) ≡ c
       → extended_status (view s) ≡ cond a 2 (cond b 3 (cond c 6 7))
   unfolding extended_status
   extended a b c p q r = λ i. cond (p i) 2 (cond (q i) 3 (cond (r i) 6 7))
 
-  pub status-fault : (f : Bool) → f ≡ to_bool (fault_of s) → f ≡ true → 2 ≡ extended_status (view s)
-  status-fault f ef h = sym (extended true _ _ (fault-is ∙ sym ef ∙ h) refl refl)
+  pub status_fault : (f : Bool) → f ≡ to_bool (fault_of s) → f ≡ true → 2 ≡ extended_status (view s)
+  status_fault f ef h = sym (extended true _ _ (fault_is ∙ sym ef ∙ h) refl refl)
 
   module _ (f : Bool) (ef : f ≡ to_bool (fault_of s)) (h : f ≡ false) where
     pub status-none : connections_of s ≡ 0 → 3 ≡ extended_status (view s)
-    status-none g = sym (extended false true _ (fault-is ∙ sym ef ∙ h) (eq-eqb (length (view s).table) 0 (table-long ∙ g)) refl)
+    status-none g = sym (extended false true _ (fault_is ∙ sym ef ∙ h) (eq-eqb (length (view s).table) 0 (table_long ∙ g)) refl)
 
     module _ (g : connections_of s ≡ 0 → ⊥) (x : Bool) (e : x ≡ running (view s)) where
       rest : (c : Bool) → x ≡ c → extended_status (view s) ≡ cond c 6 7
       rest c y =
-          extended false false c (fault-is ∙ sym ef ∙ h) (ne_eqb (length (view s).table) 0 (λ k. g (sym table-long ∙ k))) (sym e ∙ y)
+          extended false false c (fault_is ∙ sym ef ∙ h) (ne_eqb (length (view s).table) 0 (λ k. g (sym table_long ∙ k))) (sym e ∙ y)
 
       pub status-run : x ≡ true → 6 ≡ extended_status (view s)
       status-run y = sym (rest true y)
@@ -85,13 +85,13 @@ module _ (s : List ℕ) where
 -- ---- the walks along the table
 
 module _ (s : List ℕ) where
-  pub owned-rows : owned (view s) ≡ any owner_in (conns_in (connections_of s) (table_in s))
+  pub owned_rows : owned (view s) ≡ any owner_in (conns_in (connections_of s) (table_in s))
   unfolding owned view
-  owned-rows = refl
+  owned_rows = refl
 
-  pub running-rows : running (view s) ≡ any (runs_in (view s)) (conns_in (connections_of s) (table_in s))
+  pub running_rows : running (view s) ≡ any (runs_in (view s)) (conns_in (connections_of s) (table_in s))
   unfolding running view
-  running-rows = refl
+  running_rows = refl
 
 -- ---- a row
 
@@ -102,5 +102,5 @@ module _ (st : State) (c : Conn) (f : Fixed) (e : f ≡ c.fixed) (b : Bool) (eb 
   pub row_other : b ≡ false → false ≡ runs_in st c
   row_other p = sym (split false p)
 
-  pub row-owner : b ≡ true → (r : Bool) → r ≡ (content_at st f.output).run → r ≡ runs_in st c
-  row-owner p r q = q ∙ sym (split true p)
+  pub row_owner : b ≡ true → (r : Bool) → r ≡ (content_at st f.output).run → r ≡ runs_in st c
+  row_owner p r q = q ∙ sym (split true p)

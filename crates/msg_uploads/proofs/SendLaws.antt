@@ -44,16 +44,16 @@ module _ (eds : List ℕ) (size offset from to : ℕ) (e : from ≡ min offset (
       ∙ sym (take-nil size)
       ∙ ap (take size) (sym (drop_of_length-le eds h))
 
-  pub part-is : take (to - from) (drop from eds) ≡ part_of eds size offset
-  part-is = by (leb offset (length eds)) refl
+  pub part_is : take (to - from) (drop from eds) ≡ part_of eds size offset
+  part_is = by (leb offset (length eds)) refl
     where
       by : (b : Bool) → leb offset (length eds) ≡ b → take (to - from) (drop from eds) ≡ part_of eds size offset
       by true q = inside (leb-true offset (length eds) q)
       by false q = outside (omega (arith, leb-false offset (length eds) q))
 
-  pub part-long : length (part_of eds size offset) ≡ to - from
+  pub part_long : length (part_of eds size offset) ≡ to - from
   unfolding part_of
-  part-long = omega (arith, e, f, length-take size (drop offset eds), length-drop offset eds)
+  part_long = omega (arith, e, f, length-take size (drop offset eds), length-drop offset eds)
 
 -- ---- a whole transfer: number, type, part and tail
 
@@ -61,9 +61,9 @@ module _ (eds : List ℕ) (size number offset : ℕ) (last : Bool) (e : last ≡
   abbrev kind : ℕ
   kind = transfer_type (eqb offset 0) last
 
-  reply-is : number ∷ kind ∷ (part_of eds size offset ++ tail_of eds last) ≡ transfer_reply eds size number offset
+  reply_is : number ∷ kind ∷ (part_of eds size offset ++ tail_of eds last) ≡ transfer_reply eds size number offset
   unfolding transfer_reply transfer_bytes part_of tail_of
-  reply-is = ap (λ (b : Bool). number ∷ transfer_type (eqb offset 0) b ∷ (part_of eds size offset ++ tail_of eds b)) e
+  reply_is = ap (λ (b : Bool). number ∷ transfer_type (eqb offset 0) b ∷ (part_of eds size offset ++ tail_of eds b)) e
 
   module _ (out a b c d : List ℕ) (n m : ℕ) (h : n ≡ length (part_of eds size offset)) (g : m ≡ length (tail_of eds last))
       (p : a ≡ put 1 out 0 number) (q : b ≡ put 1 a 1 kind) (r : c ≡ sets b 2 (part_of eds size offset)) (s : d ≡ sets c (2 + n) (tail_of eds last)) where
@@ -76,10 +76,10 @@ module _ (eds : List ℕ) (size number offset : ℕ) (last : Bool) (e : last ≡
         s
         ∙ ap₂ (λ (x : List ℕ) (k : ℕ). sets x (2 + k) (tail_of eds last)) (r ∙ ap (λ (x : List ℕ). sets x 2 (part_of eds size offset)) head) h
         ∙ sym (sets_append (set (set out 0 number) 1 kind) 2 (part_of eds size offset) (tail_of eds last))
-        ∙ ap (sets out 0) reply-is
+        ∙ ap (sets out 0) reply_is
 
     long : 2 + n + m ≡ length (transfer_reply eds size number offset)
-    long = rw (← reply-is) (omega (arith, h, g, length-append (part_of eds size offset) (tail_of eds last)))
+    long = rw (← reply_is) (omega (arith, h, g, length-append (part_of eds size offset) (tail_of eds last)))
 
     pub part-sent : (Gives (2 + n + m), d) ≡ told (rules.Gives (transfer_reply eds size number offset)) out
     part-sent = gives out (transfer_reply eds size number offset) (2 + n + m) d long bytes
@@ -87,10 +87,10 @@ module _ (eds : List ℕ) (size number offset : ℕ) (last : Bool) (e : last ≡
 -- the tail
 
 module _ (eds : List ℕ) (last : Bool) (out : List ℕ) (at : ℕ) where
-  pub tail-last : last ≡ true → (k : ℕ) → k ≡ checksum eds → (out' : List ℕ) → out' ≡ put 2 out at k
+  pub tail_last : last ≡ true → (k : ℕ) → k ≡ checksum eds → (out' : List ℕ) → out' ≡ put 2 out at k
       → (2 ≡ length (tail_of eds last)) × (2 ≤ 2) × (out' ≡ sets out at (tail_of eds last))
   unfolding tail_of put
-  tail-last e k f out' g = (
+  tail_last e k f out' g = (
     sym (ap (λ (b : Bool). length (tail_of eds b)) e ∙ length_le_bytes 2 (checksum eds)),
     omega arith,
     g ∙ ap (λ (n : ℕ). sets out at (le_bytes 2 n)) f ∙ sym (ap (λ (b : Bool). sets out at (tail_of eds b)) e),

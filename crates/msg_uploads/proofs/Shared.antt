@@ -26,8 +26,8 @@ use denote.Lend.{Held, lends_shr_slice}
 use denote.Index.{opens_slice, closes_slice}
 
 module _ (R : RattleType) (κ κ' : Lft) (q : Share) (γ : GName) (b o : ℕ) where
-  abbrev at-list : GName → List R.Denot → MutBor (List R.Denot)
-  at-list δ ys = record { ref_ptr = (b, o); ghost_name = δ; now = ys }
+  abbrev at_list : GName → List R.Denot → MutBor (List R.Denot)
+  at_list δ ys = record { ref_ptr = (b, o); ghost_name = δ; now = ys }
 
   abbrev lent : List R.Denot → Fml
   lent ys = flent κ' ((arr_parts (shares R) (length ys)).part full_share ys b o)
@@ -41,19 +41,19 @@ module _ (R : RattleType) (κ κ' : Lft) (q : Share) (γ : GName) (b o : ℕ) wh
     abbrev vals : List Val
     vals = slice_val (b, o) (length ys) ∷ []
 
-    pub lends_shared : ent 𝓤 (sep 𝓤 (sem 𝓛 ((MutSlice ℓ κ R).own_val (at-list γ ys) vals)) (A.lft κ q))
-        (H.⇛ (ex 𝓤 (λ (γ₁ : GName). sep 𝓤 (sem 𝓛 ((ShrSlice ℓ' κ' R).own_val (at-list γ₁ ys) vals)) (sem 𝓛 (LentShared ys)))))
+    pub lends_shared : ent 𝓤 (sep 𝓤 (sem 𝓛 ((MutSlice ℓ κ R).own_val (at_list γ ys) vals)) (A.lft κ q))
+        (H.⇛ (ex 𝓤 (λ (γ₁ : GName). sep 𝓤 (sem 𝓛 ((ShrSlice ℓ' κ' R).own_val (at_list γ₁ ys) vals)) (sem 𝓛 (LentShared ys)))))
     lends_shared =
-        qed 𝓛 (‵ ((MutSlice ℓ κ R).own_val (at-list γ ys) vals) ∷ ‵ (flft κ q) ∷ []) ∵ updating ! $ fsplit ! $ pure_l ! (shr_slice_at R (at-list γ ys) vals) (λ p. fsplit ! $ opens_slice ! tt R ys b o $
+        qed 𝓛 (‵ ((MutSlice ℓ κ R).own_val (at_list γ ys) vals) ∷ ‵ (flft κ q) ∷ []) ∵ updating ! $ fsplit ! $ pure_l ! (shr_slice_at R (at_list γ ys) vals) (λ p. fsplit ! $ opens_slice ! tt R ys b o $
         feq_i ! ℕ (length ys) (length ys) refl $ fjoin ! $
-        use1 𝓛 (later (some (λ (γ₁ : GName). ‵ ((ShrSlice ℓ' κ' R).own_val (at-list γ₁ ys) vals) ⊛ ‵ (lent ys)))) (lends_shr_slice 𝓛 R ℓ' κ' full_share ys b o p.1) $ await ! tt $ pick ! (λ γ₁. split ! $
+        use1 𝓛 (later (some (λ (γ₁ : GName). ‵ ((ShrSlice ℓ' κ' R).own_val (at_list γ₁ ys) vals) ⊛ ‵ (lent ys)))) (lends_shr_slice 𝓛 R ℓ' κ' full_share ys b o p.1) $ await ! tt $ pick ! (λ γ₁. split ! $
         -- [the shared slice; the lender's part at κ'; the open borrow at κ; obs; auth]
-        at_once ! $ show ! (λ (γ' : GName). sep 𝓤 (sem 𝓛 ((ShrSlice ℓ' κ' R).own_val (at-list γ' ys) vals)) (sem 𝓛 (LentShared ys))) γ₁ $ frame ! $
+        at_once ! $ show ! (λ (γ' : GName). sep 𝓤 (sem 𝓛 ((ShrSlice ℓ' κ' R).own_val (at_list γ' ys) vals)) (sem 𝓛 (LentShared ys))) γ₁ $ frame ! $
         move ! (2 ∷ 3 ∷ []) $ fjoin ! $ move ! (2 ∷ 0 ∷ []) $ fjoin ! $ move ! (1 ∷ 0 ∷ []) $ fjoin ! $ done !))
 
     pub shared_back : Room R (length ys)
-        → ent 𝓤 (sep 𝓤 (A.dead κ') (sem 𝓛 (LentShared ys))) (H.⇛ (sep 𝓤 (sem 𝓛 ((MutSlice ℓ κ R).own_val (at-list γ ys) vals)) (A.lft κ q)))
+        → ent 𝓤 (sep 𝓤 (A.dead κ') (sem 𝓛 (LentShared ys))) (H.⇛ (sep 𝓤 (sem 𝓛 ((MutSlice ℓ κ R).own_val (at_list γ ys) vals)) (A.lft κ q)))
     shared_back room =
         qed 𝓛 (‵ (fdead κ') ∷ ‵ (LentShared ys) ∷ []) ∵ updating ! $ move ! (1 ∷ []) $ fsplit ! $ move ! (2 ∷ 0 ∷ []) $ lent_back ! tt $ fsplit ! $ drop ! $
         move ! (1 ∷ []) $ fsplit ! $ move ! (1 ∷ []) $ fsplit ! $ move ! (3 ∷ 2 ∷ 0 ∷ 1 ∷ []) $ closes_slice ! tt R ys ys refl b o $ at_once ! $
-        fjoin ! $ pure_i ! (mut_slice_at R (at-list γ ys) vals) (tt, (tt, tt)) (refl, room) $ fjoin ! $ done !
+        fjoin ! $ pure_i ! (mut_slice_at R (at_list γ ys) vals) (tt, (tt, tt)) (refl, room) $ fjoin ! $ done !

@@ -49,9 +49,9 @@ clamped_other limit wanted n e h = omega (arith, e)
 -- ---- the turn
 
 module _ (p : Position) (number : ℕ) where
-  pub turn-first : p.last ≡ NoLast → next_turn p.next number ≡ turn_of p number
+  pub turn_first : p.last ≡ NoLast → next_turn p.next number ≡ turn_of p number
   unfolding turn_of
-  turn-first e = sym (ap (λ (x : Last). turn_after x p.next number) e)
+  turn_first e = sym (ap (λ (x : Last). turn_after x p.next number) e)
 
   module _ (before offset : ℕ) (e : p.last ≡ Was before offset) where
     turn_last : turn_of p number ≡ turn_after (Was before offset) p.next number

@@ -19,39 +19,39 @@ use Rattle.msg_uploads.specs.declared.steps.Step.{Step}
 -- ---- initiate
 
 module _ (limit : ℕ) (p : Position) where
-  pub initiate-none : (given : List ℕ) → length given ≡ 0 → record { sends = Nothing NotEnoughData; after = p } ≡ initiate_step limit p given
+  pub initiate_none : (given : List ℕ) → length given ≡ 0 → record { sends = Nothing NotEnoughData; after = p } ≡ initiate_step limit p given
   unfolding initiate_step
-  initiate-none [] h = refl
-  initiate-none (x ∷ l) h = absurd (omega (arith, h))
+  initiate_none [] h = refl
+  initiate_none (x ∷ l) h = absurd (omega (arith, h))
 
-  pub initiate-some : (given : List ℕ) → (length given ≡ 0 → ⊥) → (n : ℕ) → n ≡ clamped limit (get_or given 0 0)
+  pub initiate_some : (given : List ℕ) → (length given ≡ 0 → ⊥) → (n : ℕ) → n ≡ clamped limit (get_or given 0 0)
       → record { sends = Length n; after = started n } ≡ initiate_step limit p given
   unfolding initiate_step
-  initiate-some [] h n e = absurd (h refl)
-  initiate-some (x ∷ l) h n e = ap (λ (k : ℕ). record { sends = Length k; after = started k }) e
+  initiate_some [] h n e = absurd (h refl)
+  initiate_some (x ∷ l) h n e = ap (λ (k : ℕ). record { sends = Length k; after = started k }) e
 
 -- ---- transfer
 
 module _ (len : ℕ) (p : Position) (number : ℕ) (turn : Turn) where
-  pub turn-repeats : (offset : ℕ) → turn ≡ Repeat offset → record { sends = Part p.size number offset; after = p } ≡ step_for len p number turn
-  turn-repeats offset e = sym (ap (step_for len p number) e)
+  pub turn_repeats : (offset : ℕ) → turn ≡ Repeat offset → record { sends = Part p.size number offset; after = p } ≡ step_for len p number turn
+  turn_repeats offset e = sym (ap (step_for len p number) e)
 
-  pub turn-next : turn ≡ InTurn → (q : Position) → q ≡ advanced_to len p
+  pub turn_next : turn ≡ InTurn → (q : Position) → q ≡ advanced_to len p
       → record { sends = Part p.size number p.offset; after = q } ≡ step_for len p number turn
-  turn-next e q f =
+  turn_next e q f =
       ap (λ (x : Position). record { sends = Part p.size number p.offset; after = x }) f ∙ sym (ap (step_for len p number) e)
 
-  pub turn-missed : turn ≡ OutOfTurn → record { sends = Nothing StateConflict; after = p } ≡ step_for len p number turn
-  turn-missed e = sym (ap (step_for len p number) e)
+  pub turn_missed : turn ≡ OutOfTurn → record { sends = Nothing StateConflict; after = p } ≡ step_for len p number turn
+  turn_missed e = sym (ap (step_for len p number) e)
 
 module _ (len : ℕ) (p : Position) where
   abbrev idle : Step
   idle = record { sends = Nothing StateConflict; after = p }
 
-  pub transfer-none : (given : List ℕ) → length given ≡ 0 → record { sends = Nothing NotEnoughData; after = p } ≡ transfer_step len p given
+  pub transfer_none : (given : List ℕ) → length given ≡ 0 → record { sends = Nothing NotEnoughData; after = p } ≡ transfer_step len p given
   unfolding transfer_step
-  transfer-none [] h = refl
-  transfer-none (x ∷ l) h = absurd (omega (arith, h))
+  transfer_none [] h = refl
+  transfer_none (x ∷ l) h = absurd (omega (arith, h))
 
   some : (given : List ℕ) → (length given ≡ 0 → ⊥) → step_at len (get_or given 0 0) p ≡ transfer_step len p given
   unfolding transfer_step

@@ -26,23 +26,23 @@ use Rattle.rules.specs.declared.Socket.{Socket}
 use Rattle.rules.specs.declared.Verdict.TheVariants.{Planned}
 use Rattle.state_rules.specs.Places.{next_id_of}
 use Rattle.state_rules.specs.Image.{view, store, tested}
-use Rattle.state_image.specs.Holds.{holds-tested, nextId-held}
-use Rattle.state_image.specs.Lift.{lifted_out, out-done, out-kept}
+use Rattle.state_image.specs.Holds.{holds_tested, next_id_held}
+use Rattle.state_image.specs.Lift.{lifted_out, out_done, out_kept}
 use Rattle.open_answering.specs.declared.making.Side.{Side}
-use Rattle.open_answering.specs.Sides.{side_in, after_some, side-some}
+use Rattle.open_answering.specs.Sides.{side_in, after_some, side_some}
 use Rattle.open_answering.specs.Steps.{StoresFit, opened_as, Opens, reply_from, plan_call}
-use Rattle.open_answering.specs.StepLaws.{opened-is}
+use Rattle.open_answering.specs.StepLaws.{opened_is}
 
 -- ---- the number
 
 module _ (multicast : Bool) (dest : Socket) where
-  pub number-point : multicast ≡ false → 0 ≡ answerNumber (Accepted multicast dest [])
+  pub number_point : multicast ≡ false → 0 ≡ answerNumber (Accepted multicast dest [])
   unfolding answerNumber
-  number-point e = ap (λ (b : Bool). answerNumber (Accepted b dest [])) (sym e)
+  number_point e = ap (λ (b : Bool). answerNumber (Accepted b dest [])) (sym e)
 
-  pub number-group : multicast ≡ true → (r : ℕ) → r ≡ 256 + dest.port * 65536 + dest.address * 4294967296 → r ≡ answerNumber (Accepted multicast dest [])
+  pub number_group : multicast ≡ true → (r : ℕ) → r ≡ 256 + dest.port * 65536 + dest.address * 4294967296 → r ≡ answerNumber (Accepted multicast dest [])
   unfolding answerNumber
-  number-group e r h =
+  number_group e r h =
       let z : r ≡ 2 ^ 8 * 1 + 2 ^ 16 * dest.port + 2 ^ 32 * dest.address = omega arith in
       z ∙ ap (λ (b : Bool). answerNumber (Accepted b dest [])) (sym e)
 
@@ -73,17 +73,17 @@ module _ (t : ℕ) (o : ForwardOpen) (g : Origin) (d : List ℕ) (p : Plan) (s o
   abbrev yes : Answer
   yes = Accepted (asks_multicast o) (side_at o g p n₀).dest (reply_of o g p n₀)
 
-  pub accept-short : length out < 26 → (8, (s, out)) ≡ lifted_out (plan_call t o g d p) s out
+  pub accept_short : length out < 26 → (8, (s, out)) ≡ lifted_out (plan_call t o g d p) s out
   unfolding plan_call answerNumber
-  accept-short h =
+  accept_short h =
       let k = long in
       let a : Refused NoRoom ≡ plan_answer o g n₀ (length out) (Planned p) =
       ap (λ (v : Bool). cond v yes (Refused NoRoom)) (sym (lt-leb (length (reply_of o g p n₀)) (length out) (omega arith))) in
-      out-kept (plan_call t o g d p) s out ok b 8 (ap answerNumber a) (ap (λ (z : Answer). cond (is_yes z) (opened t o g d p (view s)) (view s)) (sym a)) (ap answerBytes (sym a))
+      out_kept (plan_call t o g d p) s out ok b 8 (ap answerNumber a) (ap (λ (z : Answer). cond (is_yes z) (opened t o g d p (view s)) (view s)) (sym a)) (ap answerBytes (sym a))
 
   module _ (n m : ℕ) (en : n ≡ next_id_of s) (em : m ≡ after_id n) (x : Side) (ex : side_in x ≡ side_of o g m p.stream) where
     n-is : n ≡ n₀
-    n-is = en ∙ nextId-held s (view s) s (holds-tested s ok b)
+    n-is = en ∙ next_id_held s (view s) s (holds_tested s ok b)
 
     pub side-here : side_in x ≡ side_at o g p n
     side-here = ex ∙ ap (λ (k : ℕ). side_of o g k p.stream) em
@@ -95,11 +95,11 @@ module _ (t : ℕ) (o : ForwardOpen) (g : Origin) (d : List ℕ) (p : Plan) (s o
     pub next-some : 0 < x.next
     next-some =
         let q : 0 < m = subst (λ (k : ℕ). 0 < k) (sym em) (after_some n) in
-        subst (λ (z : Opening.Side). 0 < z.next) (sym ex) (side-some o g m q p.stream)
+        subst (λ (z : Opening.Side). 0 < z.next) (sym ex) (side_some o g m q p.stream)
 
-    reply-is : reply_from o n x ≡ reply_of o g p n₀
+    reply_is : reply_from o n x ≡ reply_of o g p n₀
     unfolding reply_of
-    reply-is = λ j. openReplyAt (n-is j) (side-is j)
+    reply_is = λ j. openReplyAt (n-is j) (side-is j)
       where
         openReplyAt : ℕ → Opening.Side → List ℕ
         openReplyAt k z = Rattle.wire_rules.specs.Replies.open_reply (record { 0 = k }) z.toid o.triad o.ot.rpi z.torpi
@@ -114,9 +114,9 @@ module _ (t : ℕ) (o : ForwardOpen) (g : Origin) (d : List ℕ) (p : Plan) (s o
         let a : yes ≡ plan_answer o g n₀ (length out) (Planned p) =
         ap (λ (u : Bool). cond u yes (Refused NoRoom)) (sym (le-leb (length (reply_of o g p n₀)) (length out) (omega arith))) in
         let cc₀ : c ≡ new_conn t o g p n₀ = ec ∙ ap (new_conn t o g p) n-is in
-        let i : s' ≡ store (opened_as c x.next p.stores d st) s = (e st s (holds-tested s ok b) f).is in
-        out-done (plan_call t o g d p) s out ok r s' out'
+        let i : s' ≡ store (opened_as c x.next p.stores d st) s = (e st s (holds_tested s ok b) f).is in
+        out_done (plan_call t o g d p) s out ok r s' out'
         (er ∙ (λ j. answerNumber (Accepted (ev j) (side-is j).dest [])) ∙ number_any (asks_multicast o) (side_at o g p n₀).dest (reply_of o g p n₀) ∙ ap answerNumber a)
-        (i ∙ (λ j. store (opened_as (cc₀ j) (side-is j).next p.stores d st) s) ∙ ap (λ (z : State). store z s) (opened-is t o g d p st)
+        (i ∙ (λ j. store (opened_as (cc₀ j) (side-is j).next p.stores d st) s) ∙ ap (λ (z : State). store z s) (opened_is t o g d p st)
         ∙ ap (λ (z : Answer). store (cond (is_yes z) (opened t o g d p st) st) s) a)
-        (eo ∙ ap (sets out 0) reply-is ∙ ap (λ (z : Answer). sets out 0 (answerBytes z)) a)
+        (eo ∙ ap (sets out 0) reply_is ∙ ap (λ (z : Answer). sets out 0 (answerBytes z)) a)

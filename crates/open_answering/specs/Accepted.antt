@@ -27,59 +27,59 @@ use Rattle.rules.specs.declared.Verdict.TheVariants.{Stopped, Planned}
 use Rattle.state_rules.specs.Rows.{RoleFits, RowFits}
 use Rattle.state_rules.specs.Image.{view, store, tested}
 use Rattle.state_image.specs.Fits.{Suits}
-use Rattle.state_image.specs.ViewLaws.{suits-view}
-use Rattle.state_image.specs.Passes.{tested-store}
+use Rattle.state_image.specs.ViewLaws.{suits_view}
+use Rattle.state_image.specs.Passes.{tested_store}
 use Rattle.state_image.specs.Writes.{with_bytes}
-use Rattle.state_image.specs.Kept.{suits-nextId, suits-appended, suits-content, suits-fault}
+use Rattle.state_image.specs.Kept.{suits_next_id, suits_appended, suits_content, suits_fault}
 use Rattle.state_image.specs.Changes.{row_added, bytes_as}
 use Rattle.state_events.specs.Pushes.{suits_told}
-use Rattle.open_answering.specs.Sides.{after_some, side-some, conn-fits}
+use Rattle.open_answering.specs.Sides.{after_some, side_some, conn_fits}
 use Rattle.open_answering.specs.Steps.{placed, configured, stored_as, StoresFit, opened_as}
-use Rattle.open_answering.specs.StepLaws.{opened-is}
-use Rattle.open_answering.specs.Plans.{config_inside, planned-room, planned-row, planned-fits}
+use Rattle.open_answering.specs.StepLaws.{opened_is}
+use Rattle.open_answering.specs.Plans.{config_inside, planned_room, planned_row, planned_fits}
 
 module _ (l : List ℕ) where
-  suits-placed : (c : Conn) (next : ℕ) (st : State) → Suits st l → RowFits c → length st.table < 32 → 0 < next → Suits (placed c next st) l
-  suits-placed c next st w f n p =
+  suits_placed : (c : Conn) (next : ℕ) (st : State) → Suits st l → RowFits c → length st.table < 32 → 0 < next → Suits (placed c next st) l
+  suits_placed c next st w f n p =
       suits_told (row_added c (with_next_id next st)) l (Opened (info_of st.setup c.fixed))
-      (suits-appended (with_next_id next st) l (suits-nextId st l w next p) c f n)
+      (suits_appended (with_next_id next st) l (suits_next_id st l w next p) c f n)
 
-  suits-stored : (x : Stores) (d : List ℕ) (st : State) → Suits st l → StoresFit x d st → Suits (stored_as x d st) l
-  suits-stored Nothing d st w f = w
-  suits-stored (Into i) d st w f =
-      suits_told (bytes_as i d st) l (Configured (shape_at st.setup i).instance (length d)) (suits-content st l w i (with_bytes d (content_at st i)) (f i refl))
+  suits_stored : (x : Stores) (d : List ℕ) (st : State) → Suits st l → StoresFit x d st → Suits (stored_as x d st) l
+  suits_stored Nothing d st w f = w
+  suits_stored (Into i) d st w f =
+      suits_told (bytes_as i d st) l (Configured (shape_at st.setup i).instance (length d)) (suits_content st l w i (with_bytes d (content_at st i)) (f i refl))
 
-  suits-opened : (t : ℕ) (o : ForwardOpen) (g : Origin) (d : List ℕ) (p : Plan) (st : State) → Suits st l → RoleFits p.kind p.output → length st.table < 32 → StoresFit p.stores d st
+  suits_opened : (t : ℕ) (o : ForwardOpen) (g : Origin) (d : List ℕ) (p : Plan) (st : State) → Suits st l → RoleFits p.kind p.output → length st.table < 32 → StoresFit p.stores d st
       → Suits (opened t o g d p st) l
-  suits-opened t o g d p st w r n f =
+  suits_opened t o g d p st w r n f =
       let c : Conn = new_conn t o g p st.nextId in
       let next : ℕ = (side_at o g p st.nextId).next in
-      let k : 0 < next = side-some o g (after_id st.nextId) (after_some st.nextId) p.stream in
-      let w₁ = suits-placed c next st w (conn-fits t o g p st.nextId c refl r) n k in
-      let w₂ = suits-stored p.stores d (placed c next st) w₁ f in
-      subst (λ (z : State). Suits z l) (opened-is t o g d p st) (suits-fault (stored_as p.stores d (placed c next st)) l w₂ false)
+      let k : 0 < next = side_some o g (after_id st.nextId) (after_some st.nextId) p.stream in
+      let w₁ = suits_placed c next st w (conn_fits t o g p st.nextId c refl r) n k in
+      let w₂ = suits_stored p.stores d (placed c next st) w₁ f in
+      subst (λ (z : State). Suits z l) (opened_is t o g d p st) (suits_fault (stored_as p.stores d (placed c next st)) l w₂ false)
 
   module _ (ok : tested l ≡ true) where
     suits-planned : (t : ℕ) (o : ForwardOpen) (g : Origin) (request : List ℕ) (v : Verdict) → verdict_of request o (view l) ≡ v
         → Suits (plan_effect t o g (config_bytes request o) (view l) v) l
     unfolding verdict_of
-    suits-planned t o g request (Stopped x) e = suits-view l ok
+    suits-planned t o g request (Stopped x) e = suits_view l ok
     suits-planned t o g request (Planned p) e =
         let path : List ℕ = path_bytes request o in
         let h = config_inside path (path_of path) refl in
         let k = length-drop (path_in (path_of path)).datastart path in
         let n : length (config_bytes request o) ≡ (path_in (path_of path)).datalen = length-take-le (path_in (path_of path)).datalen (drop (path_in (path_of path)).datastart path) (omega arith) in
-        suits-opened t o g (config_bytes request o) p (view l) (suits-view l ok) (planned-row l ok o (path_of path) p e (config_bytes request o) n) (planned-room l ok o (path_of path) p e (config_bytes request o) n) (planned-fits l ok o (path_of path) p e (config_bytes request o) n)
+        suits_opened t o g (config_bytes request o) p (view l) (suits_view l ok) (planned_row l ok o (path_of path) p e (config_bytes request o) n) (planned_room l ok o (path_of path) p e (config_bytes request o) n) (planned_fits l ok o (path_of path) p e (config_bytes request o) n)
 
     pub open-suits : (t service : ℕ) (request : List ℕ) (g : Origin) (room : ℕ) → Suits (open_call t service request g room (view l)).1 l
     unfolding open_call open_effect
     open-suits t service request g room =
         either_way (λ (z : State). Suits z l) (is_yes (open_answer t service request g room (view l))) {x = asked_effect t g request (view l) (open_asked service request)} {y = view l}
-        (go (open_asked service request)) (suits-view l ok)
+        (go (open_asked service request)) (suits_view l ok)
       where
         go : (q : OpenAnswer) → Suits (asked_effect t g request (view l) q) l
-        go NoOpen = suits-view l ok
+        go NoOpen = suits_view l ok
         go (Open o) = suits-planned t o g request (verdict_of request o (view l)) refl
 
     pub open-accepted : (t service : ℕ) (request : List ℕ) (g : Origin) (room : ℕ) → tested (store (open_call t service request g room (view l)).1 l) ≡ true
-    open-accepted t service request g room = tested-store (open_call t service request g room (view l)).1 l (open-suits t service request g room)
+    open-accepted t service request g room = tested_store (open_call t service request g room (view l)).1 l (open-suits t service request g room)

@@ -11,7 +11,7 @@ use Rattle.wire_rules.specs.declared.ForwardOpen.{ForwardOpen}
 use Rattle.wire_rules.specs.declared.OpenAnswer.{OpenAnswer}
 use Rattle.wire_rules.specs.declared.OpenAnswer.TheVariants.{Open, NoOpen}
 use Rattle.wire_rules.specs.Opens.{open_of}
-use Rattle.wire_opens.specs.RequestLaws.{open-path}
+use Rattle.wire_opens.specs.RequestLaws.{open_path}
 use Rattle.wire_rules.specs.declared.PathAnswer.{PathAnswer}
 use Rattle.wire_rules.specs.ConnectionPath.{path_of}
 use Rattle.rules.specs.Answers.{Answer, Refused, Failed, NotParsed, BadTime, is_yes, answerNumber, answerBytes, settled}
@@ -24,7 +24,7 @@ use Rattle.rules.specs.declared.Stop.{Stop}
 use Rattle.rules.specs.declared.Verdict.{Verdict}
 use Rattle.rules.specs.declared.Verdict.TheVariants.{Stopped, Planned}
 use Rattle.state_rules.specs.Image.{view, store, tested}
-use Rattle.state_image.specs.Lift.{lifted_out, out-kept}
+use Rattle.state_image.specs.Lift.{lifted_out, out_kept}
 use Rattle.open_answering.specs.Steps.{plan_call}
 
 -- ---- an open over its path
@@ -47,22 +47,22 @@ out_same call call' s out e =
 
 module _ (t : ℕ) (o : ForwardOpen) (g : Origin) (path s out : List ℕ) (answer : PathAnswer) (ea : answer ≡ path_of path)
     (v : Verdict) (ev : v ≡ verdict (view s).setup (fixeds (view s).table) o answer) where
-  verdict-is : v ≡ verdict_at path o (view s)
-  verdict-is = ev ∙ ap (verdict (view s).setup (fixeds (view s).table) o) ea
+  verdict_is : v ≡ verdict_at path o (view s)
+  verdict_is = ev ∙ ap (verdict (view s).setup (fixeds (view s).table) o) ea
 
-  pub path-stopped : tested s ≡ true → Bytes s → (x : Stop) → v ≡ Stopped x → (r : ℕ) → r ≡ answerNumber (Failed x) → (r, (s, out)) ≡ lifted_out (path_call t o g path) s out
+  pub path_stopped : tested s ≡ true → Bytes s → (x : Stop) → v ≡ Stopped x → (r : ℕ) → r ≡ answerNumber (Failed x) → (r, (s, out)) ≡ lifted_out (path_call t o g path) s out
   unfolding path_call
-  path-stopped ok b x e r er =
-      let q : Stopped x ≡ verdict_at path o (view s) = sym e ∙ verdict-is in
+  path_stopped ok b x e r er =
+      let q : Stopped x ≡ verdict_at path o (view s) = sym e ∙ verdict_is in
       let a : Failed x ≡ plan_answer o g (view s).nextId (length out) (verdict_at path o (view s)) = ap (plan_answer o g (view s).nextId (length out)) q in
-      out-kept (path_call t o g path) s out ok b r (er ∙ ap answerNumber a)
+      out_kept (path_call t o g path) s out ok b r (er ∙ ap answerNumber a)
       (ap (λ (z : Answer). cond (is_yes z) (plan_effect t o g (config_in path) (view s) (verdict_at path o (view s))) (view s)) (sym a)) (ap answerBytes (sym a))
 
-  pub path-planned : (p : Plan) → v ≡ Planned p → (d : List ℕ) → d ≡ config_in path → (r : ℕ) (s' out' : List ℕ)
+  pub path_planned : (p : Plan) → v ≡ Planned p → (d : List ℕ) → d ≡ config_in path → (r : ℕ) (s' out' : List ℕ)
       → (r, (s', out')) ≡ lifted_out (plan_call t o g d p) s out → (r, (s', out')) ≡ lifted_out (path_call t o g path) s out
   unfolding plan_call path_call
-  path-planned p e d ed r s' out' h =
-      let q : Planned p ≡ verdict_at path o (view s) = sym e ∙ verdict-is in
+  path_planned p e d ed r s' out' h =
+      let q : Planned p ≡ verdict_at path o (view s) = sym e ∙ verdict_is in
       h ∙ out_same (plan_call t o g d p) (path_call t o g path) s out
       (λ j. settled (plan_answer o g (view s).nextId (length out) (q j)) (plan_effect t o g (ed j) (view s) (q j)) (view s))
 
@@ -81,17 +81,17 @@ pub open_inside : (service : ℕ) (request : List ℕ) (o : ForwardOpen) → ope
 open_inside service request o e = go (eqb service 0x5B) (eqb service 0x54) e
   where
     go : (b c : Bool) → cond b (open_of true request) (cond c (open_of false request) NoOpen) ≡ Open o → o.path.start + o.path.len ≤ length request
-    go true c q = open-path true request o q
-    go false true q = open-path false request o q
+    go true c q = open_path true request o q
+    go false true q = open_path false request o q
     go false false q = absurd (let z : ◌≡◌ {A = ℕ} 0 1 = cc in omega arith)
 
 module _ (t service : ℕ) (request : List ℕ) (g : Origin) (s out : List ℕ) where
-  pub open-late : tested s ≡ true → Bytes s → 9223372036854775807 < t → (3, (s, out)) ≡ lifted_out (open_call t service request g) s out
+  pub open_late : tested s ≡ true → Bytes s → 9223372036854775807 < t → (3, (s, out)) ≡ lifted_out (open_call t service request g) s out
   unfolding open_call open_answer answerNumber
-  open-late ok b h =
+  open_late ok b h =
       let a : Refused BadTime ≡ open_answer t service request g (length out) (view s) =
       ap (λ (v : Bool). cond v (asked_answer g request (length out) (view s) (open_asked service request)) (Refused BadTime)) (sym (lt-leb t 9223372036854775807 h)) in
-      out-kept (open_call t service request g) s out ok b 3 (ap answerNumber a)
+      out_kept (open_call t service request g) s out ok b 3 (ap answerNumber a)
       (ap (λ (z : Answer). cond (is_yes z) (open_effect t service request g (view s)) (view s)) (sym a)) (ap answerBytes (sym a))
 
   module _ (h : t ≤ 9223372036854775807) where
@@ -103,7 +103,7 @@ module _ (t service : ℕ) (request : List ℕ) (g : Origin) (s out : List ℕ) 
     unfolding open_call answerNumber
     open-unread ok b e =
         let a : Refused NotParsed ≡ open_answer t service request g (length out) (view s) = timely-answer NoOpen (sym e) in
-        out-kept (open_call t service request g) s out ok b 4 (ap answerNumber a)
+        out_kept (open_call t service request g) s out ok b 4 (ap answerNumber a)
         (ap (λ (z : Answer). cond (is_yes z) (open_effect t service request g (view s)) (view s)) (sym a)) (ap answerBytes (sym a))
 
     pub open-read : (o : ForwardOpen) → open_asked service request ≡ Open o → (r : ℕ) (s' out' : List ℕ)

@@ -32,10 +32,10 @@ use Rattle.rules.specs.declared.Verdict.TheVariants.{Planned}
 use Rattle.state_rules.specs.Image.{view, tested}
 use Rattle.state_image.specs.Fits.{Suits}
 use Rattle.state_rules.specs.Rows.{RoleFits}
-use Rattle.state_searches.specs.Searches.{place-in}
-use Rattle.state_image.specs.StoreLaws.{content-short, few-contents}
-use Rattle.state_image.specs.ViewLaws.{suits-view}
-use Rattle.state_image.specs.Holds.{holds-tested, assemblies-held, conns-held}
+use Rattle.state_searches.specs.Searches.{place_in_lem}
+use Rattle.state_image.specs.StoreLaws.{content_short, few_contents}
+use Rattle.state_image.specs.ViewLaws.{suits_view}
+use Rattle.state_image.specs.Holds.{holds_tested, assemblies_held, conns_held}
 use Rattle.open_answering.specs.Steps.{StoresFit, Fit}
 
 -- ---- the data in the path
@@ -53,14 +53,14 @@ module _ (path : List ℕ) (answer : PathAnswer) (e : answer ≡ path_of path) (
   pub place_inside : a + n ≤ length path
   place_inside = let h = config_inside path answer e in omega arith
 
-  pub config-long : length (take (a + n - a) (drop a path)) ≡ (path_in answer).datalen
-  config-long =
+  pub config_long : length (take (a + n - a) (drop a path)) ≡ (path_in answer).datalen
+  config_long =
       let h = config_inside path answer e in
       let k = length-drop a path in
       length-take-le (a + n - a) (drop a path) (omega arith) ∙ (let q : a + n - a ≡ (path_in answer).datalen = omega arith in q)
 
-  pub config-is : take (a + n - a) (drop a path) ≡ take (path_in (path_of path)).datalen (drop (path_in (path_of path)).datastart path)
-  config-is =
+  pub config_is : take (a + n - a) (drop a path) ≡ take (path_in (path_of path)).datalen (drop (path_in (path_of path)).datastart path)
+  config_is =
       let q : a + n - a ≡ (path_in answer).datalen = omega arith in
       (λ j. take (q j) (drop (ea j) path)) ∙ ap (λ (z : PathAnswer). take (path_in z).datalen (drop (path_in z).datastart path)) e
 
@@ -78,20 +78,20 @@ config_at false u n (some j) i e q =
 
 module _ (u : Setup) (table : List Fixed) (o : ForwardOpen) (answer : PathAnswer) (p : Plan) (e : verdict u table o answer ≡ Planned p) where
   -- check 13
-  pub planned-few : length table < 32
+  pub planned_few : length table < 32
   unfolding room_check
-  planned-few = ltb-true (length table) 32 (must_none (ltb (length table) 32) _ (passed u table o answer p e).0.room)
+  planned_few = ltb-true (length table) 32 (must_none (ltb (length table) 32) _ (passed u table o answer p e).0.room)
 
-  pub planned-size : (i : ℕ) → p.stores ≡ Into i → (eqb (path_in answer).datalen 0 ≡ false) × ((shape_at u i).size ≡ (path_in answer).datalen)
+  pub planned_size : (i : ℕ) → p.stores ≡ Into i → (eqb (path_in answer).datalen 0 ≡ false) × ((shape_at u i).size ≡ (path_in answer).datalen)
   unfolding config_check plan_of
-  planned-size i q =
+  planned_size i q =
       let z = passed u table o answer p e in
       config_at (eqb (path_in answer).datalen 0) u (path_in answer).datalen (roles_of u (path_in answer)).config i z.0.config (ap (λ (x : Plan). x.stores) z.1 ∙ q)
 
   -- data that is not empty has an assembly of the setup's list
-  pub planned-place : (i : ℕ) → p.stores ≡ Into i → i < length u.assemblies
-  planned-place i q =
-      let z = planned-size i q in
+  pub planned_place : (i : ℕ) → p.stores ≡ Into i → i < length u.assemblies
+  planned_place i q =
+      let z = planned_size i q in
       by_cases (ltb i (length u.assemblies)) (λ t. ltb-true i (length u.assemblies) t)
       (λ t. let h : length u.assemblies ≤ i = ltb-false i (length u.assemblies) t in
       let w : (shape_at u i).size ≡ 0 = ap (λ x. x.size) (get_or-eq_default u.assemblies no_shape {n = i} h) in
@@ -105,7 +105,7 @@ or0_small (some i) n h = h i refl
 
 place_small : (is : AssemblyKind → Bool) (u : Setup) (n : ℕ) → place_or0 (place_of is u n) ≤ length u.assemblies
 unfolding place_of
-place_small is u n = or0_small (place_of is u n) (length u.assemblies) (λ i e. let z = place-in (is_at is n) no_shape u.assemblies i e in omega arith)
+place_small is u n = or0_small (place_of is u n) (length u.assemblies) (λ i e. let z = place_in_lem (is_at is n) no_shape u.assemblies i e in omega arith)
 
 role_small : (k : Kind) (n : ℕ) → n ≤ 253 → RoleFits k (cond (is_owner k) n 0)
 role_small Owner n h = h
@@ -113,16 +113,16 @@ role_small InputOnly n h = refl
 role_small ListenOnly n h = refl
 
 module _ (u : Setup) (table : List Fixed) (o : ForwardOpen) (answer : PathAnswer) (p : Plan) (e : verdict u table o answer ≡ Planned p) (few : length u.assemblies ≤ 16) where
-  pub planned-input : p.input ≤ 31
+  pub planned_input : p.input ≤ 31
   unfolding plan_of roles_of
-  planned-input =
+  planned_input =
       let q : place_or0 (place_of is_input u (to_point (path_in answer))) ≡ p.input = ap (λ (x : Plan). x.input) (passed u table o answer p e).1 in
       let k : place_or0 (place_of is_input u (to_point (path_in answer))) ≤ length u.assemblies = place_small is_input u (to_point (path_in answer)) in
       omega arith
 
-  pub planned-role : RoleFits p.kind p.output
+  pub planned_role : RoleFits p.kind p.output
   unfolding plan_of roles_of
-  planned-role =
+  planned_role =
       let n : ℕ = place_or0 (place_of is_output u (ot_point (path_in answer))) in
       let k : n ≤ length u.assemblies = place_small is_output u (ot_point (path_in answer)) in
       subst (λ (x : Plan). RoleFits x.kind x.output) (passed u table o answer p e).1 (role_small (kind_of u (ot_point (path_in answer))) n (omega arith))
@@ -134,31 +134,31 @@ module _ (s : List ℕ) (ok : tested s ≡ true) (o : ForwardOpen) (answer : Pat
   abbrev st : State
   st = view s
 
-  pub planned-room : length st.table < 32
-  planned-room =
-      let h = planned-few st.setup (fixeds st.table) o answer p e in
+  pub planned_room : length st.table < 32
+  planned_room =
+      let h = planned_few st.setup (fixeds st.table) o answer p e in
       let k = length-map st.table (λ (c : Conn). c.fixed) in
       omega arith
 
-  few-places : length st.setup.assemblies ≤ 16
-  few-places = let a = few-contents st s (suits-view s ok) in let c = (suits-view s ok).fits.contents in omega arith
+  few_places : length st.setup.assemblies ≤ 16
+  few_places = let a = few_contents st s (suits_view s ok) in let c = (suits_view s ok).fits.contents in omega arith
 
-  pub planned-row : RoleFits p.kind p.output
-  planned-row = planned-role st.setup (fixeds st.table) o answer p e few-places
+  pub planned_row : RoleFits p.kind p.output
+  planned_row = planned_role st.setup (fixeds st.table) o answer p e few_places
 
-  pub planned-fits : StoresFit p.stores d st
-  planned-fits i q = n ∙ sym (planned-size st.setup (fixeds st.table) o answer p e i q).1 ∙ sym ((suits-view s ok).fits.sized i)
+  pub planned_fits : StoresFit p.stores d st
+  planned_fits i q = n ∙ sym (planned_size st.setup (fixeds st.table) o answer p e i q).1 ∙ sym ((suits_view s ok).fits.sized i)
 
-  pub planned-fit : Bytes s → Fit p d s
-  planned-fit b =
-      let h = holds-tested s ok b in
+  pub planned_fit : Bytes s → Fit p d s
+  planned_fit b =
+      let h = holds_tested s ok b in
       record {
-        conns = let c = conns-held s st s h in let m = planned-room in omega arith;
-        input = planned-input st.setup (fixeds st.table) o answer p e few-places;
-        role = planned-row;
+        conns = let c = conns_held s st s h in let m = planned_room in omega arith;
+        input = planned_input st.setup (fixeds st.table) o answer p e few_places;
+        role = planned_row;
         room = λ i q. (
-          let a = assemblies-held s st s h in let c = (suits-view s ok).fits.contents in let m = planned-place st.setup (fixeds st.table) o answer p e i q in omega arith,
-          let f = planned-fits i q in let c = content-short st s (suits-view s ok) i in omega arith,
+          let a = assemblies_held s st s h in let c = (suits_view s ok).fits.contents in let m = planned_place st.setup (fixeds st.table) o answer p e i q in omega arith,
+          let f = planned_fits i q in let c = content_short st s (suits_view s ok) i in omega arith,
         );
-        fits = planned-fits;
+        fits = planned_fits;
       }

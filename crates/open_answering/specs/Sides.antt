@@ -49,52 +49,52 @@ after_some n = cond_some (eqb n (2 ^ 32 - 1)) n
 -- ---- destinations
 
 module _ (g : Origin) where
-  pub point-peer : g.given ≡ false → ◌≡◌ {A = Socket} (record { address = g.peer; port = g.ioport }) (point_dest g)
+  pub point_peer : g.given ≡ false → ◌≡◌ {A = Socket} (record { address = g.peer; port = g.ioport }) (point_dest g)
   unfolding point_dest
-  point-peer e = rw e
+  point_peer e = rw e
 
-  pub point-port : g.given ≡ true → g.socket.address ≡ 0 → ◌≡◌ {A = Socket} (record { address = g.peer; port = g.socket.port }) (point_dest g)
+  pub point_port : g.given ≡ true → g.socket.address ≡ 0 → ◌≡◌ {A = Socket} (record { address = g.peer; port = g.socket.port }) (point_dest g)
   unfolding point_dest
-  point-port e h = rw (e, eq-eqb g.socket.address 0 h)
+  point_port e h = rw (e, eq-eqb g.socket.address 0 h)
 
-  pub point-given : g.given ≡ true → (g.socket.address ≡ 0 → ⊥) → g.socket ≡ point_dest g
+  pub point_given : g.given ≡ true → (g.socket.address ≡ 0 → ⊥) → g.socket ≡ point_dest g
   unfolding point_dest
-  point-given e h = rw (e, ne_eqb g.socket.address 0 h)
+  point_given e h = rw (e, ne_eqb g.socket.address 0 h)
 
-  pub group-is : (a : ℕ) → a ≡ group_of g.local g.mask → ◌≡◌ {A = Socket} (record { address = a; port = g.ioport }) (group_dest g)
+  pub group_is : (a : ℕ) → a ≡ group_of g.local g.mask → ◌≡◌ {A = Socket} (record { address = a; port = g.ioport }) (group_dest g)
   unfolding group_dest
-  group-is a e = λ j. record { address = e j; port = g.ioport }
+  group_is a e = λ j. record { address = e j; port = g.ioport }
 
 -- ---- sides
 
 module _ (o : ForwardOpen) (g : Origin) (n : ℕ) where
-  pub own-drawn : (b : Bool) → b ≡ asks_multicast o → b ≡ true → (d : Socket) → d ≡ group_dest g → (m : ℕ) → m ≡ after_id n
+  pub own_drawn : (b : Bool) → b ≡ asks_multicast o → b ≡ true → (d : Socket) → d ≡ group_dest g → (m : ℕ) → m ≡ after_id n
       → ◌≡◌ {A = Opening.Side} (record { toid = record { 0 = n }; dest = d; torpi = o.to.rpi; next = m }) (side_of o g n Own)
   unfolding side_of
-  own-drawn b eb t d ed m em =
+  own_drawn b eb t d ed m em =
       (λ j. record { toid = record { 0 = n }; dest = ed j; torpi = o.to.rpi; next = em j })
       ∙ ap (λ (x : Bool). cond x (record { toid = record { 0 = n }; dest = group_dest g; torpi = o.to.rpi; next = after_id n }) (record { toid = o.toid; dest = point_dest g; torpi = o.to.rpi; next = n })) (sym t ∙ eb)
 
-  pub own-given : (b : Bool) → b ≡ asks_multicast o → b ≡ false → (d : Socket) → d ≡ point_dest g
+  pub own_given : (b : Bool) → b ≡ asks_multicast o → b ≡ false → (d : Socket) → d ≡ point_dest g
       → ◌≡◌ {A = Opening.Side} (record { toid = o.toid; dest = d; torpi = o.to.rpi; next = n }) (side_of o g n Own)
   unfolding side_of
-  own-given b eb t d ed =
+  own_given b eb t d ed =
       (λ j. record { toid = o.toid; dest = ed j; torpi = o.to.rpi; next = n })
       ∙ ap (λ (x : Bool). cond x (record { toid = record { 0 = n }; dest = group_dest g; torpi = o.to.rpi; next = after_id n }) (record { toid = o.toid; dest = point_dest g; torpi = o.to.rpi; next = n })) (sym t ∙ eb)
 
-  pub side-joins : (stream : Stream) (toid : ToId) (dest : Socket) (torpi : ℕ) → stream ≡ Joins toid dest torpi
+  pub side_joins : (stream : Stream) (toid : ToId) (dest : Socket) (torpi : ℕ) → stream ≡ Joins toid dest torpi
       → ◌≡◌ {A = Opening.Side} (record { toid = toid; dest = dest; torpi = torpi; next = n }) (side_of o g n stream)
   unfolding side_of
-  side-joins stream toid dest torpi e = ap (side_of o g n) (sym e)
+  side_joins stream toid dest torpi e = ap (side_of o g n) (sym e)
 
-  pub side-own : (stream : Stream) (x : Opening.Side) → stream ≡ Own → x ≡ side_of o g n Own → x ≡ side_of o g n stream
-  side-own stream x e q = q ∙ ap (side_of o g n) (sym e)
+  pub side_own : (stream : Stream) (x : Opening.Side) → stream ≡ Own → x ≡ side_of o g n Own → x ≡ side_of o g n stream
+  side_own stream x e q = q ∙ ap (side_of o g n) (sym e)
 
   -- the next id is not 0
-  pub side-some : 0 < n → (stream : Stream) → 0 < (side_of o g n stream).next
+  pub side_some : 0 < n → (stream : Stream) → 0 < (side_of o g n stream).next
   unfolding side_of
-  side-some h (Joins toid dest torpi) = h
-  side-some h Own = go (asks_multicast o)
+  side_some h (Joins toid dest torpi) = h
+  side_some h Own = go (asks_multicast o)
     where
       drawn : Opening.Side
       drawn = record { toid = record { 0 = n }; dest = group_dest g; torpi = o.to.rpi; next = after_id n }
@@ -167,13 +167,13 @@ conn_is time o g p n f h x ef eh ex = λ j. record { fixed = ef j; heard = eh j;
 
 -- the plan's roles are the connection's
 module _ (time : ℕ) (o : ForwardOpen) (g : Origin) (p : Plan) (n : ℕ) (c : Conn) (e : c ≡ new_conn time o g p n) where
-  pub conn-input : p.input ≤ 31 → c.fixed.input ≤ 31
+  pub conn_input : p.input ≤ 31 → c.fixed.input ≤ 31
   unfolding new_conn new_fixed
-  conn-input h = subst (λ (z : Conn). z.fixed.input ≤ 31) (sym e) h
+  conn_input h = subst (λ (z : Conn). z.fixed.input ≤ 31) (sym e) h
 
-  pub conn-fits : RoleFits p.kind p.output → RowFits c
+  pub conn_fits : RoleFits p.kind p.output → RowFits c
   unfolding new_conn new_fixed
-  conn-fits h = subst (λ (z : Conn). RowFits z) (sym e) h
+  conn_fits h = subst (λ (z : Conn). RowFits z) (sym e) h
 
 pub conn_due : (time : ℕ) (o : ForwardOpen) (g : Origin) (p : Plan) (n : ℕ) (c : Conn) → c ≡ new_conn time o g p n → time < 9223372036854775808
     → of_due c.sent.due < 18446744073709551616

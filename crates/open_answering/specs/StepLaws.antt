@@ -19,8 +19,8 @@ use Rattle.state_rules.specs.Places.{connections_of, assemblies_of}
 use Rattle.state_rules.specs.Image.{store}
 use Rattle.state_image.specs.Fits.{Suits}
 use Rattle.state_image.specs.Writes.{with_bytes}
-use Rattle.state_image.specs.Holds.{Holds, Becomes, conns-held, shape-held}
-use Rattle.state_image.specs.Kept.{Kept, kept_few, suits-nextId, suits-appended, suits-content, suits-fault}
+use Rattle.state_image.specs.Holds.{Holds, Becomes, conns_held, shape_held}
+use Rattle.state_image.specs.Kept.{Kept, kept_few, suits_next_id, suits_appended, suits_content, suits_fault}
 use Rattle.state_image.specs.Changes.{row_added, bytes_as, BytesBecome}
 use Rattle.state_searches.specs.Searches.{change_at_place}
 use Rattle.state_events.specs.Pushes.{event_told, told, suits_told}
@@ -33,31 +33,31 @@ module _ (c : Conn) (next : ℕ) (s s₁ s₂ s₃ : List ℕ) where
   place_kept a b d =
       record { ready = d.ready; setup = d.setup ∙ b.setup ∙ a.setup; conns = d.conns ∙ b.conns ∙ ap (λ (n : ℕ). n + 1) a.conns }
 
-  pub place-done : connections_of s < 32 → 0 < next → RowFits c → Becomes s s₁ (with_next_id next) → Becomes s₁ s₂ (row_added c) → Becomes s₂ s₃ (told 1 c.fixed) → Places c next s s₃
+  pub place_done : connections_of s < 32 → 0 < next → RowFits c → Becomes s s₁ (with_next_id next) → Becomes s₁ s₂ (row_added c) → Becomes s₂ s₃ (told 1 c.fixed) → Places c next s s₃
   unfolding pushed event_record
-  place-done p q f a b d st l h =
+  place_done p q f a b d st l h =
       let st₁ : State = with_next_id next st in
-      let w₁ : Suits st₁ l = suits-nextId st l h.suits next q in
+      let w₁ : Suits st₁ l = suits_next_id st l h.suits next q in
       let h₁ : Holds s₁ st₁ l = record { is = a st l h; suits = w₁ } in
-      let n = conns-held s st l h in
+      let n = conns_held s st l h in
       let st₂ : State = row_added c st₁ in
-      let w₂ : Suits st₂ l = suits-appended st₁ l w₁ c f (omega arith) in
+      let w₂ : Suits st₂ l = suits_appended st₁ l w₁ c f (omega arith) in
       let h₂ : Holds s₂ st₂ l = record { is = b st₁ l h₁; suits = w₂ } in
       record { is = d st₂ l h₂; suits = suits_told st₂ l (Opened (info_of st.setup c.fixed)) w₂ }
 
 -- ---- its configuration data
 
 module _ (i : ℕ) (d s s₁ s₂ : List ℕ) where
-  pub config-kept : Kept (connections_of s) s s₁ → Kept (connections_of s₁) s₁ s₂ → Kept (connections_of s) s s₂
-  config-kept a b = record { ready = b.ready; setup = b.setup ∙ a.setup; conns = b.conns ∙ a.conns }
+  pub config_kept : Kept (connections_of s) s s₁ → Kept (connections_of s₁) s₁ s₂ → Kept (connections_of s) s s₂
+  config_kept a b = record { ready = b.ready; setup = b.setup ∙ a.setup; conns = b.conns ∙ a.conns }
 
-  pub config-done : i < assemblies_of s₁ → (v m : ℕ) → v ≡ (shape_in s₁ i).instance → m ≡ length d
+  pub config_done : i < assemblies_of s₁ → (v m : ℕ) → v ≡ (shape_in s₁ i).instance → m ≡ length d
       → BytesBecome i d s s₁ → Becomes s₁ s₂ (event_told (Configured v m)) → Configures i d s s₂
-  config-done p v m ev em a b st l h n =
+  config_done p v m ev em a b st l h n =
       let st₁ : State = bytes_as i d st in
-      let w₁ : Suits st₁ l = suits-content st l h.suits i (with_bytes d (content_at st i)) n in
+      let w₁ : Suits st₁ l = suits_content st l h.suits i (with_bytes d (content_at st i)) n in
       let h₁ : Holds s₁ st₁ l = record { is = a st l h n; suits = w₁ } in
-      let e : v ≡ (shape_at st.setup i).instance = ev ∙ ap (λ z. z.instance) (shape-held s₁ st₁ l h₁ i p) in
+      let e : v ≡ (shape_at st.setup i).instance = ev ∙ ap (λ z. z.instance) (shape_held s₁ st₁ l h₁ i p) in
       record {
         is = b st₁ l h₁ ∙ (λ j. store (event_told (Configured (e j) (em j)) st₁) l);
         suits = suits_told st₁ l (Configured (shape_at st.setup i).instance (length d)) w₁;
@@ -67,11 +67,11 @@ module _ (x : Stores) (d s : List ℕ) where
   pub puts_none : x ≡ Nothing → Puts x d s s
   puts_none e st l h f = subst (λ (z : Stores). Holds s (stored_as z d st) l) (sym e) h
 
-  pub puts-into : (i : ℕ) → x ≡ Into i → (s' : List ℕ) → Configures i d s s' → Puts x d s s'
-  puts-into i e s' b st l h f = subst (λ (z : Stores). Holds s' (stored_as z d st) l) (sym e) (b st l h (f i e))
+  pub puts_into : (i : ℕ) → x ≡ Into i → (s' : List ℕ) → Configures i d s s' → Puts x d s s'
+  puts_into i e s' b st l h f = subst (λ (z : Stores). Holds s' (stored_as z d st) l) (sym e) (b st l h (f i e))
 
-  pub room-kept : (n : ℕ) (s' : List ℕ) → Kept n s s' → Room x d s → Room x d s'
-  room-kept n s' k r i e = let q = kept_few n s s' k in let z = r i e in (let y = z.0 in omega arith, z.1)
+  pub room_kept : (n : ℕ) (s' : List ℕ) → Kept n s s' → Room x d s → Room x d s'
+  room_kept n s' k r i e = let q = kept_few n s s' k in let z = r i e in (let y = z.0 in omega arith, z.1)
 
 -- ---- the whole
 
@@ -83,7 +83,7 @@ module _ (c : Conn) (next : ℕ) (x : Stores) (d s s₁ s₂ s₃ : List ℕ) wh
   open_done a b e st l h f =
       let h₁ = a st l h in
       let h₂ = b (placed c next st) l h₁ f in
-      record { is = e (stored_as x d (placed c next st)) l h₂; suits = suits-fault (stored_as x d (placed c next st)) l h₂.suits false }
+      record { is = e (stored_as x d (placed c next st)) l h₂; suits = suits_fault (stored_as x d (placed c next st)) l h₂.suits false }
 
 -- the steps together are the rules' open
 module _ (t : ℕ) (o : ForwardOpen) (g : Origin) (d : List ℕ) (p : Plan) (st : State) where
@@ -93,9 +93,9 @@ module _ (t : ℕ) (o : ForwardOpen) (g : Origin) (d : List ℕ) (p : Plan) (st 
   abbrev next : ℕ
   next = (side_at o g p st.nextId).next
 
-  pub opened-is : opened_as c next p.stores d st ≡ opened t o g d p st
+  pub opened_is : opened_as c next p.stores d st ≡ opened t o g d p st
   unfolding opened new_conn pushed_all
-  opened-is = go p.stores
+  opened_is = go p.stores
     where
       whole : List Content → List Event → State
       whole cs es =

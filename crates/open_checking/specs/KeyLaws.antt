@@ -22,27 +22,27 @@ any_ours ours asked h = sym (ap (λ (x : Bool). x || eqb asked ours) (ne_eqb ask
 
 -- the minor revision
 module _ (ours : ℕ) (k : Key) where
-  abbrev minorIs : Bool
-  minorIs = any_or ours k.minor || compatible_bit k.major && ltb k.minor ours
+  abbrev minor_is : Bool
+  minor_is = any_or ours k.minor || compatible_bit k.major && ltb k.minor ours
 
-  any-is : (b : Bool) → any_or ours k.minor ≡ b → minorIs ≡ (b || compatible_bit k.major && ltb k.minor ours)
-  any-is b e = ap (λ (x : Bool). x || compatible_bit k.major && ltb k.minor ours) e
+  any_is : (b : Bool) → any_or ours k.minor ≡ b → minor_is ≡ (b || compatible_bit k.major && ltb k.minor ours)
+  any_is b e = ap (λ (x : Bool). x || compatible_bit k.major && ltb k.minor ours) e
 
-  pub minor-zero : k.minor ≡ 0 → true ≡ minorIs
-  minor-zero h = sym (any-is true (sym (any_zero ours k.minor h)))
+  pub minor_zero : k.minor ≡ 0 → true ≡ minor_is
+  minor_zero h = sym (any_is true (sym (any_zero ours k.minor h)))
 
   module _ (g : k.minor ≡ 0 → ⊥) where
-    pub minor-ours : k.minor ≡ ours → true ≡ minorIs
-    minor-ours h = sym (any-is true (sym (any_ours ours k.minor g) ∙ eq-eqb k.minor ours h))
+    pub minor-ours : k.minor ≡ ours → true ≡ minor_is
+    minor-ours h = sym (any_is true (sym (any_ours ours k.minor g) ∙ eq-eqb k.minor ours h))
 
     module _ (h : k.minor ≡ ours → ⊥) (b : Bool) (e : b ≡ compatible_bit k.major) where
-      other : minorIs ≡ (b && ltb k.minor ours)
-      other = any-is false (sym (any_ours ours k.minor g) ∙ ne_eqb k.minor ours h) ∙ ap (λ (x : Bool). x && ltb k.minor ours) (sym e)
+      other : minor_is ≡ (b && ltb k.minor ours)
+      other = any_is false (sym (any_ours ours k.minor g) ∙ ne_eqb k.minor ours h) ∙ ap (λ (x : Bool). x && ltb k.minor ours) (sym e)
 
-      pub minor-below : b ≡ true → ltb k.minor ours ≡ minorIs
+      pub minor-below : b ≡ true → ltb k.minor ours ≡ minor_is
       minor-below q = sym (other ∙ ap (λ (x : Bool). x && ltb k.minor ours) q)
 
-      pub minor-no : b ≡ false → false ≡ minorIs
+      pub minor-no : b ≡ false → false ≡ minor_is
       minor-no q = sym (other ∙ ap (λ (x : Bool). x && ltb k.minor ours) q)
 
 -- the revision
@@ -54,8 +54,8 @@ module _ (us : Identity) (k : Key) (asked : ℕ) (ea : asked ≡ major_of k.majo
   unfolding revision_ok
   split a b e f = (λ j. eqb (sym ea j) 0 || eqb (sym ea j) us.major && minors) ∙ (λ j. e j || f j && minors)
 
-  pub revision-any : asked ≡ 0 → true ≡ revision_ok us k
-  revision-any h = sym (split true (eqb asked us.major) (eq-eqb asked 0 h) refl)
+  pub revision_any : asked ≡ 0 → true ≡ revision_ok us k
+  revision_any h = sym (split true (eqb asked us.major) (eq-eqb asked 0 h) refl)
 
   module _ (g : asked ≡ 0 → ⊥) (ours : ℕ) (eo : ours ≡ us.major) where
     pub revision-no : (asked ≡ ours → ⊥) → false ≡ revision_ok us k
@@ -69,41 +69,41 @@ module _ (us : Identity) (k : Key) (asked : ℕ) (ea : asked ≡ major_of k.majo
 
 -- the key
 module _ (us : Identity) (k : Key) (vendor : ℕ) (ev : vendor ≡ us.vendor) (a : Bool) (ea : a ≡ any_or vendor k.vendor) where
-  abbrev vendorStop : Stop
-  vendorStop = KeyVendor k.vendor us.vendor
+  abbrev vendor_stop : Stop
+  vendor_stop = KeyVendor k.vendor us.vendor
 
-  abbrev productStop : Stop
-  productStop = KeyProduct k.product us.product
+  abbrev product_stop : Stop
+  product_stop = KeyProduct k.product us.product
 
-  abbrev deviceStop : Stop
-  deviceStop = KeyDevice k.device us.device
+  abbrev device_stop : Stop
+  device_stop = KeyDevice k.device us.device
 
-  abbrev revisionStop : Stop
-  revisionStop = KeyRevision k.major k.minor us.major us.minor
+  abbrev revision_stop : Stop
+  revision_stop = KeyRevision k.major k.minor us.major us.minor
 
   abbrev fourth : Option Stop
-  fourth = must (revision_ok us k) revisionStop
+  fourth = must (revision_ok us k) revision_stop
 
   abbrev third : Option Stop
-  third = and_then (must (any_or us.device k.device) deviceStop) fourth
+  third = and_then (must (any_or us.device k.device) device_stop) fourth
 
   abbrev second : Option Stop
-  second = and_then (must (any_or us.product k.product) productStop) third
+  second = and_then (must (any_or us.product k.product) product_stop) third
 
-  vendor-is : any_or us.vendor k.vendor ≡ a
-  vendor-is = (λ j. any_or (sym ev j) k.vendor) ∙ sym ea
+  vendor_is : any_or us.vendor k.vendor ≡ a
+  vendor_is = (λ j. any_or (sym ev j) k.vendor) ∙ sym ea
 
-  pub key-vendor : a ≡ false → some (KeyVendor k.vendor vendor) ≡ key_stop us k
+  pub key_vendor : a ≡ false → some (KeyVendor k.vendor vendor) ≡ key_stop us k
   unfolding key_stop
-  key-vendor h =
+  key_vendor h =
       (λ j. some (KeyVendor k.vendor (ev j)))
-      ∙ then_no (must (any_or us.vendor k.vendor) vendorStop) second vendorStop (must_no (any_or us.vendor k.vendor) vendorStop (vendor-is ∙ h))
+      ∙ then_no (must (any_or us.vendor k.vendor) vendor_stop) second vendor_stop (must_no (any_or us.vendor k.vendor) vendor_stop (vendor_is ∙ h))
 
   module _ (ha : a ≡ true) (product : ℕ) (ep : product ≡ us.product) (b : Bool) (eb : b ≡ any_or product k.product) where
     past-vendor : (c : Option Stop) → c ≡ second → c ≡ key_stop us k
     unfolding key_stop
     past-vendor c e =
-        then_on (must (any_or us.vendor k.vendor) vendorStop) second c (must_yes (any_or us.vendor k.vendor) vendorStop (vendor-is ∙ ha)) e
+        then_on (must (any_or us.vendor k.vendor) vendor_stop) second c (must_yes (any_or us.vendor k.vendor) vendor_stop (vendor_is ∙ ha)) e
 
     product_is : any_or us.product k.product ≡ b
     product_is = (λ j. any_or (sym ep j) k.product) ∙ sym eb
@@ -111,14 +111,14 @@ module _ (us : Identity) (k : Key) (vendor : ℕ) (ev : vendor ≡ us.vendor) (a
     pub key-product : b ≡ false → some (KeyProduct k.product product) ≡ key_stop us k
     key-product h =
         (λ j. some (KeyProduct k.product (ep j)))
-        ∙ past-vendor (some productStop)
-        (then_no (must (any_or us.product k.product) productStop) third productStop (must_no (any_or us.product k.product) productStop (product_is ∙ h)))
+        ∙ past-vendor (some product_stop)
+        (then_no (must (any_or us.product k.product) product_stop) third product_stop (must_no (any_or us.product k.product) product_stop (product_is ∙ h)))
 
     module _ (hb : b ≡ true) (device : ℕ) (ed : device ≡ us.device) (d : Bool) (eq : d ≡ any_or device k.device) where
       past-product : (c : Option Stop) → c ≡ third → c ≡ key_stop us k
       past-product c e =
           past-vendor c
-          (then_on (must (any_or us.product k.product) productStop) third c (must_yes (any_or us.product k.product) productStop (product_is ∙ hb)) e)
+          (then_on (must (any_or us.product k.product) product_stop) third c (must_yes (any_or us.product k.product) product_stop (product_is ∙ hb)) e)
 
       device-is : any_or us.device k.device ≡ d
       device-is = (λ j. any_or (sym ed j) k.device) ∙ sym eq
@@ -126,28 +126,28 @@ module _ (us : Identity) (k : Key) (vendor : ℕ) (ev : vendor ≡ us.vendor) (a
       pub key-device : d ≡ false → some (KeyDevice k.device device) ≡ key_stop us k
       key-device h =
           (λ j. some (KeyDevice k.device (ed j)))
-          ∙ past-product (some deviceStop)
-          (then_no (must (any_or us.device k.device) deviceStop) fourth deviceStop (must_no (any_or us.device k.device) deviceStop (device-is ∙ h)))
+          ∙ past-product (some device_stop)
+          (then_no (must (any_or us.device k.device) device_stop) fourth device_stop (must_no (any_or us.device k.device) device_stop (device-is ∙ h)))
 
       module _ (hd : d ≡ true) (q : Bool) (er : q ≡ revision_ok us k) where
         past-device : (c : Option Stop) → c ≡ fourth → c ≡ key_stop us k
         past-device c e =
             past-product c
-            (then_on (must (any_or us.device k.device) deviceStop) fourth c (must_yes (any_or us.device k.device) deviceStop (device-is ∙ hd)) e)
+            (then_on (must (any_or us.device k.device) device_stop) fourth c (must_yes (any_or us.device k.device) device_stop (device-is ∙ hd)) e)
 
         pub key-yes : q ≡ true → none ≡ key_stop us k
-        key-yes h = past-device none (must_yes (revision_ok us k) revisionStop (sym er ∙ h))
+        key-yes h = past-device none (must_yes (revision_ok us k) revision_stop (sym er ∙ h))
 
         pub key-revision : q ≡ false → (major minor : ℕ) → major ≡ us.major → minor ≡ us.minor
             → some (KeyRevision k.major k.minor major minor) ≡ key_stop us k
         key-revision h major minor em en =
-            (λ j. some (KeyRevision k.major k.minor (em j) (en j))) ∙ past-device (some revisionStop) (must_no (revision_ok us k) revisionStop (sym er ∙ h))
+            (λ j. some (KeyRevision k.major k.minor (em j) (en j))) ∙ past-device (some revision_stop) (must_no (revision_ok us k) revision_stop (sym er ∙ h))
 
 module _ (us : Identity) (p : ConnectionPath) where
-  pub key-there : p.haskey ≡ true → (c : Option Stop) → c ≡ key_stop us p.key → c ≡ key_check us p
+  pub key_there : p.haskey ≡ true → (c : Option Stop) → c ≡ key_stop us p.key → c ≡ key_check us p
   unfolding key_check
-  key-there h c e = e ∙ sym (ap (λ (x : Bool). cond x (key_stop us p.key) none) h)
+  key_there h c e = e ∙ sym (ap (λ (x : Bool). cond x (key_stop us p.key) none) h)
 
-  pub key-none : p.haskey ≡ false → none ≡ key_check us p
+  pub key_none : p.haskey ≡ false → none ≡ key_check us p
   unfolding key_check
-  key-none h = sym (ap (λ (x : Bool). cond x (key_stop us p.key) none) h)
+  key_none h = sym (ap (λ (x : Bool). cond x (key_stop us p.key) none) h)

@@ -13,61 +13,61 @@ use Rattle.rules.specs.Checks.{must, and_then, transport_check, rpi_ok, rpi_chec
 use Rattle.open_checking.specs.SaysLaws.{must_yes, must_no, then_on, then_no}
 
 module _ (o : ForwardOpen) (b : Bool) (e : b ≡ transport_ok o.transport) where
-  pub transport-yes : b ≡ true → none ≡ transport_check o
+  pub transport_yes : b ≡ true → none ≡ transport_check o
   unfolding transport_check
-  transport-yes h = must_yes (transport_ok o.transport) (Transport o.transport) (sym e ∙ h)
+  transport_yes h = must_yes (transport_ok o.transport) (Transport o.transport) (sym e ∙ h)
 
-  pub transport-no : b ≡ false → some (Transport o.transport) ≡ transport_check o
+  pub transport_no : b ≡ false → some (Transport o.transport) ≡ transport_check o
   unfolding transport_check
-  transport-no h = must_no (transport_ok o.transport) (Transport o.transport) (sym e ∙ h)
+  transport_no h = must_no (transport_ok o.transport) (Transport o.transport) (sym e ∙ h)
 
 -- check 6
 module _ (u : Setup) (o : ForwardOpen) (min max : ℕ) (em : min ≡ u.rpiMin) (ex : max ≡ u.rpiMax) (b : Bool) (eb : b ≡ (leb min o.ot.rpi && leb o.ot.rpi max)) where
-  abbrev otStop : Stop
-  otStop = OtRpi o.ot.rpi u.rpiMin u.rpiMax
+  abbrev ot_stop : Stop
+  ot_stop = OtRpi o.ot.rpi u.rpiMin u.rpiMax
 
-  abbrev toStop : Stop
-  toStop = ToRpi o.to.rpi u.rpiMin u.rpiMax
+  abbrev to_stop : Stop
+  to_stop = ToRpi o.to.rpi u.rpiMin u.rpiMax
 
-  ot-is : rpi_ok u o.ot.rpi ≡ b
-  ot-is = (λ j. leb (sym em j) o.ot.rpi && leb o.ot.rpi (sym ex j)) ∙ sym eb
+  ot_is : rpi_ok u o.ot.rpi ≡ b
+  ot_is = (λ j. leb (sym em j) o.ot.rpi && leb o.ot.rpi (sym ex j)) ∙ sym eb
 
-  pub rpi-ot : b ≡ false → some (OtRpi o.ot.rpi min max) ≡ rpi_check u o
+  pub rpi_ot : b ≡ false → some (OtRpi o.ot.rpi min max) ≡ rpi_check u o
   unfolding rpi_check
-  rpi-ot h =
+  rpi_ot h =
       (λ j. some (OtRpi o.ot.rpi (em j) (ex j)))
-      ∙ then_no (must (rpi_ok u o.ot.rpi) otStop) (must (rpi_ok u o.to.rpi) toStop) otStop (must_no (rpi_ok u o.ot.rpi) otStop (ot-is ∙ h))
+      ∙ then_no (must (rpi_ok u o.ot.rpi) ot_stop) (must (rpi_ok u o.to.rpi) to_stop) ot_stop (must_no (rpi_ok u o.ot.rpi) ot_stop (ot_is ∙ h))
 
   module _ (h : b ≡ true) (d : Bool) (ed : d ≡ (leb min o.to.rpi && leb o.to.rpi max)) where
     to_is : rpi_ok u o.to.rpi ≡ d
     to_is = (λ j. leb (sym em j) o.to.rpi && leb o.to.rpi (sym ex j)) ∙ sym ed
 
-    second : (c : Option Stop) → c ≡ must (rpi_ok u o.to.rpi) toStop → c ≡ rpi_check u o
+    second : (c : Option Stop) → c ≡ must (rpi_ok u o.to.rpi) to_stop → c ≡ rpi_check u o
     unfolding rpi_check
-    second c e = then_on (must (rpi_ok u o.ot.rpi) otStop) (must (rpi_ok u o.to.rpi) toStop) c (must_yes (rpi_ok u o.ot.rpi) otStop (ot-is ∙ h)) e
+    second c e = then_on (must (rpi_ok u o.ot.rpi) ot_stop) (must (rpi_ok u o.to.rpi) to_stop) c (must_yes (rpi_ok u o.ot.rpi) ot_stop (ot_is ∙ h)) e
 
     pub rpi-to : d ≡ false → some (ToRpi o.to.rpi min max) ≡ rpi_check u o
-    rpi-to g = (λ j. some (ToRpi o.to.rpi (em j) (ex j))) ∙ second (some toStop) (must_no (rpi_ok u o.to.rpi) toStop (to_is ∙ g))
+    rpi-to g = (λ j. some (ToRpi o.to.rpi (em j) (ex j))) ∙ second (some to_stop) (must_no (rpi_ok u o.to.rpi) to_stop (to_is ∙ g))
 
     pub rpi-yes : d ≡ true → none ≡ rpi_check u o
-    rpi-yes g = second none (must_yes (rpi_ok u o.to.rpi) toStop (to_is ∙ g))
+    rpi-yes g = second none (must_yes (rpi_ok u o.to.rpi) to_stop (to_is ∙ g))
 
 -- check 7
 module _ (o : ForwardOpen) (b : Bool) (eb : b ≡ is_point o.ot.params.net) where
-  abbrev toType : Option Stop
-  toType = must (is_point o.to.params.net || is_multicast o.to.params.net) (ToType o.to.params.net)
+  abbrev to_type : Option Stop
+  to_type = must (is_point o.to.params.net || is_multicast o.to.params.net) (ToType o.to.params.net)
 
-  pub type-ot : b ≡ false → some (OtType o.ot.params.net) ≡ type_check o
+  pub type_ot : b ≡ false → some (OtType o.ot.params.net) ≡ type_check o
   unfolding type_check
-  type-ot h =
-      then_no (must (is_point o.ot.params.net) (OtType o.ot.params.net)) toType (OtType o.ot.params.net)
+  type_ot h =
+      then_no (must (is_point o.ot.params.net) (OtType o.ot.params.net)) to_type (OtType o.ot.params.net)
       (must_no (is_point o.ot.params.net) (OtType o.ot.params.net) (sym eb ∙ h))
 
   module _ (h : b ≡ true) (p : Bool) (ep : p ≡ is_point o.to.params.net) where
-    type-second : (c : Option Stop) → c ≡ toType → c ≡ type_check o
+    type-second : (c : Option Stop) → c ≡ to_type → c ≡ type_check o
     unfolding type_check
     type-second c e =
-        then_on (must (is_point o.ot.params.net) (OtType o.ot.params.net)) toType c
+        then_on (must (is_point o.ot.params.net) (OtType o.ot.params.net)) to_type c
         (must_yes (is_point o.ot.params.net) (OtType o.ot.params.net) (sym eb ∙ h)) e
 
     pub type-point : p ≡ true → none ≡ type_check o

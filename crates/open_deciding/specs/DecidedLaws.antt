@@ -39,8 +39,8 @@ goes_on (some s) ds h = absurd (let z : ◌≡◌ {A = ℕ} 1 0 = ap (λ (b : Bo
 
 module _ (c d : Option Stop) (e : c ≡ d) where
   -- the last one
-  pub first-last : c ≡ first_stop (d ∷ [])
-  first-last = e ∙ last d
+  pub first_last : c ≡ first_stop (d ∷ [])
+  first_last = e ∙ last d
     where
       last : (a : Option Stop) → a ≡ first_stop (a ∷ [])
       last none = refl
@@ -66,15 +66,15 @@ module _ (plan : Plan) (cs ds : List (Option Stop)) (c : Option Stop) (e : c ≡
       ap (λ (z : Option Stop). maybe (Planned plan) Stopped z) (first_append cs ds)
       ∙ ap (λ (z : Option Stop). maybe (Planned plan) Stopped (maybe (first_stop ds) some z)) (sym e ∙ h)
 
-  pub group-stops : (s : Stop) → c ≡ some s → Stopped s ≡ decided plan (cs ++ ds)
-  group-stops s h = sym (after (some s) h)
+  pub group_stops : (s : Stop) → c ≡ some s → Stopped s ≡ decided plan (cs ++ ds)
+  group_stops s h = sym (after (some s) h)
 
-  pub group-holds : c ≡ none → (v : Verdict) → v ≡ decided plan ds → v ≡ decided plan (cs ++ ds)
-  group-holds h v q = q ∙ sym (after none h)
+  pub group_holds : c ≡ none → (v : Verdict) → v ≡ decided plan ds → v ≡ decided plan (cs ++ ds)
+  group_holds h v q = q ∙ sym (after none h)
 
 module _ (plan : Plan) (d : Option Stop) (ds : List (Option Stop)) where
-  pub one-stops : (s : Stop) → some s ≡ d → Stopped s ≡ decided plan (d ∷ ds)
-  one-stops s h = ap (λ (z : Option Stop). decided plan (z ∷ ds)) h
+  pub one_stops : (s : Stop) → some s ≡ d → Stopped s ≡ decided plan (d ∷ ds)
+  one_stops s h = ap (λ (z : Option Stop). decided plan (z ∷ ds)) h
 
   pub one_holds : none ≡ d → (v : Verdict) → v ≡ decided plan ds → v ≡ decided plan (d ∷ ds)
   one_holds h v q = q ∙ ap (λ (z : Option Stop). decided plan (z ∷ ds)) h
@@ -99,35 +99,35 @@ plan_is r n stream z e = λ j. record { kind = r.kind; input = r.input; output =
 
 module _ (u : Setup) (table : List Fixed) (o : ForwardOpen) (r : checks.Roles) (datalen : ℕ) (stream : Stream) (es : stream ≡ stream_of o r table)
     (c : Option Stop) (ec : c ≡ first_stop (table_checks_of u table o r stream)) where
-  abbrev tablePlan : Plan
-  tablePlan = plan_for r datalen (stream_of o r table)
+  abbrev table_plan : Plan
+  table_plan = plan_for r datalen (stream_of o r table)
 
   known : first_stop (table_checks_of u table o r stream) ≡ first_stop (table_checks u table o r)
   known =
       ap (λ (z : Stream). first_stop (table_checks_of u table o r z)) es
       ∙ ap (λ (z : Option Stop). first_stop (checks.triad_check o table ∷ checks.owner_check u r table ∷ z ∷ checks.room_check table ∷ [])) (stop_reads o r table)
 
-  pub table-stops : (s : Stop) → c ≡ some s → Stopped s ≡ decided tablePlan (table_checks u table o r)
-  table-stops s h = ap (λ (z : Option Stop). maybe (Planned tablePlan) Stopped z) (sym h ∙ ec ∙ known)
+  pub table_stops : (s : Stop) → c ≡ some s → Stopped s ≡ decided table_plan (table_checks u table o r)
+  table_stops s h = ap (λ (z : Option Stop). maybe (Planned table_plan) Stopped z) (sym h ∙ ec ∙ known)
 
-  pub table-holds : c ≡ none → (plan : Plan) → plan ≡ plan_for r datalen stream → Planned plan ≡ decided tablePlan (table_checks u table o r)
-  table-holds h plan ep =
+  pub table_holds : c ≡ none → (plan : Plan) → plan ≡ plan_for r datalen stream → Planned plan ≡ decided table_plan (table_checks u table o r)
+  table_holds h plan ep =
       ap Planned (ep ∙ ap (λ (z : Stream). plan_for r datalen z) es)
-      ∙ ap (λ (z : Option Stop). maybe (Planned tablePlan) Stopped z) (sym h ∙ ec ∙ known)
+      ∙ ap (λ (z : Option Stop). maybe (Planned table_plan) Stopped z) (sym h ∙ ec ∙ known)
 
 -- ---- check 4 and what the points come to
 
 module _ (u : Setup) (table : List Fixed) (o : ForwardOpen) (p : ConnectionPath) (x : Points) (es : said x ≡ points_check u p)
     (er : roles_or (roles_of u p) x ≡ roles_of u p) where
-  pub points-stop : (s : Stop) → x ≡ Stops s → Stopped s ≡ decided (plan_of u table o p) (point_checks u table o p)
-  points-stop s h =
-      one-stops (plan_of u table o p) (points_check u p) (role_checks u table o p (roles_of u p)) s (ap said (sym h) ∙ es)
+  pub points_stop : (s : Stop) → x ≡ Stops s → Stopped s ≡ decided (plan_of u table o p) (point_checks u table o p)
+  points_stop s h =
+      one_stops (plan_of u table o p) (points_check u p) (role_checks u table o p (roles_of u p)) s (ap said (sym h) ∙ es)
 
-  pub points-are : (y : Roles) → x ≡ Are y → (v : Verdict)
+  pub points_are : (y : Roles) → x ≡ Are y → (v : Verdict)
       → v ≡ decided (plan_for (roles_in y) p.datalen (stream_of o (roles_in y) table)) (role_checks u table o p (roles_in y))
       → v ≡ decided (plan_of u table o p) (point_checks u table o p)
   unfolding plan_of
-  points-are y h v e =
+  points_are y h v e =
       let q : roles_in y ≡ roles_of u p = ap (roles_or (roles_of u p)) (sym h) ∙ er in
       one_holds (plan_of u table o p) (points_check u p) (role_checks u table o p (roles_of u p)) (ap said (sym h) ∙ es) v
       (e ∙ ap (λ (z : checks.Roles). decided (plan_for z p.datalen (stream_of o z table)) (role_checks u table o p z)) q)
@@ -135,26 +135,26 @@ module _ (u : Setup) (table : List Fixed) (o : ForwardOpen) (p : ConnectionPath)
 -- ---- check 2, by the path's answer
 
 module _ (u : Setup) (table : List Fixed) (o : ForwardOpen) (a : PathAnswer) where
-  abbrev answerPlan : PathAnswer → Plan
-  answerPlan z = plan_of u table o (path_in z)
+  abbrev answer_plan : PathAnswer → Plan
+  answer_plan z = plan_of u table o (path_in z)
 
-  pub answer-broken : (n : ℕ) → a ≡ Unparsed n → Stopped (PathBroken n) ≡ decided (answerPlan a) (answer_checks u table o a)
+  pub answer_broken : (n : ℕ) → a ≡ Unparsed n → Stopped (PathBroken n) ≡ decided (answer_plan a) (answer_checks u table o a)
   unfolding path_check
-  answer-broken n h = sym (ap (λ (z : PathAnswer). decided (answerPlan z) (answer_checks u table o z)) h)
+  answer_broken n h = sym (ap (λ (z : PathAnswer). decided (answer_plan z) (answer_checks u table o z)) h)
 
-  pub answer-parsed : (p : ConnectionPath) → a ≡ Parsed p → (v : Verdict) → v ≡ decided (plan_of u table o p) (parsed_checks u table o p)
-      → v ≡ decided (answerPlan a) (answer_checks u table o a)
+  pub answer_parsed : (p : ConnectionPath) → a ≡ Parsed p → (v : Verdict) → v ≡ decided (plan_of u table o p) (parsed_checks u table o p)
+      → v ≡ decided (answer_plan a) (answer_checks u table o a)
   unfolding path_check
-  answer-parsed p h v e = e ∙ sym (ap (λ (z : PathAnswer). decided (answerPlan z) (answer_checks u table o z)) h)
+  answer_parsed p h v e = e ∙ sym (ap (λ (z : PathAnswer). decided (answer_plan z) (answer_checks u table o z)) h)
 
   -- ---- all thirteen
 
-  verdict-is : decided (answerPlan a) (transport_check o ∷ answer_checks u table o a) ≡ verdict u table o a
+  verdict_is : decided (answer_plan a) (transport_check o ∷ answer_checks u table o a) ≡ verdict u table o a
   unfolding verdict
-  verdict-is = refl
+  verdict_is = refl
 
-  pub verdict-stops : (s : Stop) → some s ≡ transport_check o → Stopped s ≡ verdict u table o a
-  verdict-stops s h = one-stops (answerPlan a) (transport_check o) (answer_checks u table o a) s h ∙ verdict-is
+  pub verdict_stops : (s : Stop) → some s ≡ transport_check o → Stopped s ≡ verdict u table o a
+  verdict_stops s h = one_stops (answer_plan a) (transport_check o) (answer_checks u table o a) s h ∙ verdict_is
 
-  pub verdict-goes : none ≡ transport_check o → (v : Verdict) → v ≡ decided (answerPlan a) (answer_checks u table o a) → v ≡ verdict u table o a
-  verdict-goes h v e = one_holds (answerPlan a) (transport_check o) (answer_checks u table o a) h v e ∙ verdict-is
+  pub verdict_goes : none ≡ transport_check o → (v : Verdict) → v ≡ decided (answer_plan a) (answer_checks u table o a) → v ≡ verdict u table o a
+  verdict_goes h v e = one_holds (answer_plan a) (transport_check o) (answer_checks u table o a) h v e ∙ verdict_is

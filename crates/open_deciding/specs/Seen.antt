@@ -21,8 +21,8 @@ use Rattle.state_rules.specs.Places.{setup_in, table_in, eds_in, row_size, conne
 use Rattle.state_rules.specs.Rows.{dec_fixed, conns_in, fixeds_in}
 use Rattle.state_rules.specs.Setups.{identity_of, setup_from, setup_of}
 use Rattle.state_rules.specs.Image.{view, tested}
-use Rattle.state_image.specs.Fits.{few-assemblies, is-long, is-sound, few-conns, shapes-good}
-use Rattle.state_image.specs.StoreLaws.{length-setupIn, length-tableIn}
+use Rattle.state_image.specs.Fits.{few_assemblies, is_long, is_sound, few_conns, shapes_good}
+use Rattle.state_image.specs.StoreLaws.{length_setup_in, length_table_in}
 use Rattle.open_deciding.specs.Decided.{Regions}
 
 -- the EDS is not asked: each check of the setup by itself, then the decision
@@ -33,69 +33,69 @@ module _ (r e : List ℕ) (table : List Fixed) (o : ForwardOpen) (p : Connection
   abbrev whole : Setup
   whole = setup_from r e
 
-  roles-same : roles_of bare p ≡ roles_of whole p
+  roles_same : roles_of bare p ≡ roles_of whole p
   unfolding roles_of kind_of place_of
-  roles-same = refl
+  roles_same = refl
 
-  points-same : points_check bare p ≡ points_check whole p
+  points_same : points_check bare p ≡ points_check whole p
   unfolding points_check kind_of place_of
-  points-same = refl
+  points_same = refl
 
-  config-same : config_check bare p (roles_of bare p) ≡ config_check whole p (roles_of whole p)
+  config_same : config_check bare p (roles_of bare p) ≡ config_check whole p (roles_of whole p)
   unfolding config_check
-  config-same =
-      ap (config_check bare p) roles-same
+  config_same =
+      ap (config_check bare p) roles_same
       ∙ ap (λ (z : Option Stop). cond (eqb p.datalen 0) none z) (stop-same (roles_of whole p).config)
     where
       stop-same : (i : Option ℕ) → config_stop bare p.datalen i ≡ config_stop whole p.datalen i
       stop-same none = refl
       stop-same (some i) = refl
 
-  rpi-same : rpi_check bare o ≡ rpi_check whole o
+  rpi_same : rpi_check bare o ≡ rpi_check whole o
   unfolding rpi_check
-  rpi-same = refl
+  rpi_same = refl
 
-  ot-size-same : ot_size_check bare o (roles_of bare p) ≡ ot_size_check whole o (roles_of whole p)
+  ot_size_same : ot_size_check bare o (roles_of bare p) ≡ ot_size_check whole o (roles_of whole p)
   unfolding ot_size_check
-  ot-size-same = ap (ot_size_check bare o) roles-same
+  ot_size_same = ap (ot_size_check bare o) roles_same
 
-  to-size-same : to_size_check bare o (roles_of bare p) ≡ to_size_check whole o (roles_of whole p)
+  to_size_same : to_size_check bare o (roles_of bare p) ≡ to_size_check whole o (roles_of whole p)
   unfolding to_size_check
-  to-size-same = ap (to_size_check bare o) roles-same
+  to_size_same = ap (to_size_check bare o) roles_same
 
-  owner-same : owner_check bare (roles_of bare p) table ≡ owner_check whole (roles_of whole p) table
+  owner_same : owner_check bare (roles_of bare p) table ≡ owner_check whole (roles_of whole p) table
   unfolding owner_check
-  owner-same = ap (λ (x : Roles). owner_check bare x table) roles-same
+  owner_same = ap (λ (x : Roles). owner_check bare x table) roles_same
 
-  plan-same : plan_of bare table o p ≡ plan_of whole table o p
+  plan_same : plan_of bare table o p ≡ plan_of whole table o p
   unfolding plan_of
-  plan-same =
+  plan_same =
       ap (λ (x : Roles). record {
         kind = x.kind;
         input = x.input;
         output = x.output;
         stores = cond (eqb p.datalen 0) Nothing (stores_into x.config);
         stream = stream_of o x table;
-      }) roles-same
+      }) roles_same
 
 pub eds_unread : (r e : List ℕ) (table : List Fixed) (o : ForwardOpen) (a : PathAnswer) → verdict (setup_from r []) table o a ≡ verdict (setup_from r e) table o a
 unfolding verdict
 eds_unread r e table o a =
     let p : ConnectionPath = path_in a in
-    let same = roles-same r e table o p in
+    let same = roles_same r e table o p in
     λ j.
-    maybe (Planned (plan-same r e table o p j)) Stopped
+    maybe (Planned (plan_same r e table o p j)) Stopped
     (first_stop (transport_check o
     ∷ path_check a
     ∷ key_check (identity_of r) p
-    ∷ points-same r e table o p j
-    ∷ config-same r e table o p j
-    ∷ rpi-same r e table o p j
+    ∷ points_same r e table o p j
+    ∷ config_same r e table o p j
+    ∷ rpi_same r e table o p j
     ∷ type_check o
-    ∷ ot-size-same r e table o p j
-    ∷ to-size-same r e table o p j
+    ∷ ot_size_same r e table o p j
+    ∷ to_size_same r e table o p j
     ∷ triad_check o table
-    ∷ owner-same r e table o p j
+    ∷ owner_same r e table o p j
     ∷ stream_check o (same j) table
     ∷ room_check table
     ∷ []))
@@ -107,22 +107,22 @@ fixeds_rows zero r = refl
 fixeds_rows (suc n) r = ap (λ (z : List Fixed). dec_fixed (take row_size r) ∷ z) (fixeds_rows n (drop row_size r))
 
 module _ (s : List ℕ) (n : ℕ) (en : n ≡ connections_of s) where
-  pub regions-tested : tested s ≡ true → Regions (setup_in s) (table_in s) n
-  regions-tested ok =
-      let l = is-long s ok in
-      let a = length-setupIn s l in
-      let b = length-tableIn s l in
-      let f = few-conns s ok in
+  pub regions_tested : tested s ≡ true → Regions (setup_in s) (table_in s) n
+  regions_tested ok =
+      let l = is_long s ok in
+      let a = length_setup_in s l in
+      let b = length_table_in s l in
+      let f = few_conns s ok in
       record {
-        setup = record { long = omega arith; few = few-assemblies (setup_in s) (is-sound s ok); shapes = shapes-good s ok };
+        setup = record { long = omega arith; few = few_assemblies (setup_in s) (is_sound s ok); shapes = shapes_good s ok };
         long = omega arith;
         few = omega arith;
       }
 
-  pub verdict-seen : (o : ForwardOpen) (a : PathAnswer) (v : Verdict) → v ≡ verdict (setup_from (setup_in s) []) (fixeds_in n (table_in s)) o a
+  pub verdict_seen : (o : ForwardOpen) (a : PathAnswer) (v : Verdict) → v ≡ verdict (setup_from (setup_in s) []) (fixeds_in n (table_in s)) o a
       → v ≡ verdict (view s).setup (fixeds (view s).table) o a
   unfolding view setup_of
-  verdict-seen o a v e =
+  verdict_seen o a v e =
       e ∙ ap (λ (k : ℕ). verdict (setup_from (setup_in s) []) (fixeds_in k (table_in s)) o a) en
       ∙ ap (λ (z : List Fixed). verdict (setup_from (setup_in s) []) z o a) (fixeds_rows (connections_of s) (table_in s))
       ∙ eds_unread (setup_in s) (eds_in s) (fixeds (view s).table) o a

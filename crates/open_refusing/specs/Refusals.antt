@@ -23,14 +23,14 @@ use Rattle.rules.specs.declared.Stop.{Stop}
 -- ---- which open
 
 module _ (service : ℕ) (request : List ℕ) where
-  pub request-large : service ≡ 0x5B → open_of true request ≡ open_asked service request
-  request-large e = ap (λ (b : Bool). cond b (open_of true request) (cond (eqb service 0x54) (open_of false request) NoOpen)) (sym (eq-eqb service 0x5B e))
+  pub request_large : service ≡ 0x5B → open_of true request ≡ open_asked service request
+  request_large e = ap (λ (b : Bool). cond b (open_of true request) (cond (eqb service 0x54) (open_of false request) NoOpen)) (sym (eq-eqb service 0x5B e))
 
-  pub request-small : (service ≡ 0x5B → ⊥) → service ≡ 0x54 → open_of false request ≡ open_asked service request
-  request-small n e = rw (ne_eqb service 0x5B n, eq-eqb service 0x54 e)
+  pub request_small : (service ≡ 0x5B → ⊥) → service ≡ 0x54 → open_of false request ≡ open_asked service request
+  request_small n e = rw (ne_eqb service 0x5B n, eq-eqb service 0x54 e)
 
-  pub request-other : (service ≡ 0x5B → ⊥) → (service ≡ 0x54 → ⊥) → NoOpen ≡ open_asked service request
-  request-other n m = rw (ne_eqb service 0x5B n, ne_eqb service 0x54 m)
+  pub request_other : (service ≡ 0x5B → ⊥) → (service ≡ 0x54 → ⊥) → NoOpen ≡ open_asked service request
+  request_other n m = rw (ne_eqb service 0x5B n, ne_eqb service 0x54 m)
 
 -- ---- the reply's data
 
@@ -38,16 +38,16 @@ abbrev pub refusal_of : Triad → ℕ → Answer
 refusal_of t room = fitting room (open_refusal t) (Wrote (open_refusal t))
 
 module _ (t : Triad) (out : List ℕ) where
-  pub refuse-short : length out < 10 → (8, out) ≡ answered (refusal_of t) out
+  pub refuse_short : length out < 10 → (8, out) ≡ answered (refusal_of t) out
   unfolding answered answerNumber
-  refuse-short h =
+  refuse_short h =
       let n = open_refusal_long t in
       ap (λ (b : Bool). let a : Answer = cond b (Wrote (open_refusal t)) (Refused NoRoom) in (answerNumber a, sets out 0 (answerBytes a)))
       (sym (lt-leb (length (open_refusal t)) (length out) (omega arith)))
 
-  pub refuse-done : 10 ≤ length out → (out' : List ℕ) (x : Written) → (x, out') ≡ written out (open_refusal t) → (2560, out') ≡ answered (refusal_of t) out
+  pub refuse_done : 10 ≤ length out → (out' : List ℕ) (x : Written) → (x, out') ≡ written out (open_refusal t) → (2560, out') ≡ answered (refusal_of t) out
   unfolding answered answerNumber
-  refuse-done h out' x e =
+  refuse_done h out' x e =
       let n = open_refusal_long t in
       let q : out' ≡ sets out 0 (open_refusal t) = ap (λ (z : Written × List ℕ). z.1) (e ∙ written_all out (open_refusal t) (omega arith)) in
       (λ j. (2 ^ 8 * sym n j, q j))
@@ -55,16 +55,16 @@ module _ (t : Triad) (out : List ℕ) where
       (sym (le-leb (length (open_refusal t)) (length out) (omega arith)))
 
 module _ (service : ℕ) (request out : List ℕ) (x : OpenAnswer) (ex : x ≡ open_asked service request) where
-  from-answer : (q : OpenAnswer) → x ≡ q → answered (λ room. refusal_for room q) out ≡ answered (refusal_answer service request) out
+  from_answer : (q : OpenAnswer) → x ≡ q → answered (λ room. refusal_for room q) out ≡ answered (refusal_answer service request) out
   unfolding refusal_answer answered
-  from-answer q e = ap (λ (z : OpenAnswer). answered (λ room. refusal_for room z) out) (sym e ∙ ex)
+  from_answer q e = ap (λ (z : OpenAnswer). answered (λ room. refusal_for room z) out) (sym e ∙ ex)
 
-  pub refusal-unread : x ≡ NoOpen → (4, out) ≡ answered (refusal_answer service request) out
+  pub refusal_unread : x ≡ NoOpen → (4, out) ≡ answered (refusal_answer service request) out
   unfolding answered answerNumber
-  refusal-unread e = from-answer NoOpen e
+  refusal_unread e = from_answer NoOpen e
 
-  pub refusal-read : (o : ForwardOpen) → x ≡ Open o → (r : ℕ) (out' : List ℕ) → (r, out') ≡ answered (refusal_of o.triad) out → (r, out') ≡ answered (refusal_answer service request) out
-  refusal-read o e r out' d = d ∙ from-answer (Open o) e
+  pub refusal_read : (o : ForwardOpen) → x ≡ Open o → (r : ℕ) (out' : List ℕ) → (r, out') ≡ answered (refusal_of o.triad) out → (r, out') ≡ answered (refusal_answer service request) out
+  refusal_read o e r out' d = d ∙ from_answer (Open o) e
 
 -- ---- the number
 

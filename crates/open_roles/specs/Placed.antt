@@ -13,9 +13,9 @@ use Rattle.rules_laws.specs.ListLaws.{clash}
 use Rattle.rules_laws.specs.CheckLaws.{must_none, then_none}
 use Rattle.rules.specs.Checks as checks
 use Rattle.state_rules.specs.Setups.{setup_from}
-use Rattle.state_rules.specs.SetupLaws.{length-shapes}
+use Rattle.state_rules.specs.SetupLaws.{length_shapes}
 use Rattle.state_rules.specs.Places.{assemblies_of}
-use Rattle.state_searches.specs.Searches.{place-in}
+use Rattle.state_searches.specs.Searches.{place_in_lem}
 use Rattle.open_roles.specs.declared.Roles.{Roles}
 use Rattle.open_roles.specs.Roles.{place_in, roles_in}
 
@@ -25,15 +25,15 @@ some_of (some i) e = refl
 
 place_within : (is : AssemblyKind → Bool) (u : Setup) (n i : ℕ) → checks.place_of is u n ≡ some i → i < length u.assemblies
 unfolding checks.place_of
-place_within is u n i e = place-in (checks.is_at is n) no_shape u.assemblies i e
+place_within is u n i e = place_in_lem (checks.is_at is n) no_shape u.assemblies i e
 
 found_within : (is : AssemblyKind → Bool) (u : Setup) (n : ℕ) → is_some (checks.place_of is u n) ≡ true → checks.place_or0 (checks.place_of is u n) < length u.assemblies
 found_within is u n e = place_within is u n (checks.place_or0 (checks.place_of is u n)) (some_of (checks.place_of is u n) e)
 
 module _ (u : Setup) (p : ConnectionPath) where
-  pub config-within : (i : ℕ) → (checks.roles_of u p).config ≡ some i → i < length u.assemblies
+  pub config_within : (i : ℕ) → (checks.roles_of u p).config ≡ some i → i < length u.assemblies
   unfolding checks.roles_of
-  config-within i e =
+  config_within i e =
       by_cases (checks.has_config p)
       (λ t. place_within is_config u (checks.config_point p) i (ap (λ (x : Bool). cond x (checks.place_of is_config u (checks.config_point p)) none) (sym t) ∙ e))
       (λ t. let z : none ≡ some i = ap (λ (x : Bool). cond x (checks.place_of is_config u (checks.config_point p)) none) (sym t) ∙ e in clash true refl (cc))
@@ -62,7 +62,7 @@ pub record Placed (n : ℕ) (x : Roles) : Type 0 where
   pub config : (i : ℕ) → place_in x.config ≡ some i → i < n
 
 assemblies_counted : (r : List ℕ) → length (setup_from r []).assemblies ≡ assemblies_of r
-assemblies_counted r = length-shapes r
+assemblies_counted r = length_shapes r
 
 pub placed : (r : List ℕ) (p : ConnectionPath) (x : Roles) → none ≡ checks.points_check (setup_from r []) p
     → roles_in x ≡ checks.roles_of (setup_from r []) p → Placed (assemblies_of r) x
@@ -76,5 +76,5 @@ placed r p x h e =
       output = λ t.
           let a = output-within u p (sym h) (ap (λ (y : checks.Roles). is_owner y.kind) (sym e) ∙ t) in
           let z : x.output ≡ (checks.roles_of u p).output = ap (λ (y : checks.Roles). y.output) e in omega arith;
-      config = λ i t. let a = config-within u p i (ap (λ (y : checks.Roles). y.config) (sym e) ∙ t) in omega arith;
+      config = λ i t. let a = config_within u p i (ap (λ (y : checks.Roles). y.config) (sym e) ∙ t) in omega arith;
     }

@@ -16,12 +16,12 @@ use Rattle.rules.specs.Lists.{place, is_some}
 use Rattle.rules.specs.Host.{kind_test}
 use Rattle.rules.specs.Checks as checks
 use Rattle.state_rules.specs.Setups.{setup_from, shapes_of}
-use Rattle.state_rules.specs.SetupLaws.{length-shapes}
+use Rattle.state_rules.specs.SetupLaws.{length_shapes}
 use Rattle.state_layout.specs.declared.Found.{Found}
 use Rattle.state_layout.specs.declared.Found.TheVariants.{At, Nowhere}
 use Rattle.state_layout.specs.Searched as ends
 use Rattle.state_rules.specs.Places.{assemblies_of}
-use Rattle.state_searches.specs.Searches.{place-in}
+use Rattle.state_searches.specs.Searches.{place_in_lem}
 use Rattle.open_checking.specs.SaysLaws.{must_yes, must_no, then_on, then_no}
 use Rattle.open_roles.specs.declared.Roles.{Roles}
 use Rattle.open_roles.specs.declared.Points.{Points}
@@ -37,14 +37,14 @@ pub if_not : {A : Type 0} (n k : ℕ) (a b : A) → (n ≡ k → ⊥) → b ≡ 
 if_not n k a b h = sym (ap (λ (x : Bool). cond x a b) (ne_eqb n k h))
 
 module _ (a b : Bool) where
-  pub and-on : a ≡ true → b ≡ (a && b)
-  and-on h = sym (ap (λ (x : Bool). x && b) h)
+  pub and_on : a ≡ true → b ≡ (a && b)
+  and_on h = sym (ap (λ (x : Bool). x && b) h)
 
-  pub and-off : a ≡ false → false ≡ (a && b)
-  and-off h = sym (ap (λ (x : Bool). x && b) h)
+  pub and_off : a ≡ false → false ≡ (a && b)
+  and_off h = sym (ap (λ (x : Bool). x && b) h)
 
-  pub or-on : a ≡ true → true ≡ (a || b)
-  or-on h = sym (ap (λ (x : Bool). x || b) h)
+  pub or_on : a ≡ true → true ≡ (a || b)
+  or_on h = sym (ap (λ (x : Bool). x || b) h)
 
   pub or_off : a ≡ false → b ≡ (a || b)
   or_off h = sym (ap (λ (x : Bool). x || b) h)
@@ -52,9 +52,9 @@ module _ (a b : Bool) where
 -- ---- the kind of a connection
 
 module _ (u : Setup) (point a : ℕ) (ea : a ≡ u.inputOnly) where
-  pub kind-input-only : point ≡ a → InputOnly ≡ checks.kind_of u point
+  pub kind_input_only : point ≡ a → InputOnly ≡ checks.kind_of u point
   unfolding checks.kind_of
-  kind-input-only h = if_is point u.inputOnly InputOnly (cond (eqb point u.listenOnly) ListenOnly Owner) (h ∙ ea)
+  kind_input_only h = if_is point u.inputOnly InputOnly (cond (eqb point u.listenOnly) ListenOnly Owner) (h ∙ ea)
 
   module _ (h : point ≡ a → ⊥) (b : ℕ) (eb : b ≡ u.listenOnly) where
     other : (k : Kind) → k ≡ cond (eqb point u.listenOnly) ListenOnly Owner → k ≡ checks.kind_of u point
@@ -90,8 +90,8 @@ module _ (r : List ℕ) (kind point : ℕ) where
 
     pub place_small : (i : ℕ) → f ≡ At i → i < assemblies_of r
     place_small i h =
-        let a = place-in (checks.is_at (kind_test kind) point) no_shape shapes i (sym (found i h)) in
-        let n = length-shapes r in omega arith
+        let a = place_in_lem (checks.is_at (kind_test kind) point) no_shape shapes i (sym (found i h)) in
+        let n = length_shapes r in omega arith
 
 -- ---- the output: for an owner that of its point
 
@@ -111,8 +111,8 @@ output_or u ListenOnly n = refl
 -- ---- the input, and with it the roles
 
 module _ (u : Setup) (p : ConnectionPath) (point : ℕ) (ep : point ≡ checks.to_point p) (f : Stores) (ef : place_in f ≡ checks.place_of is_input u point) where
-  input-is : checks.place_of is_input u (checks.to_point p) ≡ place_in f
-  input-is = ap (checks.place_of is_input u) (sym ep) ∙ sym ef
+  input_is : checks.place_of is_input u (checks.to_point p) ≡ place_in f
+  input_is = ap (checks.place_of is_input u) (sym ep) ∙ sym ef
 
   abbrev have : Bool
   have = is_some (checks.place_of is_input u (checks.to_point p))
@@ -120,61 +120,61 @@ module _ (u : Setup) (p : ConnectionPath) (point : ℕ) (ep : point ≡ checks.t
   pub input_none : f ≡ Nothing → some (NoInputPoint point) ≡ input_check u p
   input_none h =
       ap (λ (n : ℕ). some (NoInputPoint n)) ep
-      ∙ must_no have (NoInputPoint (checks.to_point p)) (ap (λ (o : Option ℕ). is_some o) (input-is ∙ ap place_in h))
+      ∙ must_no have (NoInputPoint (checks.to_point p)) (ap (λ (o : Option ℕ). is_some o) (input_is ∙ ap place_in h))
 
   module _ (i : ℕ) (h : f ≡ Into i) where
     pub input-there : none ≡ input_check u p
-    input-there = must_yes have (NoInputPoint (checks.to_point p)) (ap (λ (o : Option ℕ). is_some o) (input-is ∙ ap place_in h))
+    input-there = must_yes have (NoInputPoint (checks.to_point p)) (ap (λ (o : Option ℕ). is_some o) (input_is ∙ ap place_in h))
 
     pub input-roles : (kind : Kind) (output : ℕ) (config : Stores) → place_in config ≡ config_of u p
         → roles_in (record { kind = kind; input = i; output = output; config = config }) ≡ roles_with u p kind output
     unfolding roles_with
     input-roles kind output config e =
-        let g : some i ≡ checks.place_of is_input u (checks.to_point p) = sym (input-is ∙ ap place_in h) in
+        let g : some i ≡ checks.place_of is_input u (checks.to_point p) = sym (input_is ∙ ap place_in h) in
         λ j. record { kind = kind; input = checks.place_or0 (g j); output = output; config = e j }
 
 -- ---- check 4
 
 module _ (u : Setup) (p : ConnectionPath) (a : Bool) (ea : a ≡ (p.hasclass && eqb p.class 4)) where
-  abbrev isFour : Bool
-  isFour = p.hasclass && eqb p.class 4
+  abbrev is_four : Bool
+  is_four = p.hasclass && eqb p.class 4
 
-  abbrev isCounted : Bool
-  isCounted = eqb p.count 2 || eqb p.count 3
+  abbrev is_counted : Bool
+  is_counted = eqb p.count 2 || eqb p.count 3
 
-  abbrev hasOutput : Bool
-  hasOutput = not (is_owner (checks.kind_of u (checks.ot_point p))) || is_some (checks.place_of is_output u (checks.ot_point p))
+  abbrev has_output : Bool
+  has_output = not (is_owner (checks.kind_of u (checks.ot_point p))) || is_some (checks.place_of is_output u (checks.ot_point p))
 
-  abbrev classStop : Stop
-  classStop = ClassNotFour p.hasclass p.class
+  abbrev class_stop : Stop
+  class_stop = ClassNotFour p.hasclass p.class
 
-  abbrev countStop : Stop
-  countStop = NumberCount p.count
+  abbrev count_stop : Stop
+  count_stop = NumberCount p.count
 
-  abbrev outputStop : Stop
-  outputStop = NoOutputPoint (checks.ot_point p)
+  abbrev output_stop : Stop
+  output_stop = NoOutputPoint (checks.ot_point p)
 
   abbrev third : Option Stop
-  third = checks.and_then (checks.must hasOutput outputStop) (input_check u p)
+  third = checks.and_then (checks.must has_output output_stop) (input_check u p)
 
   abbrev second : Option Stop
-  second = checks.and_then (checks.must isCounted countStop) third
+  second = checks.and_then (checks.must is_counted count_stop) third
 
-  pub points-class : a ≡ false → some classStop ≡ checks.points_check u p
+  pub points_class : a ≡ false → some class_stop ≡ checks.points_check u p
   unfolding checks.points_check
-  points-class h = then_no (checks.must isFour classStop) second classStop (must_no isFour classStop (sym ea ∙ h))
+  points_class h = then_no (checks.must is_four class_stop) second class_stop (must_no is_four class_stop (sym ea ∙ h))
 
   module _ (ha : a ≡ true) (b : Bool) (eb : b ≡ (eqb p.count 2 || eqb p.count 3)) where
     past-class : (c : Option Stop) → c ≡ second → c ≡ checks.points_check u p
     unfolding checks.points_check
-    past-class c e = then_on (checks.must isFour classStop) second c (must_yes isFour classStop (sym ea ∙ ha)) e
+    past-class c e = then_on (checks.must is_four class_stop) second c (must_yes is_four class_stop (sym ea ∙ ha)) e
 
-    pub points-count : b ≡ false → some countStop ≡ checks.points_check u p
-    points-count h = past-class (some countStop) (then_no (checks.must isCounted countStop) third countStop (must_no isCounted countStop (sym eb ∙ h)))
+    pub points-count : b ≡ false → some count_stop ≡ checks.points_check u p
+    points-count h = past-class (some count_stop) (then_no (checks.must is_counted count_stop) third count_stop (must_no is_counted count_stop (sym eb ∙ h)))
 
     module _ (hb : b ≡ true) (point : ℕ) (ep : point ≡ checks.ot_point p) (kind : Kind) (ek : kind ≡ checks.kind_of u point) (f : Stores) (ef : place_in f ≡ output_of u kind point) where
       past-count : (c : Option Stop) → c ≡ third → c ≡ checks.points_check u p
-      past-count c e = past-class c (then_on (checks.must isCounted countStop) third c (must_yes isCounted countStop (sym eb ∙ hb)) e)
+      past-count c e = past-class c (then_on (checks.must is_counted count_stop) third c (must_yes is_counted count_stop (sym eb ∙ hb)) e)
 
       kind_is : checks.kind_of u (checks.ot_point p) ≡ kind
       kind_is = ap (checks.kind_of u) (sym ep) ∙ sym ek
@@ -182,18 +182,18 @@ module _ (u : Setup) (p : ConnectionPath) (a : Bool) (ea : a ≡ (p.hasclass && 
       output_is : output_of u (checks.kind_of u (checks.ot_point p)) (checks.ot_point p) ≡ place_in f
       output_is = (λ j. output_of u (kind_is j) (sym ep j)) ∙ sym ef
 
-      has-output : (s : Stores) → f ≡ s → hasOutput ≡ is_some (place_in s)
+      has-output : (s : Stores) → f ≡ s → has_output ≡ is_some (place_in s)
       has-output s h = output_some u (checks.kind_of u (checks.ot_point p)) (checks.ot_point p) ∙ ap (λ (o : Option ℕ). is_some o) (output_is ∙ ap place_in h)
 
       pub points-output : f ≡ Nothing → some (NoOutputPoint point) ≡ checks.points_check u p
       points-output h =
           ap (λ (n : ℕ). some (NoOutputPoint n)) ep
-          ∙ past-count (some outputStop)
-          (then_no (checks.must hasOutput outputStop) (input_check u p) outputStop (must_no hasOutput outputStop (has-output Nothing h)))
+          ∙ past-count (some output_stop)
+          (then_no (checks.must has_output output_stop) (input_check u p) output_stop (must_no has_output output_stop (has-output Nothing h)))
 
       module _ (i : ℕ) (h : f ≡ Into i) where
         pub points-input : (c : Option Stop) → c ≡ input_check u p → c ≡ checks.points_check u p
-        points-input c e = past-count c (then_on (checks.must hasOutput outputStop) (input_check u p) c (must_yes hasOutput outputStop (has-output (Into i) h)) e)
+        points-input c e = past-count c (then_on (checks.must has_output output_stop) (input_check u p) c (must_yes has_output output_stop (has-output (Into i) h)) e)
 
         roles-are : roles_with u p kind i ≡ checks.roles_of u p
         unfolding roles_with checks.roles_of
@@ -208,12 +208,12 @@ module _ (u : Setup) (p : ConnectionPath) (a : Bool) (ea : a ≡ (p.hasclass && 
 -- ---- what its answer says
 
 module _ (u : Setup) (p : ConnectionPath) (x : Points) (e : said x ≡ checks.points_check u p) where
-  pub points-stop : (s : Stop) → x ≡ Stops s → some s ≡ checks.points_check u p
-  points-stop s h = sym (ap said h) ∙ e
+  pub points_stop : (s : Stop) → x ≡ Stops s → some s ≡ checks.points_check u p
+  points_stop s h = sym (ap said h) ∙ e
 
   module _ (y : Roles) (h : x ≡ Are y) where
     pub points-hold : none ≡ checks.points_check u p
     points-hold = sym (ap said h) ∙ e
 
-    pub points-are : roles_or (checks.roles_of u p) x ≡ checks.roles_of u p → roles_in y ≡ checks.roles_of u p
-    points-are g = sym (ap (roles_or (checks.roles_of u p)) h) ∙ g
+    pub points_are : roles_or (checks.roles_of u p) x ≡ checks.roles_of u p → roles_in y ≡ checks.roles_of u p
+    points_are g = sym (ap (roles_or (checks.roles_of u p)) h) ∙ g

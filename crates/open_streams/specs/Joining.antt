@@ -28,22 +28,22 @@ module _ (f : Fixed) (listens : Bool) (input rpi found torpi : ℕ) (many listen
   abbrev here : Bool
   here = carries_for listens input rpi f
 
-  carries-is : here ≡ many && not listener && eqb found input && (listens || eqb torpi rpi)
-  carries-is = sym (λ j. em j && not (el j) && eqb (ei j) input && (listens || eqb (et j) rpi))
+  carries_is : here ≡ many && not listener && eqb found input && (listens || eqb torpi rpi)
+  carries_is = sym (λ j. em j && not (el j) && eqb (ei j) input && (listens || eqb (et j) rpi))
 
-  pub carries-listener : many ≡ true → listener ≡ true → false ≡ here
-  carries-listener h g = sym (carries-is ∙ rw (h, g))
+  pub carries_listener : many ≡ true → listener ≡ true → false ≡ here
+  carries_listener h g = sym (carries_is ∙ rw (h, g))
 
   module _ (h : many ≡ true) (g : listener ≡ false) where
     pub carries-other : (found ≡ input → ⊥) → false ≡ here
-    carries-other k = sym (carries-is ∙ rw (h, g, ne_eqb found input k))
+    carries-other k = sym (carries_is ∙ rw (h, g, ne_eqb found input k))
 
     module _ (k : found ≡ input) where
       pub carries-any : listens ≡ true → true ≡ here
-      carries-any l = sym (carries-is ∙ rw (h, g, eq-eqb found input k, l))
+      carries-any l = sym (carries_is ∙ rw (h, g, eq-eqb found input k, l))
 
       pub carries-equal : listens ≡ false → eqb torpi rpi ≡ here
-      carries-equal l = sym (carries-is ∙ rw (h, g, eq-eqb found input k, l))
+      carries-equal l = sym (carries_is ∙ rw (h, g, eq-eqb found input k, l))
 
 -- a point-to-point connection carries for none
 pub carries_single : (f : Fixed) (listens : Bool) (input rpi : ℕ) → f.multicast ≡ false → false ≡ carries_for listens input rpi f
@@ -52,14 +52,14 @@ carries_single f listens input rpi h = sym (rw h)
 -- ---- the stream of an open
 
 module _ (o : ForwardOpen) (k : Kind) (input : ℕ) (table : List Fixed) (m : Bool) (em : m ≡ asks_multicast o) where
-  pub stream-own : m ≡ false → Own ≡ stream_of o (roles_with k input 0) table
+  pub stream_own : m ≡ false → Own ≡ stream_of o (roles_with k input 0) table
   unfolding stream_of
-  stream-own h = sym (ap (λ (b : Bool). cond b (stream_found (find (carries o (roles_with k input 0)) table)) Own) (sym em ∙ h))
+  stream_own h = sym (ap (λ (b : Bool). cond b (stream_found (find (carries o (roles_with k input 0)) table)) Own) (sym em ∙ h))
 
-  pub stream-first : m ≡ true → (l : Bool) → l ≡ is_listener k → (x : Stream) → x ≡ stream_found (find (carries_for l input o.to.rpi) table)
+  pub stream_first : m ≡ true → (l : Bool) → l ≡ is_listener k → (x : Stream) → x ≡ stream_found (find (carries_for l input o.to.rpi) table)
       → x ≡ stream_of o (roles_with k input 0) table
   unfolding stream_of
-  stream-first h l el x e =
+  stream_first h l el x e =
       e ∙ ap (λ (b : Bool). stream_found (find (carries_for b input o.to.rpi) table)) el
       ∙ sym (ap (λ (b : Bool). cond b (stream_found (find (carries o (roles_with k input 0)) table)) Own) (sym em ∙ h))
 
@@ -85,8 +85,8 @@ module _ (o : ForwardOpen) (k : Kind) (stream : Stream) (a : Bool) (ea : a ≡ i
   unfolding stream_stop
   stop_is x e = ap (λ (b : Bool). must (not b || joins stream) why) (sym ea ∙ e)
 
-  pub listens-not : a ≡ false → none ≡ stream_stop o k stream
-  listens-not h = must_yes true why refl ∙ sym (stop_is false h)
+  pub listens_not : a ≡ false → none ≡ stream_stop o k stream
+  listens_not h = must_yes true why refl ∙ sym (stop_is false h)
 
   module _ (h : a ≡ true) (b : Bool) (eb : b ≡ joins stream) where
     pub listens-joined : b ≡ true → none ≡ stream_stop o k stream

@@ -18,33 +18,33 @@ roles_with kind input output = record { kind = kind; input = input; output = out
 -- ---- one row
 
 module _ (f : Fixed) (output found : ℕ) (a : Bool) (ea : a ≡ is_owner f.kind) (eo : found ≡ f.output) where
-  owns-is : a && eqb found output ≡ owns output f
-  owns-is = λ j. ea j && eqb (eo j) output
+  owns_is : a && eqb found output ≡ owns output f
+  owns_is = λ j. ea j && eqb (eo j) output
 
   pub owns_not : a ≡ false → false ≡ owns output f
-  owns_not h = ap (λ (b : Bool). b && eqb found output) (sym h) ∙ owns-is
+  owns_not h = ap (λ (b : Bool). b && eqb found output) (sym h) ∙ owns_is
 
-  pub owns-same : a ≡ true → eqb found output ≡ owns output f
-  owns-same h = ap (λ (b : Bool). b && eqb found output) (sym h) ∙ owns-is
+  pub owns_same : a ≡ true → eqb found output ≡ owns output f
+  owns_same h = ap (λ (b : Bool). b && eqb found output) (sym h) ∙ owns_is
 
 -- ---- check 11
 
 module _ (u : Setup) (k : Kind) (output : ℕ) (table : List Fixed) (a : Bool) (ea : a ≡ is_owner k) where
-  check-is : (x : Bool) → a ≡ x → owner_check u (roles_with k 0 output) table ≡ must (not (x && any (owns output) table)) (Owned (shape_at u output).instance)
+  check_is : (x : Bool) → a ≡ x → owner_check u (roles_with k 0 output) table ≡ must (not (x && any (owns output) table)) (Owned (shape_at u output).instance)
   unfolding owner_check
-  check-is x e = ap (λ (b : Bool). must (not (b && any (owns output) table)) (Owned (shape_at u output).instance)) (sym ea ∙ e)
+  check_is x e = ap (λ (b : Bool). must (not (b && any (owns output) table)) (Owned (shape_at u output).instance)) (sym ea ∙ e)
 
-  pub owner-other : a ≡ false → none ≡ owner_check u (roles_with k 0 output) table
-  owner-other h = must_yes true (Owned (shape_at u output).instance) refl ∙ sym (check-is false h)
+  pub owner_other : a ≡ false → none ≡ owner_check u (roles_with k 0 output) table
+  owner_other h = must_yes true (Owned (shape_at u output).instance) refl ∙ sym (check_is false h)
 
   module _ (h : a ≡ true) (b : Bool) (eb : b ≡ any (owns output) table) where
     pub owner-free : b ≡ false → none ≡ owner_check u (roles_with k 0 output) table
-    owner-free g = must_yes (not (any (owns output) table)) (Owned (shape_at u output).instance) (ap not (sym eb ∙ g)) ∙ sym (check-is true h)
+    owner-free g = must_yes (not (any (owns output) table)) (Owned (shape_at u output).instance) (ap not (sym eb ∙ g)) ∙ sym (check_is true h)
 
     pub owner-taken : b ≡ true → (n : ℕ) → n ≡ (shape_at u output).instance → some (Owned n) ≡ owner_check u (roles_with k 0 output) table
     owner-taken g n e =
         ap (λ (m : ℕ). some (Owned m)) e
-        ∙ must_no (not (any (owns output) table)) (Owned (shape_at u output).instance) (ap not (sym eb ∙ g)) ∙ sym (check-is true h)
+        ∙ must_no (not (any (owns output) table)) (Owned (shape_at u output).instance) (ap not (sym eb ∙ g)) ∙ sym (check_is true h)
 
 -- check 11 reads the kind and the output of the roles
 pub owner_reads : (u : Setup) (x : Roles) (table : List Fixed) → owner_check u (roles_with x.kind 0 x.output) table ≡ owner_check u x table

@@ -5,7 +5,7 @@ use Rattle.std.proofs.Math.Bool.{not}
 use Rattle.std.proofs.Math.Option.{none, some}
 use Rattle.std.proofs.Math.Path.{refl, ap}
 use Rattle.std.proofs.Common.{sym, ◌∙◌}
-use Rattle.base_tables.specs.Tables.{rows, length-rows}
+use Rattle.base_tables.specs.Tables.{rows, length_rows}
 use Rattle.wire_rules.specs.declared.ForwardOpen.{ForwardOpen}
 use Rattle.rules.specs.declared.Stop.TheVariants.{TriadInUse, Full}
 use Rattle.rules.specs.Lists.{place, any}
@@ -16,29 +16,29 @@ use Rattle.state_layout.specs.declared.Found.{Found}
 use Rattle.state_layout.specs.declared.Found.TheVariants.{At, Nowhere}
 use Rattle.state_rules.specs.Places.{row_size}
 use Rattle.state_image.specs.Updates.{no_conn}
-use Rattle.conn_lookup.specs.RowTests.{found_of, found_at, found_none, place-any, place-never}
+use Rattle.conn_lookup.specs.RowTests.{found_of, found_at, found_none, place_any, place_never}
 use Rattle.open_checking.specs.SaysLaws.{must_yes, must_no}
 
 -- check 10, from the row found: what a search of whole rows finds is what any of the fixed parts is
 module _ (o : ForwardOpen) (n : ℕ) (r : List ℕ) (x : Found) (e : x ≡ found_of (place (conn_triad o.triad) (conns_in n r))) where
-  any-fixed : (m : ℕ) (l : List ℕ) → any (has_triad o.triad) (fixeds_in m l) ≡ any (conn_triad o.triad) (conns_in m l)
+  any_fixed : (m : ℕ) (l : List ℕ) → any (has_triad o.triad) (fixeds_in m l) ≡ any (conn_triad o.triad) (conns_in m l)
   unfolding rows
-  any-fixed zero l = refl
-  any-fixed (suc m) l = ap (λ (b : Bool). has_triad o.triad (dec_fixed (take row_size l)) || b) (any-fixed m (drop row_size l))
+  any_fixed zero l = refl
+  any_fixed (suc m) l = ap (λ (b : Bool). has_triad o.triad (dec_fixed (take row_size l)) || b) (any_fixed m (drop row_size l))
 
-  pub triad-used : (i : ℕ) → x ≡ At i → some TriadInUse ≡ triad_check o (fixeds_in n r)
+  pub triad_used : (i : ℕ) → x ≡ At i → some TriadInUse ≡ triad_check o (fixeds_in n r)
   unfolding triad_check
-  triad-used i h =
+  triad_used i h =
       must_no (not (any (has_triad o.triad) (fixeds_in n r))) TriadInUse
-      (ap not (any-fixed n r ∙ place-any (conn_triad o.triad) no_conn (conns_in n r) i (found_at (place (conn_triad o.triad) (conns_in n r)) i (sym e ∙ h))))
+      (ap not (any_fixed n r ∙ place_any (conn_triad o.triad) no_conn (conns_in n r) i (found_at (place (conn_triad o.triad) (conns_in n r)) i (sym e ∙ h))))
 
-  pub triad-free : x ≡ Nowhere → none ≡ triad_check o (fixeds_in n r)
+  pub triad_free : x ≡ Nowhere → none ≡ triad_check o (fixeds_in n r)
   unfolding triad_check
-  triad-free h =
+  triad_free h =
       must_yes (not (any (has_triad o.triad) (fixeds_in n r))) TriadInUse
-      (ap not (any-fixed n r ∙ place-never (conn_triad o.triad) (conns_in n r) (found_none (place (conn_triad o.triad) (conns_in n r)) (sym e ∙ h))))
+      (ap not (any_fixed n r ∙ place_never (conn_triad o.triad) (conns_in n r) (found_none (place (conn_triad o.triad) (conns_in n r)) (sym e ∙ h))))
 
 -- check 13: the number of rows is the number of connections
 pub room_rows : (n : ℕ) (r : List ℕ) → must (ltb n max_connections) Full ≡ room_check (fixeds_in n r)
 unfolding room_check
-room_rows n r = ap (λ (k : ℕ). must (ltb k max_connections) Full) (sym (length-rows row_size dec_fixed n r))
+room_rows n r = ap (λ (k : ℕ). must (ltb k max_connections) Full) (sym (length_rows row_size dec_fixed n r))

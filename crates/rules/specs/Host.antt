@@ -3,7 +3,7 @@ use Rattle.std.specs.Prelude.{List, [], ◌∷◌, ◌++◌, Bool, false, cond, 
 use Rattle.std.proofs.Math.Option.{Option, none, some}
 use Rattle.base_cells.specs.Numbers.{le_bytes}
 use Rattle.base_cells.specs.Records.{of_bool}
-use Rattle.rules.specs.Lists.{changeAt, joined}
+use Rattle.rules.specs.Lists.{change_at, joined}
 use Rattle.rules.specs.State.{AssemblyKind, is_input, is_output, is_config, Setup, shape_at, Content, content_at, Counters, State, with_contents, with_events}
 use Rattle.rules.specs.Answers.{Answer, Done, Wrote, Refused, NoAssembly, TooLong, NothingThere, fitting, settled}
 use Rattle.rules.specs.Events.{info_of, info_record, oldest_gone}
@@ -20,7 +20,7 @@ set_input_at u bytes (some i) = cond (leb (length bytes) (shape_at u i).size) Do
 
 abbrev pub input_set : List ℕ → State → Option ℕ → State
 input_set bytes st none = st
-input_set bytes st (some i) = with_contents (changeAt i (filled (shape_at st.setup i).size bytes) st.contents) st
+input_set bytes st (some i) = with_contents (change_at i (filled (shape_at st.setup i).size bytes) st.contents) st
 
 unfoldable pub set_input_answer : ℕ → List ℕ → Setup → Answer
 set_input_answer n bytes u = set_input_at u bytes (place_of is_input u n)
@@ -44,7 +44,7 @@ output_at room st (some i) = fitting room (output_bytes (content_at st i)) (Wrot
 
 abbrev pub output_read : State → Option ℕ → State
 output_read st none = st
-output_read st (some i) = with_contents (changeAt i read st.contents) st
+output_read st (some i) = with_contents (change_at i read st.contents) st
 
 unfoldable pub output_answer : ℕ → ℕ → State → Answer
 output_answer n room st = output_at room st (place_of is_output st.setup n)

@@ -37,20 +37,20 @@ module _ {A : Type 0} where
   keep p (x ∷ xs) = cond (p x) (x ∷ keep p xs) (keep p xs)
 
   -- the list with the first that passes the test changed
-  abbrev pub changeFirst : (A → Bool) → (A → A) → List A → List A
-  changeFirst p u [] = []
-  changeFirst p u (x ∷ xs) = cond (p x) (u x ∷ xs) (x ∷ changeFirst p u xs)
+  abbrev pub change_first : (A → Bool) → (A → A) → List A → List A
+  change_first p u [] = []
+  change_first p u (x ∷ xs) = cond (p x) (u x ∷ xs) (x ∷ change_first p u xs)
 
   -- the list without the first that passes the test
-  abbrev pub withoutFirst : (A → Bool) → List A → List A
-  withoutFirst p [] = []
-  withoutFirst p (x ∷ xs) = cond (p x) xs (x ∷ withoutFirst p xs)
+  abbrev pub without_first : (A → Bool) → List A → List A
+  without_first p [] = []
+  without_first p (x ∷ xs) = cond (p x) xs (x ∷ without_first p xs)
 
   -- the list with the one at a place changed
-  abbrev pub changeAt : ℕ → (A → A) → List A → List A
-  changeAt i u [] = []
-  changeAt zero u (x ∷ xs) = u x ∷ xs
-  changeAt (suc i) u (x ∷ xs) = x ∷ changeAt i u xs
+  abbrev pub change_at : ℕ → (A → A) → List A → List A
+  change_at i u [] = []
+  change_at zero u (x ∷ xs) = u x ∷ xs
+  change_at (suc i) u (x ∷ xs) = x ∷ change_at i u xs
 
   -- the bytes of each, one behind the other
   abbrev pub joined : {B : Type 0} → (A → List B) → List A → List B

@@ -9,7 +9,7 @@ use Rattle.wire_rules.specs.Group.{group_of}
 use Rattle.wire_rules.specs.declared.PathAnswer.{PathAnswer}
 use Rattle.wire_rules.specs.ConnectionPath.{path_of}
 use Rattle.wire_rules.specs.Replies.{open_reply, open_refusal}
-use Rattle.rules.specs.Lists.{changeAt}
+use Rattle.rules.specs.Lists.{change_at}
 use Rattle.rules.specs.State.{ToId, Socket, Fixed, Heard, Never, At, Sent, Conn, Event, Opened, Configured, Origin, Setup, shape_at, Content, State, fixeds, Stream, Joins, Own, Stores, Nothing, Into, Plan, Verdict, Stopped, Planned}
 use Rattle.rules.specs.Answers.{Answer, Accepted, Wrote, Refused, Failed, NotParsed, fitting, atTime, settled}
 use Rattle.rules.specs.Events.{info_of, pushed_all}
@@ -88,7 +88,7 @@ holding bytes a = record { bytes = bytes; run = a.run; notified = a.notified }
 
 abbrev pub stored : Stores → List ℕ → List Content → List Content
 stored Nothing bytes contents = contents
-stored (Into i) bytes contents = changeAt i (holding bytes) contents
+stored (Into i) bytes contents = change_at i (holding bytes) contents
 
 -- 7.26: events are Opened, then Config if data was stored
 abbrev pub config_event : Setup → Stores → List ℕ → List Event

@@ -7,7 +7,7 @@ use Rattle.wire_rules.specs.declared.IoFrame.{IoFrame}
 use Rattle.wire_rules.specs.declared.IoFrame.TheVariants.{Io, NotIo, Broken}
 use Rattle.wire_rules.specs.Frames.{io_of}
 use Rattle.wire_rules.specs.Timeout.{timeout_of}
-use Rattle.rules.specs.Lists.{find, changeFirst, changeAt, maybe, same}
+use Rattle.rules.specs.Lists.{find, change_first, change_at, maybe, same}
 use Rattle.rules.specs.State.{OtId, is_owner, Fixed, Heard, Conn, with_heard, Event, OutputChanged, Setup, shape_at, Content, no_content, State}
 use Rattle.rules.specs.Answers.{Answer, Done, atTime, settled}
 use Rattle.rules.specs.Events.{pushed_all}
@@ -80,7 +80,7 @@ unfoldable pub deliver : Frame → Content → Content
 deliver f a = cond (changes f a) (record { bytes = data_of f; run = run_bit f; notified = true }) a
 
 abbrev pub delivered : Setup → Frame → Conn → List Content → List Content
-delivered u f c contents = cond (taken u f c) (changeAt c.fixed.output (deliver f) contents) contents
+delivered u f c contents = cond (taken u f c) (change_at c.fixed.output (deliver f) contents) contents
 
 -- 9.13, 9.14: an Output event appears only on a change, once until the output is read
 abbrev pub announces : Frame → Content → Bool
@@ -97,7 +97,7 @@ received t from f st =
     record {
       setup = st.setup;
       contents = maybe st.contents (λ c. delivered st.setup f c st.contents) to;
-      table = changeFirst (meant_for from f) (hear t f) st.table;
+      table = change_first (meant_for from f) (hear t f) st.table;
       events = pushed_all (maybe [] (λ c. output_events st.setup f c st.contents) to) st.events;
       fault = st.fault;
       nextId = st.nextId;

@@ -6,7 +6,7 @@ use Rattle.wire_rules.specs.declared.CloseAnswer.{CloseAnswer}
 use Rattle.wire_rules.specs.declared.CloseAnswer.TheVariants.{Close, NoClose}
 use Rattle.wire_rules.specs.Opens.{close_of}
 use Rattle.wire_rules.specs.Replies.{close_reply}
-use Rattle.rules.specs.Lists.{find, any, keep, changeFirst, withoutFirst, changeAt, maybe, repeat}
+use Rattle.rules.specs.Lists.{find, any, keep, change_first, without_first, change_at, maybe, repeat}
 use Rattle.rules.specs.State.{Triad, ToId, is_owner, is_listener, Info, Fixed, Due, Never, At, Conn, with_sent, produces, Event, Closed, TimedOut, Setup, Content, State}
 use Rattle.rules.specs.Answers.{Answer, Wrote, Gone, Refused, NotParsed, NothingThere, fitting, atTime, settled}
 use Rattle.rules.specs.Events.{info_of, pushed, pushed_all}
@@ -26,7 +26,7 @@ hands_on c = c.fixed.multicast && produces c.sent.due
 
 -- 8.3, 8.5: sequence, CIP sequence and due time go to the first multicast connection of its id that is left, which then produces
 abbrev pub handed_over : Conn → List Conn → List Conn
-handed_over c rest = cond (hands_on c) (changeFirst (in_stream c.fixed.toid) (with_sent c.sent) rest) rest
+handed_over c rest = cond (hands_on c) (change_first (in_stream c.fixed.toid) (with_sent c.sent) rest) rest
 
 -- 8.6 to 8.10: if a multicast non-listener went and none is left, its listeners close in table order
 abbrev pub ends_stream : Conn → List Conn → Bool
@@ -44,14 +44,14 @@ after_removal c rest = without_listeners c (handed_over c rest)
 
 -- the table after the removal of the first that passes a test
 abbrev pub remove_first : (Conn → Bool) → List Conn → List Conn
-remove_first p table = maybe table (λ c. after_removal c (withoutFirst p table)) (find p table)
+remove_first p table = maybe table (λ c. after_removal c (without_first p table)) (find p table)
 
 -- 8.13 to 8.15: its output loses run; output bytes stay
 abbrev pub idle : Content → Content
 idle a = record { bytes = a.bytes; run = false; notified = a.notified }
 
 abbrev pub run_lost : Fixed → List Content → List Content
-run_lost f contents = cond (is_owner f.kind) (changeAt f.output idle contents) contents
+run_lost f contents = cond (is_owner f.kind) (change_at f.output idle contents) contents
 
 -- 8.10, 8.11: its listeners are told as Closed, before its own event
 abbrev pub closed_events : Setup → List Conn → List Event
@@ -71,7 +71,7 @@ removed fault why c rest st =
 
 -- the first that passes a test goes, if there is one; 8.12: `why` says how
 abbrev pub removed_first : Bool → (Info → Event) → (Conn → Bool) → State → State
-removed_first fault why p st = maybe st (λ c. removed fault why c (withoutFirst p st.table) st) (find p st.table)
+removed_first fault why p st = maybe st (λ c. removed fault why c (without_first p st.table) st) (find p st.table)
 
 abbrev pub conn_triad : Triad → Conn → Bool
 conn_triad t c = has_triad t c.fixed

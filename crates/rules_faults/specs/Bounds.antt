@@ -4,7 +4,7 @@ use Rattle.std.proofs.Math.Option.{some}
 use Rattle.std.proofs.Common.{arith, length-append, length-drop, ltb-true, ltb-false}
 use Rattle.std.proofs.lemmas.List.{length-map}
 use Rattle.rules.specs.declared.Verdict.TheVariants.{Planned}
-use Rattle.rules.specs.Lists.{find, withoutFirst}
+use Rattle.rules.specs.Lists.{find, without_first}
 use Rattle.rules_laws.specs.ListLaws
 use Rattle.rules_laws.specs.ListLaws.{by_cases}
 use Rattle.rules.specs.State.{Setup, Events, State, fixeds}
@@ -21,7 +21,7 @@ use Rattle.rules.specs.Host.{set_input_answer, set_input_effect, set_input_call,
 use Rattle.rules.specs.Calls
 use Rattle.rules.specs.Calls.{Call, answer, next, run}
 use Rattle.rules_steps.specs.Names.{ForwardOpen, Origin, Conn, Info, Event, Plan}
-use Rattle.rules_steps.specs.Steps.{Kept, run-kept}
+use Rattle.rules_steps.specs.Steps.{Kept, run_kept}
 use Rattle.rules_isolation.specs.Ends.{length_removal}
 
 -- A REFUSED CALL LEAVES THE WHOLE STATE EQUAL
@@ -83,17 +83,17 @@ opening t request q g p s e h =
     record { connections = simp length-append (omega arith); events = pushed_all_bound _ s.events h.events }
 
 removing : (fault : Bool) (why : Info → Event) (p : Conn → Bool) (c : Conn) (s : State) → find p s.table ≡ some c → Bounded s →
-    Bounded (removed fault why c (withoutFirst p s.table) s)
+    Bounded (removed fault why c (without_first p s.table) s)
 unfolding removed
 removing fault why p c s e h =
-    let a = length_removal c (withoutFirst p s.table) in
+    let a = length_removal c (without_first p s.table) in
     let b = ListLaws.length_without p c s.table e in
     record { connections = omega arith; events = pushed_bound _ _ (pushed_all_bound _ s.events h.events) }
 
 hearing : (t from : ℕ) (f : Frame) (s : State) → Bounded s → Bounded (received t from f s)
 unfolding received
 hearing t from f s h =
-    let a = ListLaws.length-change (meant_for from f) (hear t f) s.table in
+    let a = ListLaws.length_change (meant_for from f) (hear t f) s.table in
     record { connections = omega arith; events = pushed_all_bound _ s.events h.events }
 
 producing : (t : ℕ) (s : State) → Bounded s → Bounded (produce_effect t s)
@@ -122,4 +122,4 @@ bounded_kept =
 -- NO LIST GROWS WITHOUT LIMIT
 pub always_bounded : (u : Setup) (seed : ℕ) (cs : List Call) → Bounded (run cs (fresh u seed))
 unfolding fresh
-always_bounded u seed cs = run-kept Bounded bounded_kept cs (fresh u seed) (record { connections = omega arith; events = omega arith })
+always_bounded u seed cs = run_kept Bounded bounded_kept cs (fresh u seed) (record { connections = omega arith; events = omega arith })

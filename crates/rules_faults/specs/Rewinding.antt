@@ -5,7 +5,7 @@ use Rattle.std.proofs.Common.{sym, ◌∙◌, ap, subst, arith}
 use Rattle.std.proofs.Math.Option.{some}
 use Rattle.wire_rules.specs.Opens.{close_of}
 use Rattle.wire_rules.specs.declared.CloseAnswer.TheVariants.{Close}
-use Rattle.rules.specs.Lists.{find, keep, withoutFirst}
+use Rattle.rules.specs.Lists.{find, keep, without_first}
 use Rattle.rules_laws.specs.ListLaws
 use Rattle.rules_laws.specs.ListLaws.{All}
 use Rattle.rules.specs.State.{State}
@@ -14,7 +14,7 @@ use Rattle.rules.specs.Removal.{after_removal, remove_first, conn_triad, removed
 use Rattle.rules.specs.Calls
 use Rattle.rules.specs.Calls.{answer, next}
 use Rattle.rules_isolation.specs.Ends.{Ends, done, step, reaches}
-use Rattle.rules_isolation.specs.Expiry.{expire-table}
+use Rattle.rules_isolation.specs.Expiry.{expire_table}
 use Rattle.rules_steps.specs.Names.{Triad, Conn, Info, Event}
 
 -- the removal itself hands nothing on
@@ -29,18 +29,18 @@ no_rewinding fault why c rest s e = point_to_point_alone c rest e
 -- CLOSE: of the table it leaves out the connection that it finds, and changes nothing else of it
 pub close_rewinds_none : (request : List ℕ) (room : ℕ) (s : State) (k : Triad) (c : Conn) → close_of request ≡ Close k →
     find (conn_triad k) s.table ≡ some c → c.fixed.multicast ≡ false → is_yes (answer (Calls.Close request room) s) ≡ true →
-    (next (Calls.Close request room) s).table ≡ withoutFirst (conn_triad k) s.table
+    (next (Calls.Close request room) s).table ≡ without_first (conn_triad k) s.table
 unfolding close_call close_effect closed
-close_rewinds_none request room s k c q e m y = rw (y, q, e) (no_rewinding false _ c (withoutFirst (conn_triad k) s.table) s m)
+close_rewinds_none request room s k c q e m y = rw (y, q, e) (no_rewinding false _ c (without_first (conn_triad k) s.table) s m)
 
 -- EXPIRE: what is left is the connections that are not expired, as they were
 ends_alone : {p : Conn → Bool} {l r : List Conn} → Ends p l r → All (λ c. p c ≡ true → c.fixed.multicast ≡ false) l → r ≡ keep (λ c. not (p c)) l
 ends_alone {p} (done {l = l} e) a =
-    sym (ListLaws.keep_all (λ c. not (p c)) l (ListLaws.all-to (λ c. p c ≡ false) (λ c. not (p c) ≡ true) (λ c n. ap not n) l (ListLaws.none_found p l e)))
+    sym (ListLaws.keep_all (λ c. not (p c)) l (ListLaws.all_to (λ c. p c ≡ false) (λ c. not (p c) ≡ true) (λ c n. ap not n) l (ListLaws.none_found p l e)))
 ends_alone {p} (step {l = l} c e d) a =
-    let y = ListLaws.find-passes p c l e in
+    let y = ListLaws.find_passes p c l e in
     let m = ListLaws.all-find (λ c. p c ≡ true → c.fixed.multicast ≡ false) p c l e a y in
-    let is : remove_first p l ≡ withoutFirst p l = rw e (point_to_point_alone c (withoutFirst p l) m) in
+    let is : remove_first p l ≡ without_first p l = rw e (point_to_point_alone c (without_first p l) m) in
     let b = subst (All (λ c. p c ≡ true → c.fixed.multicast ≡ false)) (sym is) (ListLaws.all_without (λ c. p c ≡ true → c.fixed.multicast ≡ false) p l a) in
     ends_alone d b ∙ ap (keep (λ c. not (p c))) is ∙ ListLaws.without-keep-out p (λ c. not (p c)) c l e (ap not y)
 
@@ -48,4 +48,4 @@ pub expire_rewinds_none : (t : ℕ) (s : State) → timely t ≡ true → All (�
     (next (Calls.Expire t) s).table ≡ keep (λ c. not (expired t c)) s.table
 unfolding expire_call expire_answer expire_effect
 expire_rewinds_none t s y a =
-    rw y (expire-table t (length s.table) s ∙ ends_alone (reaches (expired t) (length s.table) s.table (omega arith)) a)
+    rw y (expire_table t (length s.table) s ∙ ends_alone (reaches (expired t) (length s.table) s.table (omega arith)) a)

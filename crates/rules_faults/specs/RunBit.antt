@@ -4,7 +4,7 @@ use Rattle.std.specs.Prelude.{◌≡◌, refl, List, [], ◌∷◌, ◌++◌, ma
 use Rattle.std.proofs.Common.{sym, ◌∙◌, ap, subst, arith, eq-eqb}
 use Rattle.std.proofs.Math.Option.{some}
 use Rattle.rules.specs.declared.Stores.TheVariants.{Nothing, Into}
-use Rattle.rules.specs.Lists.{find, any, changeFirst, withoutFirst, changeAt, maybe}
+use Rattle.rules.specs.Lists.{find, any, change_first, without_first, change_at, maybe}
 use Rattle.rules_laws.specs.ListLaws
 use Rattle.rules_laws.specs.ListLaws.{by_cases, clash, either_way, All, and_left, and_right, eqb_true}
 use Rattle.rules.specs.State.{Setup, Shape, shape_at, Content, no_content, State, is_output, is_owner, is_listener}
@@ -18,13 +18,13 @@ use Rattle.rules.specs.Producing.{sends, produce_effect}
 use Rattle.rules.specs.Host.{filled, read, next_event_effect}
 use Rattle.rules.specs.Calls
 use Rattle.rules.specs.Calls.{Call, next, run}
-use Rattle.rules_isolation.specs.Ends.{any-removal, reaches}
+use Rattle.rules_isolation.specs.Ends.{any_removal, reaches}
 use Rattle.rules_isolation.specs.Survive.{none_left}
 use Rattle.rules_isolation.specs.Seen.{hear_fixed, send_fixed, taken_owner}
-use Rattle.rules_isolation.specs.Expiry.{owns_not, expire-table}
-use Rattle.rules_isolation.specs.Sound.{Sound, sound-kept, fresh-sound, Owning}
+use Rattle.rules_isolation.specs.Expiry.{owns_not, expire_table}
+use Rattle.rules_isolation.specs.Sound.{Sound, sound_kept, fresh_sound, Owning}
 use Rattle.rules_steps.specs.Names.{ForwardOpen, Origin, Stores, Fixed, Conn, Info, Event, Plan}
-use Rattle.rules_steps.specs.Steps.{Kept, kept, run-kept}
+use Rattle.rules_steps.specs.Steps.{Kept, kept, run_kept}
 
 -- a connection that owns the output at a place
 abbrev pub owner_of : ℕ → Conn → Bool
@@ -39,14 +39,14 @@ Owned s = (i : ℕ) → InRun s.setup s.table i (get_or s.contents i no_content)
 
 -- at a place after a change at another or the same
 pub at_change : (P : Content → Type 0) (i j : ℕ) (f : Content → Content) (l : List Content) → P (get_or l i no_content) → (i ≡ j → P (f (get_or l i no_content))) →
-    P (get_or (changeAt j f l) i no_content)
+    P (get_or (change_at j f l) i no_content)
 at_change P i j f [] p q = p
 at_change P zero zero f (a ∷ l) p q = q refl
 at_change P zero (suc j) f (a ∷ l) p q = p
 at_change P (suc i) zero f (a ∷ l) p q = p
 at_change P (suc i) (suc j) f (a ∷ l) p q = at_change P i j f l p (λ e. q (ap suc e))
 
-idle_there : (i : ℕ) (l : List Content) → (get_or (changeAt i idle l) i no_content).run ≡ false
+idle_there : (i : ℕ) (l : List Content) → (get_or (change_at i idle l) i no_content).run ≡ false
 idle_there i [] = refl
 idle_there zero (a ∷ l) = refl
 idle_there (suc i) (a ∷ l) = idle_there i l
@@ -71,10 +71,10 @@ opening t request q g p s h i =
 
 -- REMOVAL: an owner that is not the removed one is left
 owner_left : (i : ℕ) (p : Conn → Bool) (c : Conn) (l : List Conn) → find p l ≡ some c → owner_of i c ≡ false → any (owner_of i) l ≡ true →
-    any (owner_of i) (after_removal c (withoutFirst p l)) ≡ true
+    any (owner_of i) (after_removal c (without_first p l)) ≡ true
 owner_left i p c l e n y =
-    let a = any-removal (owner_of i) (λ x s. refl) p c l e (ListLaws.all_from (λ x. is_listener x.fixed.kind ≡ true → owner_of i x ≡ false) (λ x z. owns_not i x z) l) in
-    sym (a ∙ ap (λ b. b || any (owner_of i) (after_removal c (withoutFirst p l))) n) ∙ y
+    let a = any_removal (owner_of i) (λ x s. refl) p c l e (ListLaws.all_from (λ x. is_listener x.fixed.kind ≡ true → owner_of i x ≡ false) (λ x z. owns_not i x z) l) in
+    sym (a ∙ ap (λ b. b || any (owner_of i) (after_removal c (without_first p l))) n) ∙ y
 
 -- what the removed connection owned is idle
 lost_there : (i : ℕ) (f : Fixed) (l : List Content) → owns i f ≡ true → (get_or (run_lost f l) i no_content).run ≡ false
@@ -90,7 +90,7 @@ lost_before i f l =
     (at_change (λ a. a.run ≡ true → (get_or l i no_content).run ≡ true) i f.output idle l (λ r. r) (λ e r. clash true refl (sym r))) (λ r. r)
 
 removing : (fault : Bool) (why : Info → Event) (p : Conn → Bool) (c : Conn) (s : State) → find p s.table ≡ some c → Owned s →
-    Owned (removed fault why c (withoutFirst p s.table) s)
+    Owned (removed fault why c (without_first p s.table) s)
 unfolding removed
 removing fault why p c s e h i r =
     let b = h i (lost_before i c.fixed s.contents r) in
@@ -117,8 +117,8 @@ delivered_run u l f c cs w own h i =
 hearing : (u : Setup) (t from : ℕ) (f : Frame) (s : State) → Sound u s → Owned s → Owned (received t from f s)
 unfolding received
 hearing u t from f s q h i =
-    more s.setup s.table (changeFirst (meant_for from f) (hear t f) s.table)
-    (λ j y. ListLaws.any-change (owner_of j) (meant_for from f) (hear t f) (λ c. ap (λ (x : Fixed). owns j x) (hear_fixed t f c)) s.table ∙ y) i
+    more s.setup s.table (change_first (meant_for from f) (hear t f) s.table)
+    (λ j y. ListLaws.any_change (owner_of j) (meant_for from f) (hear t f) (λ c. ap (λ (x : Fixed). owns j x) (hear_fixed t f c)) s.table ∙ y) i
     (get_or (maybe s.contents (λ c. delivered s.setup f c s.contents) (find (meant_for from f) s.table)) i no_content)
     (ListLaws.found_is s.contents (λ c. delivered s.setup f c s.contents) (meant_for from f)
     (λ c. Owning s.setup c × ((g : Conn → Bool) → g c ≡ true → any g s.table ≡ true))
@@ -145,7 +145,7 @@ Good u s = Sound u s × Owned s
 
 good_kept : (u : Setup) → Kept (Good u)
 good_kept u =
-    let k = sound-kept u in
+    let k = sound_kept u in
     record {
       quiet =
           record {
@@ -178,13 +178,13 @@ fresh_owned u seed i r = clash (get_or (map blank u.assemblies) i no_content).ru
 
 -- THE RUN BIT HAS AN OWNER
 pub run_has_owner : (u : Setup) (seed : ℕ) (cs : List Call) → Owned (run cs (fresh u seed))
-run_has_owner u seed cs = (run-kept (Good u) (good_kept u) cs (fresh u seed) (fresh-sound u seed, fresh_owned u seed)).1
+run_has_owner u seed cs = (run_kept (Good u) (good_kept u) cs (fresh u seed) (fresh_sound u seed, fresh_owned u seed)).1
 
 -- after an expiry call none is left that has been silent for longer than its timeout
 pub none_silent : (t : ℕ) (s : State) → All (λ c. expired t c ≡ false) (expire_effect t s).table
 unfolding expire_effect
 none_silent t s =
-    subst (All (λ c. expired t c ≡ false)) (sym (expire-table t (length s.table) s)) (none_left (reaches (expired t) (length s.table) s.table (omega arith)))
+    subst (All (λ c. expired t c ≡ false)) (sym (expire_table t (length s.table) s)) (none_left (reaches (expired t) (length s.table) s.table (omega arith)))
 
 still_heard : (t i : ℕ) (l : List Conn) → All (λ c. expired t c ≡ false) l → any (owner_of i) l ≡ true → any (λ c. owner_of i c && not (expired t c)) l ≡ true
 still_heard t i [] a y = y
@@ -200,7 +200,7 @@ pub run_is_heard : (u : Setup) (seed : ℕ) (cs : List Call) (t : ℕ) → timel
 unfolding expire_call expire_answer
 run_is_heard u seed cs t y i r =
     let s = run cs (fresh u seed) in
-    let q = run-kept (Good u) (good_kept u) cs (fresh u seed) (fresh-sound u seed, fresh_owned u seed) in
+    let q = run_kept (Good u) (good_kept u) cs (fresh u seed) (fresh_sound u seed, fresh_owned u seed) in
     let o = (kept (Good u) (good_kept u) (Calls.Expire t) s q).1 i r in
     let a : All (λ c. expired t c ≡ false) (next (Calls.Expire t) s).table = rw y (none_silent t s) in
     still_heard t i (next (Calls.Expire t) s).table a o.1

@@ -134,17 +134,17 @@ module _ (f : Opens) (rule : (t service : ℕ) (request : List ℕ) (g : Origin)
   abbrev says : ℕ → ℕ → List ℕ → Origin → ℕ → State → ℕ
   says t service request g room st = answerNumber (f t service request g room st).0
 
-  as-ruled : (st : State) → says 1000 0x54 owner (from 8) 26 st ≡ answerNumber (open_call 1000 0x54 owner (from 8) 26 st).0
-  as-ruled st = ap (λ (x : Answer × State). answerNumber x.0) (rule 1000 0x54 owner (from 8) 26 st)
+  as_ruled : (st : State) → says 1000 0x54 owner (from 8) 26 st ≡ answerNumber (open_call 1000 0x54 owner (from 8) 26 st).0
+  as_ruled st = ap (λ (x : Answer × State). answerNumber x.0) (rule 1000 0x54 owner (from 8) 26 st)
 
-  pub not-always-refused : ((t service : ℕ) (request : List ℕ) (g : Origin) (room : ℕ) (st : State) → says t service request g room st % 256 ≡ 5) → ⊥
-  not-always-refused five =
-      let z : ◌≡◌ {A = ℕ} 5 0 = sym (five 1000 0x54 owner (from 8) 26 start) ∙ ap (λ (n : ℕ). n % 256) (as-ruled start) ∙ opens_accepted in
+  pub not_always_refused : ((t service : ℕ) (request : List ℕ) (g : Origin) (room : ℕ) (st : State) → says t service request g room st % 256 ≡ 5) → ⊥
+  not_always_refused five =
+      let z : ◌≡◌ {A = ℕ} 5 0 = sym (five 1000 0x54 owner (from 8) 26 start) ∙ ap (λ (n : ℕ). n % 256) (as_ruled start) ∙ opens_accepted in
       omega arith
 
-  pub not-one-word : ((t service : ℕ) (request : List ℕ) (g : Origin) (room : ℕ) (st : State) → says t service request g room st % 256 ≡ 5 → says t service request g room st ≡ refusal) → ⊥
-  not-one-word word =
-      let e = as-ruled (run opens start) in
+  pub not_one_word : ((t service : ℕ) (request : List ℕ) (g : Origin) (room : ℕ) (st : State) → says t service request g room st % 256 ≡ 5 → says t service request g room st ≡ refusal) → ⊥
+  not_one_word word =
+      let e = as_ruled (run opens start) in
       let five : says 1000 0x54 owner (from 8) 26 (run opens start) % 256 ≡ 5 = ap (λ (n : ℕ). n % 256) e ∙ again_refused.0 in
       let z : refusal / 2 ^ 32 ≡ 0x0100 = ap (λ (n : ℕ). n / 2 ^ 32) (sym (word 1000 0x54 owner (from 8) 26 (run opens start) five) ∙ e) ∙ again_refused.1 in
       omega arith
@@ -160,24 +160,24 @@ not_deaf f idle rule =
     omega arith
 
 module _ (f : Produces) (rule : (t room : ℕ) (st : State) → f t room st ≡ produce_call t room st) where
-  done-too : (t room : ℕ) (st : State) → done (produce_call t room st) ≡ true → done (f t room st) ≡ true
-  done-too t room st y = ap done (rule t room st) ∙ y
+  done_too : (t room : ℕ) (st : State) → done (produce_call t room st) ≡ true → done (f t room st) ≡ true
+  done_too t room st y = ap done (rule t room st) ∙ y
 
   -- ---- packets that follow from the time and the room, whatever the state, wherever the room suffices
 
-  pub not-one-list : (list : ℕ → ℕ → List ℕ) → ((t room : ℕ) (st : State) → done (f t room st) ≡ true → answerBytes (f t room st).0 ≡ list t room) → ⊥
-  not-one-list list fixed =
+  pub not_one_list : (list : ℕ → ℕ → List ℕ) → ((t room : ℕ) (st : State) → done (f t room st) ≡ true → answerBytes (f t room st).0 ≡ list t room) → ⊥
+  not_one_list list fixed =
       let at : (st : State) → done (produce_call 2000 34 st) ≡ true → length (list 2000 34) ≡ written (produce_call 2000 34 st) =
-      λ st y. ap length (sym (fixed 2000 34 st (done-too 2000 34 st y))) ∙ ap written (rule 2000 34 st) in
+      λ st y. ap length (sym (fixed 2000 34 st (done_too 2000 34 st y))) ∙ ap written (rule 2000 34 st) in
       let z : ◌≡◌ {A = ℕ} 0 34 = sym sends_none.1 ∙ sym (at start sends_none.0) ∙ at (run opens start) sends_one.0 ∙ sends_one.1 in
       omega arith
 
   -- ---- a produce that sends everything on the first call and later only counts: nothing is written once anything was produced
 
-  pub not-once-only : ((t room : ℕ) (st : State) → 1 ≤ st.counters.produced → done (f t room st) ≡ true → answerBytes (f t room st).0 ≡ []) → ⊥
-  not-once-only silent =
+  pub not_once_only : ((t room : ℕ) (st : State) → 1 ≤ st.counters.produced → done (f t room st) ≡ true → answerBytes (f t room st).0 ≡ []) → ⊥
+  not_once_only silent =
       let st : State = run noon start in
-      let e : written (f 11000 34 st) ≡ 0 = ap length (silent 11000 34 st (let p = sends_again.0 in omega arith) (done-too 11000 34 st sends_again.1)) in
+      let e : written (f 11000 34 st) ≡ 0 = ap length (silent 11000 34 st (let p = sends_again.0 in omega arith) (done_too 11000 34 st sends_again.1)) in
       let z : ◌≡◌ {A = ℕ} 0 34 = sym e ∙ ap written (rule 11000 34 st) ∙ sends_again.2 in
       omega arith
 
@@ -186,14 +186,14 @@ module _ (f : Produces) (rule : (t room : ℕ) (st : State) → f t room st ≡ 
   abbrev blind : (Answer × State → ℕ) → Type 0
   blind of = (t room : ℕ) (st : State) (table : List Conn) → of (f t room (with_table table st)) ≡ of (f t room st)
 
-  pub produced-not-invented : blind sent_by → ⊥
-  produced-not-invented same =
+  pub produced_not_invented : blind sent_by → ⊥
+  produced_not_invented same =
       let st : State = run opens start in
       let z : ◌≡◌ {A = ℕ} 0 1 = sym counts_sent.0 ∙ sym (ap sent_by (rule 2000 34 (with_table [] st))) ∙ same 2000 34 st [] ∙ ap sent_by (rule 2000 34 st) ∙ counts_sent.1 in
       omega arith
 
-  pub late-not-invented : blind late_by → ⊥
-  late-not-invented same =
+  pub late_not_invented : blind late_by → ⊥
+  late_not_invented same =
       let st : State = run opens start in
       let z : ◌≡◌ {A = ℕ} 0 1 = sym counts_late.0 ∙ sym (ap late_by (rule 2000 34 (with_table [] st))) ∙ same 2000 34 st [] ∙ ap late_by (rule 2000 34 st) ∙ counts_late.1 in
       omega arith

@@ -2,7 +2,7 @@
 use Rattle.std.specs.Prelude.{◌≡◌, refl, List, [], ◌∷◌, Bool, true, false, cond, ◌||◌, ℕ, zero, suc, eqb, get_or}
 use Rattle.std.proofs.Common.{sym, ◌∙◌, ap, ap₂, eq-eqb}
 use Rattle.std.proofs.Math.Dec.{eqb-zero-suc, eqb-suc-zero, eqb-suc-suc}
-use Rattle.rules.specs.Lists.{changeAt}
+use Rattle.rules.specs.Lists.{change_at}
 use Rattle.rules_laws.specs.ListLaws.{by_cases}
 use Rattle.rules.specs.State.{Content, no_content, is_owner}
 use Rattle.rules.specs.Checks.{owns}
@@ -26,17 +26,17 @@ under : (b : Bool) (u : Content → Content) (a : Content) → cond b no_content
 under true u a = refl
 under false u a = refl
 
-change_covered : (o : ℕ → Bool) (i : ℕ) (u : Content → Content) (l : List Content) → cover o (changeAt i u (cover o l)) ≡ cover o (changeAt i u l)
+change_covered : (o : ℕ → Bool) (i : ℕ) (u : Content → Content) (l : List Content) → cover o (change_at i u (cover o l)) ≡ cover o (change_at i u l)
 change_covered o i u [] = refl
 change_covered o zero u (a ∷ l) = ap₂ ◌∷◌ (under (o 0) u a) (cover_twice (λ i. o (suc i)) l)
 change_covered o (suc i) u (a ∷ l) = ap₂ ◌∷◌ (twice (o 0) a) (change_covered (λ i. o (suc i)) i u l)
 
 -- what looks alike still does after a change at one place
-pub change_alike : (o : ℕ → Bool) (i : ℕ) (u : Content → Content) (l m : List Content) → cover o l ≡ cover o m → cover o (changeAt i u l) ≡ cover o (changeAt i u m)
-change_alike o i u l m e = sym (change_covered o i u l) ∙ ap (λ x. cover o (changeAt i u x)) e ∙ change_covered o i u m
+pub change_alike : (o : ℕ → Bool) (i : ℕ) (u : Content → Content) (l m : List Content) → cover o l ≡ cover o m → cover o (change_at i u l) ≡ cover o (change_at i u m)
+change_alike o i u l m e = sym (change_covered o i u l) ∙ ap (λ x. cover o (change_at i u x)) e ∙ change_covered o i u m
 
 -- a change at a covered place is not seen
-pub change_unseen : (o : ℕ → Bool) (i : ℕ) (u : Content → Content) (l : List Content) → o i ≡ true → cover o (changeAt i u l) ≡ cover o l
+pub change_unseen : (o : ℕ → Bool) (i : ℕ) (u : Content → Content) (l : List Content) → o i ≡ true → cover o (change_at i u l) ≡ cover o l
 change_unseen o i u [] e = refl
 change_unseen o zero u (a ∷ l) e = rw e refl
 change_unseen o (suc i) u (a ∷ l) e = ap (λ t. cond (o 0) no_content a ∷ t) (change_unseen (λ j. o (suc j)) i u l e)
@@ -63,7 +63,7 @@ pub idle_none : (f : ℕ → Bool) → ((i : ℕ) → f i ≡ false) → (l : Li
 idle_none f h [] = refl
 idle_none f h (a ∷ l) = ap₂ ◌∷◌ (ap (λ b. cond b (idle a) a) (h 0)) (idle_none (λ i. f (suc i)) (λ i. h (suc i)) l)
 
-pub change_idle : (j : ℕ) (l : List Content) → changeAt j idle l ≡ idle_by (eqb j) l
+pub change_idle : (j : ℕ) (l : List Content) → change_at j idle l ≡ idle_by (eqb j) l
 change_idle j [] = refl
 change_idle zero (a ∷ l) = ap₂ ◌∷◌ (sym (ap (λ b. cond b (idle a) a) (eq-eqb 0 0 refl))) (sym (idle_none (λ i. eqb 0 (suc i)) eqb-zero-suc l))
 change_idle (suc j) (a ∷ l) =

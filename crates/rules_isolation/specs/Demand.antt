@@ -26,8 +26,8 @@ use Rattle.rules_isolation.specs.Contents.{change_alike, change_unseen, content_
 use Rattle.rules_isolation.specs.Survive.{in_table}
 use Rattle.rules_isolation.specs.Seen
 use Rattle.rules_isolation.specs.Seen.{Alike, Covers, Sparing, Feeding, stray, hide, hide_bare, itself, join, back, settled_alike, settled_unseen}
-use Rattle.rules_isolation.specs.Expiry.{expire-alike, expire-says-alike}
-use Rattle.rules_isolation.specs.Sound.{Sound, sound, fresh-sound, Owning}
+use Rattle.rules_isolation.specs.Expiry.{expire_alike, expire_says_alike}
+use Rattle.rules_isolation.specs.Sound.{Sound, sound, fresh_sound, Owning}
 
 -- the same calls, except that frames from `A` come in one run only (altered: one in each)
 pub data Paired (A : ℕ) : List Call → List Call → Type 0 where
@@ -115,21 +115,21 @@ covered_now A o [] s h = h
 covered_now A o (c ∷ cs) s h = h.0
 
 module _ (A : ℕ) (o : ℕ → Bool) (u : Setup) (sparing : Sparing o u) where
-  covers-too : (s r : State) → Alike A o s r → Covers A o s.table → Covers A o r.table
-  covers-too s r a c =
+  covers_too : (s r : State) → Alike A o s r → Covers A o s.table → Covers A o r.table
+  covers_too s r a c =
       sym (Seen.blind_alike A (any (stray A o)) (λ l. ListLaws.any-map (hide A) (stray A o) (stray A o) (λ x. refl) l) s.table r.table a.table) ∙ c
 
-  itself-frame : (t : ℕ) (frame : List ℕ) (s : State) → Covers A o s.table → Alike A o (next (Calls.Receive t A frame) s) s
+  itself_frame : (t : ℕ) (frame : List ℕ) (s : State) → Covers A o s.table → Alike A o (next (Calls.Receive t A frame) s) s
   unfolding receive_call
-  itself-frame t frame s c = settled_unseen (receive_answer t) (Seen.receive-unseen A o t A (eq-eqb A A refl) s c frame)
+  itself_frame t frame s c = settled_unseen (receive_answer t) (Seen.receive_unseen A o t A (eq-eqb A A refl) s c frame)
 
-  receive-call : (t from : ℕ) (frame : List ℕ) (s r : State) → Alike A o s r → Covers A o s.table → Alike A o (next (Calls.Receive t from frame) s) (next (Calls.Receive t from frame) r)
+  receive_call_lem : (t from : ℕ) (frame : List ℕ) (s r : State) → Alike A o s r → Covers A o s.table → Alike A o (next (Calls.Receive t from frame) s) (next (Calls.Receive t from frame) r)
   unfolding receive_call
-  receive-call t from frame s r a c =
+  receive_call_lem t from frame s r a c =
       by_cases (eqb from A)
       (λ y. settled_alike (receive_answer t) (receive_answer t) refl
-      (join (Seen.receive-unseen A o t from y s c frame) (join a (back (Seen.receive-unseen A o t from y r (covers-too s r a c) frame)))) a)
-      (λ n. settled_alike (receive_answer t) (receive_answer t) refl (Seen.receive-alike A o s r a t from frame n) a)
+      (join (Seen.receive_unseen A o t from y s c frame) (join a (back (Seen.receive_unseen A o t from y r (covers_too s r a c) frame)))) a)
+      (λ n. settled_alike (receive_answer t) (receive_answer t) refl (Seen.receive_alike A o s r a t from frame n) a)
 
   -- a read of an output: re-arming it is seen where the output is
   read_at : (s r : State) → Alike A o s r → (a b : Answer) → (x : Option ℕ) → (maybe true o x ≡ false → a ≡ b) →
@@ -143,75 +143,75 @@ module _ (A : ℕ) (o : ℕ → Bool) (u : Setup) (sparing : Sparing o u) where
       (λ n. settled_alike a b (e n)
       (record { setup = q.setup; contents = change_alike o i read s.contents r.contents q.contents; table = q.table; nextId = q.nextId; counters = q.counters }) q)
 
-  output-says : (room : ℕ) (s r : State) → Alike A o s r → (x : Option ℕ) → maybe true o x ≡ false → output_at room s x ≡ output_at room r x
-  output-says room s r q none e = refl
-  output-says room s r q (some i) e = ap (λ (a : Content). fitting room (output_bytes a) (Wrote (output_bytes a))) (content_alike o i s.contents r.contents q.contents e)
+  output_says : (room : ℕ) (s r : State) → Alike A o s r → (x : Option ℕ) → maybe true o x ≡ false → output_at room s x ≡ output_at room r x
+  output_says room s r q none e = refl
+  output_says room s r q (some i) e = ap (λ (a : Content). fitting room (output_bytes a) (Wrote (output_bytes a))) (content_alike o i s.contents r.contents q.contents e)
 
-  read-call : (n room : ℕ) (s r : State) → Alike A o s r → Alike A o (next (Calls.ReadOutput n room) s) (next (Calls.ReadOutput n room) r)
+  read_call : (n room : ℕ) (s r : State) → Alike A o s r → Alike A o (next (Calls.ReadOutput n room) s) (next (Calls.ReadOutput n room) r)
   unfolding output_call output_answer output_effect
-  read-call n room s r q =
+  read_call n room s r q =
       let e : place_of is_output s.setup n ≡ place_of is_output r.setup n = ap (λ v. place_of is_output v n) q.setup in
       subst (λ x. Alike A o (settled (output_at room s x) (output_read s x) s).1 (settled (output_at room r (place_of is_output r.setup n)) (output_read r (place_of is_output r.setup n)) r).1) (sym e)
-      (read_at s r q _ _ (place_of is_output r.setup n) (output-says room s r q (place_of is_output r.setup n)))
+      (read_at s r q _ _ (place_of is_output r.setup n) (output_says room s r q (place_of is_output r.setup n)))
 
-  expire-call : (t : ℕ) (s r : State) → Alike A o s r → Sound u s → Sound u r → Covers A o s.table → ((d : Triad) → removes t d s ≡ removes t d r) →
+  expire_call_lem : (t : ℕ) (s r : State) → Alike A o s r → Sound u s → Sound u r → Covers A o s.table → ((d : Triad) → removes t d s ≡ removes t d r) →
       (answer (Calls.Expire t) s ≡ answer (Calls.Expire t) r) × Alike A o (next (Calls.Expire t) s) (next (Calls.Expire t) r)
   unfolding expire_call expire_answer
-  expire-call t s r a hs hr c e =
+  expire_call_lem t s r a hs hr c e =
       by_cases (timely t)
-      (λ y. let q = expire-alike A o t s r a hs.distinct hr.distinct c (covers-too s r a c) (rw y at e) in
-      (expire-says-alike A o t s r a q, rw y q))
+      (λ y. let q = expire_alike A o t s r a hs.distinct hr.distinct c (covers_too s r a c) (rw y at e) in
+      (expire_says_alike A o t s r a q, rw y q))
       (λ n. (rw n refl, rw n a))
 
-  connections-say : (s r : State) → Alike A o s r → connection_bytes s ≡ connection_bytes r
+  connections_say : (s r : State) → Alike A o s r → connection_bytes s ≡ connection_bytes r
   unfolding connection_bytes
-  connections-say s r a =
+  connections_say s r a =
       ap (λ v. joined (λ c. info_record 0 (info_of v c.fixed)) s.table) a.setup ∙
       Seen.blind_alike A (λ l. joined (λ c. info_record 0 (info_of r.setup c.fixed)) l)
       (λ l. Seen.joined_map (hide A) (λ c. info_record 0 (info_of r.setup c.fixed)) (λ c. refl) l) s.table r.table a.table
 
   -- one call
-  one-call : (c : Call) (s r : State) → Alike A o s r → Sound u s → Sound u r → Covers A o s.table → Removes_alike c s r →
+  one_call : (c : Call) (s r : State) → Alike A o s r → Sound u s → Sound u r → Covers A o s.table → Removes_alike c s r →
       Answered_alike c s r × Alike A o (next c s) (next c r)
   unfolding open_call close_call receive_call produce_call set_input_call next_event_call connections_answer stats_answer
-  one-call (Calls.Open t service request g room) s r a hs hr c e =
-      let x = Seen.open-says-alike A o s r a t service request g room in
-      (x, settled_alike _ _ x (Seen.open-alike A o s r a t service request g) a)
-  one-call (Calls.OpenRefusal service request room) s r a hs hr c e = (refl, a)
-  one-call (Calls.Close request room) s r a hs hr c e =
-      let x = Seen.close-says-alike A o s r a request room in
-      (x, settled_alike _ _ x (Seen.close-alike A o s r a request) a)
-  one-call (Calls.Receive t from frame) s r a hs hr c e = (refl, receive-call t from frame s r a c)
-  one-call (Calls.Produce t room) s r a hs hr c e =
-      let x = Seen.produce-says-alike A o s r a (subst (Sparing o) (sym hs.setup) sparing) (subst (λ v. All (Feeding v) s.table) (sym hs.setup) hs.inputs) t room in
-      (x, settled_alike _ _ x (Seen.produce-alike A o s r a t) a)
-  one-call (Calls.Expire t) s r a hs hr c e = expire-call t s r a hs hr c e
-  one-call (Calls.Deadline room) s r a hs hr c e = (tt, a)
-  one-call (Calls.SetInput n bytes) s r a hs hr c e =
-      let x = Seen.set-input-says-alike A o s r a n bytes in
-      (x, settled_alike _ _ x (Seen.set-input-alike A o s r a n bytes) a)
-  one-call (Calls.ReadOutput n room) s r a hs hr c e = (tt, read-call n room s r a)
-  one-call (Calls.ReadAssembly kind n room) s r a hs hr c e = (tt, a)
-  one-call (Calls.NextEvent room) s r a hs hr c e = (
+  one_call (Calls.Open t service request g room) s r a hs hr c e =
+      let x = Seen.open_says_alike A o s r a t service request g room in
+      (x, settled_alike _ _ x (Seen.open_alike A o s r a t service request g) a)
+  one_call (Calls.OpenRefusal service request room) s r a hs hr c e = (refl, a)
+  one_call (Calls.Close request room) s r a hs hr c e =
+      let x = Seen.close_says_alike A o s r a request room in
+      (x, settled_alike _ _ x (Seen.close_alike A o s r a request) a)
+  one_call (Calls.Receive t from frame) s r a hs hr c e = (refl, receive_call_lem t from frame s r a c)
+  one_call (Calls.Produce t room) s r a hs hr c e =
+      let x = Seen.produce_says_alike A o s r a (subst (Sparing o) (sym hs.setup) sparing) (subst (λ v. All (Feeding v) s.table) (sym hs.setup) hs.inputs) t room in
+      (x, settled_alike _ _ x (Seen.produce_alike A o s r a t) a)
+  one_call (Calls.Expire t) s r a hs hr c e = expire_call_lem t s r a hs hr c e
+  one_call (Calls.Deadline room) s r a hs hr c e = (tt, a)
+  one_call (Calls.SetInput n bytes) s r a hs hr c e =
+      let x = Seen.set_input_says_alike A o s r a n bytes in
+      (x, settled_alike _ _ x (Seen.set_input_alike A o s r a n bytes) a)
+  one_call (Calls.ReadOutput n room) s r a hs hr c e = (tt, read_call n room s r a)
+  one_call (Calls.ReadAssembly kind n room) s r a hs hr c e = (tt, a)
+  one_call (Calls.NextEvent room) s r a hs hr c e = (
     tt,
     join (settled_unseen (next_event_answer room s) (Seen.event_unseen A o s)) (join a (back (settled_unseen (next_event_answer room r) (Seen.event_unseen A o r)))),
   )
-  one-call (Calls.Connections room) s r a hs hr c e = (ap (λ b. fitting room b (Wrote b)) (connections-say s r a), a)
-  one-call (Calls.Stats room) s r a hs hr c e = (ap (λ n. fitting room (stats_bytes n) (Wrote (stats_bytes n))) a.counters, a)
-  one-call (Calls.Message local mask message room position) s r a hs hr c e = (tt, a)
+  one_call (Calls.Connections room) s r a hs hr c e = (ap (λ b. fitting room b (Wrote b)) (connections_say s r a), a)
+  one_call (Calls.Stats room) s r a hs hr c e = (ap (λ n. fitting room (stats_bytes n) (Wrote (stats_bytes n))) a.counters, a)
+  one_call (Calls.Message local mask message room position) s r a hs hr c e = (tt, a)
 
   -- THE INDUCTION
   independent : {cs ds : List Call} (p : Paired A cs ds) (s r : State) → Alike A o s r → Sound u s → Sound u r → Covered A o cs s → Same_expiries p s r →
       All_answered_alike p s r × Alike A o (run cs s) (run ds r)
   independent end s r a hs hr c e = (tt, a)
   independent (both x p) s r a hs hr c e =
-      let b = one-call x s r a hs hr c.0 e.0 in
+      let b = one_call x s r a hs hr c.0 e.0 in
       let d = independent p (next x s) (next x r) b.1 (sound u x s hs) (sound u x r hr) c.1 e.1 in
       ((b.0, d.0), d.1)
   independent (first_only t frame p) s r a hs hr c e =
-      independent p (next (Calls.Receive t A frame) s) r (join (itself-frame t frame s c.0) a) (sound u (Calls.Receive t A frame) s hs) hr c.1 e
+      independent p (next (Calls.Receive t A frame) s) r (join (itself_frame t frame s c.0) a) (sound u (Calls.Receive t A frame) s hs) hr c.1 e
   independent {cs = cs} (second_only t frame p) s r a hs hr c e =
-      independent p s (next (Calls.Receive t A frame) r) (join a (back (itself-frame t frame r (covers-too s r a (covered_now A o cs s c))))) hs (sound u (Calls.Receive t A frame) r hr) c e
+      independent p s (next (Calls.Receive t A frame) r) (join a (back (itself_frame t frame r (covers_too s r a (covered_now A o cs s c))))) hs (sound u (Calls.Receive t A frame) r hr) c e
 
 others_bare : (A : ℕ) (l : List Conn) → keep (other A) (map (hide A) l) ≡ keep (other A) l
 others_bare A [] = refl
@@ -257,7 +257,7 @@ all_covers : (u : Setup) (A : ℕ) (l : List Conn) → All (Owning u) l → Cove
 unfolding outs
 all_covers u A l w =
     ListLaws.none_is (stray A (outs u)) l
-    (ListLaws.all-to (Owning u) (λ c. stray A (outs u) c ≡ false)
+    (ListLaws.all_to (Owning u) (λ c. stray A (outs u) c ≡ false)
     (λ c k. by_cases (eqb c.fixed.originator A) (λ y. by_cases (is_owner c.fixed.kind) (λ z. let m = k z in cc) (λ z. cc)) (λ y. cc)) l w)
 
 all_covered : (u : Setup) (A : ℕ) (cs : List Call) (s : State) → Sound u s → Covered A (outs u) cs s
@@ -279,7 +279,7 @@ from_sound A u s h {cs} {ds} p e =
 
 -- DEMAND 3
 pub demand_3 : (A : ℕ) (u : Setup) (seed : ℕ) {cs ds : List Call} (p : Paired A cs ds) → Same_expiries p (fresh u seed) (fresh u seed) → Independent p (fresh u seed)
-demand_3 A u seed p e = from_sound A u (fresh u seed) (fresh-sound u seed) p e
+demand_3 A u seed p e = from_sound A u (fresh u seed) (fresh_sound u seed) p e
 
 -- an assembly that is no output is never owned: inputs and configuration are equal in both runs
 no_owner : (u : Setup) (A i : ℕ) → is_output (shape_at u i).kind ≡ false → (c : Conn) → Owning u c → owned_by A i c ≡ false
@@ -291,7 +291,7 @@ no_owner u A i n c w =
     (λ y. by_cases (eqb c.fixed.originator A) (λ z. cc) (λ z. cc))
 
 no_owners : (u : Setup) (A i : ℕ) → is_output (shape_at u i).kind ≡ false → (l : List Conn) → All (Owning u) l → any (owned_by A i) l ≡ false
-no_owners u A i n l w = ListLaws.none_is (owned_by A i) l (ListLaws.all-to (Owning u) (λ c. owned_by A i c ≡ false) (no_owner u A i n) l w)
+no_owners u A i n l w = ListLaws.none_is (owned_by A i) l (ListLaws.all_to (Owning u) (λ c. owned_by A i c ≡ false) (no_owner u A i n) l w)
 
 never_owned : (u : Setup) (A i : ℕ) → is_output (shape_at u i).kind ≡ false → (cs : List Call) (s : State) → Sound u s → Never_owned A i cs s
 never_owned u A i n [] s h = no_owners u A i n s.table h.outputs
@@ -299,4 +299,4 @@ never_owned u A i n (c ∷ cs) s h = (no_owners u A i n s.table h.outputs, never
 
 pub inputs_equal : (A : ℕ) (u : Setup) (seed : ℕ) {cs ds : List Call} (p : Paired A cs ds) → Same_expiries p (fresh u seed) (fresh u seed) →
     (i : ℕ) → is_output (shape_at u i).kind ≡ false → get_or (run cs (fresh u seed)).contents i no_content ≡ get_or (run ds (fresh u seed)).contents i no_content
-inputs_equal A u seed {cs} p e i n = (demand_3 A u seed p e).assemblies i (never_owned u A i n cs (fresh u seed) (fresh-sound u seed))
+inputs_equal A u seed {cs} p e i n = (demand_3 A u seed p e).assemblies i (never_owned u A i n cs (fresh u seed) (fresh_sound u seed))

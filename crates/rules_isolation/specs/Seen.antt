@@ -14,7 +14,7 @@ use Rattle.rules.specs.declared.AssemblyKind.TheVariants.{Input, Output, Config}
 use Rattle.rules.specs.declared.Stores.TheVariants.{Nothing, Into}
 use Rattle.rules.specs.declared.Verdict.TheVariants.{Stopped, Planned}
 use Rattle.rules.specs.declared.Event.TheVariants.{Closed}
-use Rattle.rules.specs.Lists.{find, any, keep, changeFirst, withoutFirst, changeAt, maybe, joined}
+use Rattle.rules.specs.Lists.{find, any, keep, change_first, without_first, change_at, maybe, joined}
 use Rattle.rules_laws.specs.ListLaws
 use Rattle.rules_laws.specs.ListLaws.{by_cases, clash, either_way, of_cond, option_map, All, and_left, and_right, eqb_true}
 use Rattle.rules.specs.State.{Setup, shape_at, Content, State, with_contents, fixeds, is_input, is_output, is_owner}
@@ -28,7 +28,7 @@ use Rattle.rules.specs.Producing
 use Rattle.rules.specs.Producing.{due, late_by, delays, sent, sends, packet, packets, input_bytes, counters, produce_answer, produce_effect}
 use Rattle.rules.specs.Host.{filled, input_set, set_input_answer, set_input_effect, next_event_effect}
 use Rattle.rules_steps.specs.Names.{AssemblyKind, ForwardOpen, OpenAnswer, CloseAnswer, Origin, Fixed, Heard, Conn, Info, Event, Stores, Plan, Verdict}
-use Rattle.rules_isolation.specs.Ends.{rehear, removal-rehear}
+use Rattle.rules_isolation.specs.Ends.{rehear, removal_rehear}
 use Rattle.rules_isolation.specs.Contents.{cover, change_alike, change_unseen, content_alike, idles_alike, run_lost_lem}
 
 -- maps and joins
@@ -138,20 +138,20 @@ settled_unseen {A} {o} {s} a r = either_way (λ x. Alike A o x s) (is_yes a) r (
 
 module _ (A : ℕ) (o : ℕ → Bool) (s t : State) (r : Alike A o s t) where
   -- OPEN
-  verdict-alike : (request : List ℕ) (q : ForwardOpen) → verdict_of request q s ≡ verdict_of request q t
+  verdict_alike : (request : List ℕ) (q : ForwardOpen) → verdict_of request q s ≡ verdict_of request q t
   unfolding verdict_of
-  verdict-alike request q = cc (r.setup, fixeds_alike A s.table t.table r.table)
+  verdict_alike request q = cc (r.setup, fixeds_alike A s.table t.table r.table)
 
-  stored-alike : (x : Stores) (bytes : List ℕ) → cover o (stored x bytes s.contents) ≡ cover o (stored x bytes t.contents)
-  stored-alike Nothing bytes = r.contents
-  stored-alike (Into i) bytes = change_alike o i _ s.contents t.contents r.contents
+  stored_alike : (x : Stores) (bytes : List ℕ) → cover o (stored x bytes s.contents) ≡ cover o (stored x bytes t.contents)
+  stored_alike Nothing bytes = r.contents
+  stored_alike (Into i) bytes = change_alike o i _ s.contents t.contents r.contents
 
-  opened-alike : (now : ℕ) (q : ForwardOpen) (g : Origin) (bytes : List ℕ) (p : Plan) → Alike A o (opened now q g bytes p s) (opened now q g bytes p t)
+  opened_alike : (now : ℕ) (q : ForwardOpen) (g : Origin) (bytes : List ℕ) (p : Plan) → Alike A o (opened now q g bytes p s) (opened now q g bytes p t)
   unfolding opened
-  opened-alike now q g bytes p =
+  opened_alike now q g bytes p =
       record {
         setup = r.setup;
-        contents = stored-alike p.stores bytes;
+        contents = stored_alike p.stores bytes;
         table =
             map_append (hide A) s.table _ ∙
             ap₂ (λ l n. l ++ (hide A (new_conn now q g p n) ∷ [])) r.table r.nextId ∙ sym (map_append (hide A) t.table _);
@@ -159,44 +159,44 @@ module _ (A : ℕ) (o : ℕ → Bool) (s t : State) (r : Alike A o s t) where
         counters = r.counters;
       }
 
-  plan-alike : (now : ℕ) (q : ForwardOpen) (g : Origin) (bytes : List ℕ) (v : Verdict) → Alike A o (plan_effect now q g bytes s v) (plan_effect now q g bytes t v)
-  plan-alike now q g bytes (Stopped x) = r
-  plan-alike now q g bytes (Planned p) = opened-alike now q g bytes p
+  plan_alike : (now : ℕ) (q : ForwardOpen) (g : Origin) (bytes : List ℕ) (v : Verdict) → Alike A o (plan_effect now q g bytes s v) (plan_effect now q g bytes t v)
+  plan_alike now q g bytes (Stopped x) = r
+  plan_alike now q g bytes (Planned p) = opened_alike now q g bytes p
 
-  request-alike : (now : ℕ) (g : Origin) (request : List ℕ) (x : OpenAnswer) → Alike A o (asked_effect now g request s x) (asked_effect now g request t x)
-  request-alike now g request NoOpen = r
-  request-alike now g request (Open q) = rw (verdict-alike request q) (plan-alike now q g (config_bytes request q) (verdict_of request q t))
+  request_alike : (now : ℕ) (g : Origin) (request : List ℕ) (x : OpenAnswer) → Alike A o (asked_effect now g request s x) (asked_effect now g request t x)
+  request_alike now g request NoOpen = r
+  request_alike now g request (Open q) = rw (verdict_alike request q) (plan_alike now q g (config_bytes request q) (verdict_of request q t))
 
-  request-says-alike : (g : Origin) (request : List ℕ) (room : ℕ) (x : OpenAnswer) → asked_answer g request room s x ≡ asked_answer g request room t x
-  request-says-alike g request room NoOpen = refl
-  request-says-alike g request room (Open q) = ap₂ (λ n v. plan_answer q g n room v) r.nextId (verdict-alike request q)
+  request_says_alike : (g : Origin) (request : List ℕ) (room : ℕ) (x : OpenAnswer) → asked_answer g request room s x ≡ asked_answer g request room t x
+  request_says_alike g request room NoOpen = refl
+  request_says_alike g request room (Open q) = ap₂ (λ n v. plan_answer q g n room v) r.nextId (verdict_alike request q)
 
-  pub open-says-alike : (now service : ℕ) (request : List ℕ) (g : Origin) (room : ℕ) → open_answer now service request g room s ≡ open_answer now service request g room t
+  pub open_says_alike : (now service : ℕ) (request : List ℕ) (g : Origin) (room : ℕ) → open_answer now service request g room s ≡ open_answer now service request g room t
   unfolding open_answer
-  open-says-alike now service request g room = ap (atTime now) (request-says-alike g request room (open_asked service request))
+  open_says_alike now service request g room = ap (atTime now) (request_says_alike g request room (open_asked service request))
 
-  pub open-alike : (now service : ℕ) (request : List ℕ) (g : Origin) → Alike A o (open_effect now service request g s) (open_effect now service request g t)
+  pub open_alike : (now service : ℕ) (request : List ℕ) (g : Origin) → Alike A o (open_effect now service request g s) (open_effect now service request g t)
   unfolding open_effect
-  open-alike now service request g = request-alike now g request (open_asked service request)
+  open_alike now service request g = request_alike now g request (open_asked service request)
 
   -- CLOSE
-  close-for-alike : (room : ℕ) (x : CloseAnswer) → close_for room s x ≡ close_for room t x
-  close-for-alike room NoClose = refl
-  close-for-alike room (Close d) =
+  close_for_alike : (room : ℕ) (x : CloseAnswer) → close_for room s x ≡ close_for room t x
+  close_for_alike room NoClose = refl
+  close_for_alike room (Close d) =
       let e = blind_alike A (any (conn_triad d)) (λ l. ListLaws.any-map (hide A) (conn_triad d) (conn_triad d) (λ x. refl) l) s.table t.table r.table in
       rw e refl
 
-  pub close-says-alike : (request : List ℕ) (room : ℕ) → close_answer request room s ≡ close_answer request room t
+  pub close_says_alike : (request : List ℕ) (room : ℕ) → close_answer request room s ≡ close_answer request room t
   unfolding close_answer
-  close-says-alike request room = close-for-alike room (close_of request)
+  close_says_alike request room = close_for_alike room (close_of request)
 
-  removed-alike : (fault : Bool) (why : Info → Event) (p : Conn → Bool) → ((c : Conn) → p (hide A c) ≡ p c) → (x y : Option Conn) →
+  removed_alike : (fault : Bool) (why : Info → Event) (p : Conn → Bool) → ((c : Conn) → p (hide A c) ≡ p c) → (x y : Option Conn) →
       option_map (hide A) x ≡ option_map (hide A) y → Alike A o (removed_if fault why p s x) (removed_if fault why p t y)
   unfolding removed
-  removed-alike fault why p u none none e = r
-  removed-alike fault why p u none (some d) e = clash true refl (cc)
-  removed-alike fault why p u (some c) none e = clash true refl (cc)
-  removed-alike fault why p u (some c) (some d) e =
+  removed_alike fault why p u none none e = r
+  removed_alike fault why p u none (some d) e = clash true refl (cc)
+  removed_alike fault why p u (some c) none e = clash true refl (cc)
+  removed_alike fault why p u (some c) (some d) e =
       let h : hide A c ≡ hide A d = cc in
       record {
         setup = r.setup;
@@ -205,100 +205,100 @@ module _ (A : ℕ) (o : ℕ → Bool) (s t : State) (r : Alike A o s t) where
             idles_alike o (λ i. owns i c.fixed) (λ i. owns i d.fixed) (λ i n. ap (λ (x : Conn). owns i x.fixed) h) s.contents t.contents r.contents ∙
             sym (ap (cover o) (run_lost_lem d.fixed t.contents));
         table =
-            removal-rehear (deaf A) c (withoutFirst p s.table) ∙
-            ap₂ after_removal h (sym (ListLaws.without-map (hide A) p p u s.table) ∙ ap (withoutFirst p) r.table ∙ ListLaws.without-map (hide A) p p u t.table) ∙
-            sym (removal-rehear (deaf A) d (withoutFirst p t.table));
+            removal_rehear (deaf A) c (without_first p s.table) ∙
+            ap₂ after_removal h (sym (ListLaws.without-map (hide A) p p u s.table) ∙ ap (without_first p) r.table ∙ ListLaws.without-map (hide A) p p u t.table) ∙
+            sym (removal_rehear (deaf A) d (without_first p t.table));
         nextId = r.nextId;
         counters = r.counters;
       }
 
-  close-by-alike : (x : CloseAnswer) → Alike A o (close_by s x) (close_by t x)
+  close_by_alike : (x : CloseAnswer) → Alike A o (close_by s x) (close_by t x)
   unfolding closed
-  close-by-alike NoClose = r
-  close-by-alike (Close d) =
-      removed-alike false Closed (conn_triad d) (λ c. refl) (find (conn_triad d) s.table) (find (conn_triad d) t.table)
+  close_by_alike NoClose = r
+  close_by_alike (Close d) =
+      removed_alike false Closed (conn_triad d) (λ c. refl) (find (conn_triad d) s.table) (find (conn_triad d) t.table)
       (sym (ListLaws.find-map (hide A) (conn_triad d) (conn_triad d) (λ c. refl) s.table) ∙
       ap (find (conn_triad d)) r.table ∙ ListLaws.find-map (hide A) (conn_triad d) (conn_triad d) (λ c. refl) t.table)
 
-  pub close-alike : (request : List ℕ) → Alike A o (close_effect request s) (close_effect request t)
+  pub close_alike : (request : List ℕ) → Alike A o (close_effect request s) (close_effect request t)
   unfolding close_effect
-  close-alike request = close-by-alike (close_of request)
+  close_alike request = close_by_alike (close_of request)
 
   -- PRODUCE
-  send-hide : (now : ℕ) (l : List Conn) → map (hide A) (map (sends now) l) ≡ map (sends now) (map (hide A) l)
+  send_hide : (now : ℕ) (l : List Conn) → map (hide A) (map (sends now) l) ≡ map (sends now) (map (hide A) l)
   unfolding sent
-  send-hide now l =
+  send_hide now l =
       map_map (sends now) (hide A) (λ c. sends now (hide A c)) (λ c. of_cond (hide A) (due now c) (due now c) refl refl refl) l ∙
       sym (map_map (hide A) (sends now) (λ c. sends now (hide A c)) (λ c. refl) l)
 
-  due-keep : (now : ℕ) (l : List Conn) → keep (due now) (map (hide A) l) ≡ map (hide A) (keep (due now) l)
-  due-keep now l = ListLaws.keep-map (hide A) (due now) (due now) (λ c. refl) l
+  due_keep : (now : ℕ) (l : List Conn) → keep (due now) (map (hide A) l) ≡ map (hide A) (keep (due now) l)
+  due_keep now l = ListLaws.keep-map (hide A) (due now) (due now) (λ c. refl) l
 
   abbrev each : ℕ → List Content → Conn → List ℕ
   each now cs c = packet now (input_bytes cs c.fixed) c
 
-  packets-hide : (now : ℕ) (cs : List Content) (l : List Conn) → packets now cs (map (hide A) l) ≡ packets now cs l
+  packets_hide : (now : ℕ) (cs : List Content) (l : List Conn) → packets now cs (map (hide A) l) ≡ packets now cs l
   unfolding packets packet Producing.frame_sent sent
-  packets-hide now cs l = ap (joined (each now cs)) (due-keep now l) ∙ joined_map (hide A) (each now cs) (λ c. refl) (keep (due now) l)
+  packets_hide now cs l = ap (joined (each now cs)) (due_keep now l) ∙ joined_map (hide A) (each now cs) (λ c. refl) (keep (due now) l)
 
-  delays-hide : (now : ℕ) (l : List Conn) → delays now (map (hide A) l) ≡ delays now l
-  delays-hide now l =
-      ap (map (λ c. late_by now c.sent.due)) (due-keep now l) ∙ map_map (hide A) (λ c. late_by now c.sent.due) (λ c. late_by now c.sent.due) (λ c. refl) (keep (due now) l)
+  delays_hide : (now : ℕ) (l : List Conn) → delays now (map (hide A) l) ≡ delays now l
+  delays_hide now l =
+      ap (map (λ c. late_by now c.sent.due)) (due_keep now l) ∙ map_map (hide A) (λ c. late_by now c.sent.due) (λ c. late_by now c.sent.due) (λ c. refl) (keep (due now) l)
 
-  packet-alike : Sparing o s.setup → (now : ℕ) (c : Conn) → Feeding s.setup c → each now s.contents c ≡ each now t.contents c
-  packet-alike sparing now c f =
+  packet_alike : Sparing o s.setup → (now : ℕ) (c : Conn) → Feeding s.setup c → each now s.contents c ≡ each now t.contents c
+  packet_alike sparing now c f =
       ap (λ (x : Content). packet now x.bytes c) (content_alike o c.fixed.input s.contents t.contents r.contents (sparing c.fixed.input f))
 
-  packets-alike : Sparing o s.setup → All (Feeding s.setup) s.table → (now : ℕ) → packets now s.contents s.table ≡ packets now t.contents t.table
+  packets_alike : Sparing o s.setup → All (Feeding s.setup) s.table → (now : ℕ) → packets now s.contents s.table ≡ packets now t.contents t.table
   unfolding packets
-  packets-alike sparing a now =
+  packets_alike sparing a now =
       joined_same (each now s.contents) (each now t.contents) (keep (due now) s.table)
-      (ListLaws.all-to (Feeding s.setup) (λ c. each now s.contents c ≡ each now t.contents c) (packet-alike sparing now) (keep (due now) s.table)
+      (ListLaws.all_to (Feeding s.setup) (λ c. each now s.contents c ≡ each now t.contents c) (packet_alike sparing now) (keep (due now) s.table)
       (ListLaws.all_keep (Feeding s.setup) (due now) s.table a)) ∙
-      blind_alike A (packets now t.contents) (packets-hide now t.contents) s.table t.table r.table
+      blind_alike A (packets now t.contents) (packets_hide now t.contents) s.table t.table r.table
 
-  pub produce-says-alike : Sparing o s.setup → All (Feeding s.setup) s.table → (now room : ℕ) → produce_answer now room s ≡ produce_answer now room t
+  pub produce_says_alike : Sparing o s.setup → All (Feeding s.setup) s.table → (now room : ℕ) → produce_answer now room s ≡ produce_answer now room t
   unfolding produce_answer
-  produce-says-alike sparing a now room = ap (λ b. atTime now (fitting room b (Wrote b))) (packets-alike sparing a now)
+  produce_says_alike sparing a now room = ap (λ b. atTime now (fitting room b (Wrote b))) (packets_alike sparing a now)
 
-  pub produce-alike : (now : ℕ) → Alike A o (produce_effect now s) (produce_effect now t)
+  pub produce_alike : (now : ℕ) → Alike A o (produce_effect now s) (produce_effect now t)
   unfolding produce_effect
-  produce-alike now =
-      let d = blind_alike A (delays now) (delays-hide now) s.table t.table r.table in
+  produce_alike now =
+      let d = blind_alike A (delays now) (delays_hide now) s.table t.table r.table in
       record {
         setup = r.setup;
         contents = r.contents;
-        table = send-hide now s.table ∙ ap (map (sends now)) r.table ∙ sym (send-hide now t.table);
+        table = send_hide now s.table ∙ ap (map (sends now)) r.table ∙ sym (send_hide now t.table);
         nextId = r.nextId;
         counters = cc (d, r.counters, r.setup);
       }
 
   -- THE HOST'S SIDE
-  with-alike : (l m : List Content) → cover o l ≡ cover o m → Alike A o (with_contents l s) (with_contents m t)
-  with-alike l m e = record { setup = r.setup; contents = e; table = r.table; nextId = r.nextId; counters = r.counters }
+  with_alike : (l m : List Content) → cover o l ≡ cover o m → Alike A o (with_contents l s) (with_contents m t)
+  with_alike l m e = record { setup = r.setup; contents = e; table = r.table; nextId = r.nextId; counters = r.counters }
 
-  pub set-input-says-alike : (n : ℕ) (bytes : List ℕ) → set_input_answer n bytes s.setup ≡ set_input_answer n bytes t.setup
-  set-input-says-alike n bytes = ap (set_input_answer n bytes) r.setup
+  pub set_input_says_alike : (n : ℕ) (bytes : List ℕ) → set_input_answer n bytes s.setup ≡ set_input_answer n bytes t.setup
+  set_input_says_alike n bytes = ap (set_input_answer n bytes) r.setup
 
-  input-set-alike : (bytes : List ℕ) (x : Option ℕ) → Alike A o (input_set bytes s x) (input_set bytes t x)
-  input-set-alike bytes none = r
-  input-set-alike bytes (some i) =
-      with-alike _ _
+  input_set_alike : (bytes : List ℕ) (x : Option ℕ) → Alike A o (input_set bytes s x) (input_set bytes t x)
+  input_set_alike bytes none = r
+  input_set_alike bytes (some i) =
+      with_alike _ _
       (change_alike o i (filled (shape_at s.setup i).size bytes) s.contents t.contents r.contents ∙
-      ap (λ u. cover o (changeAt i (filled (shape_at u i).size bytes) t.contents)) r.setup)
+      ap (λ u. cover o (change_at i (filled (shape_at u i).size bytes) t.contents)) r.setup)
 
-  pub set-input-alike : (n : ℕ) (bytes : List ℕ) → Alike A o (set_input_effect n bytes s) (set_input_effect n bytes t)
+  pub set_input_alike : (n : ℕ) (bytes : List ℕ) → Alike A o (set_input_effect n bytes s) (set_input_effect n bytes t)
   unfolding set_input_effect
-  set-input-alike n bytes =
+  set_input_alike n bytes =
       subst (λ x. Alike A o (input_set bytes s x) (input_set bytes t (place_of is_input t.setup n))) (sym (ap (λ u. place_of is_input u n) r.setup))
-      (input-set-alike bytes (place_of is_input t.setup n))
+      (input_set_alike bytes (place_of is_input t.setup n))
 
   -- RECEIVE, from another address
   module _ (now from : ℕ) (f : Frame) (other : eqb from A ≡ false) where
     meant-other : (c : Conn) → meant_for from f c ≡ true → eqb c.fixed.originator A ≡ false
     meant-other c e = cc (eqb_true c.fixed.originator from (and_right (eqb c.fixed.otid.0 f.id.0) (eqb c.fixed.originator from) e), other)
 
-    hear-hide : (l : List Conn) → changeFirst (meant_for from f) (hear now f) (map (hide A) l) ≡ map (hide A) (changeFirst (meant_for from f) (hear now f) l)
+    hear-hide : (l : List Conn) → change_first (meant_for from f) (hear now f) (map (hide A) l) ≡ map (hide A) (change_first (meant_for from f) (hear now f) l)
     hear-hide l =
         ListLaws.change-map (hide A) (meant_for from f) (meant_for from f) (λ c. refl) (hear now f) (hear now f)
         (λ c e. ap (hear now f) (hide_bare A c (meant-other c e)) ∙ sym (hide_bare A (hear now f c) (ap (λ (x : Fixed). eqb x.originator A) (hear_fixed now f c) ∙ meant-other c e))) l
@@ -325,18 +325,18 @@ module _ (A : ℕ) (o : ℕ → Bool) (s t : State) (r : Alike A o s t) where
               delivered-alike (find (meant_for from f) s.table) ∙
               ap (λ x. cover o (maybe t.contents (λ c. delivered t.setup f c t.contents) x))
               (blind_alike A (find (meant_for from f)) found-hide s.table t.table r.table);
-          table = sym (hear-hide s.table) ∙ ap (changeFirst (meant_for from f) (hear now f)) r.table ∙ hear-hide t.table;
+          table = sym (hear-hide s.table) ∙ ap (change_first (meant_for from f) (hear now f)) r.table ∙ hear-hide t.table;
           nextId = r.nextId;
           counters = r.counters;
         }
 
-  frame-alike : (now from : ℕ) → eqb from A ≡ false → (x : Option Frame) → Alike A o (maybe s (λ f. received now from f s) x) (maybe t (λ f. received now from f t) x)
-  frame-alike now from n none = r
-  frame-alike now from n (some f) = received-alike now from f n
+  frame_alike : (now from : ℕ) → eqb from A ≡ false → (x : Option Frame) → Alike A o (maybe s (λ f. received now from f s) x) (maybe t (λ f. received now from f t) x)
+  frame_alike now from n none = r
+  frame_alike now from n (some f) = received-alike now from f n
 
-  pub receive-alike : (now from : ℕ) (bytes : List ℕ) → eqb from A ≡ false → Alike A o (receive_effect now from bytes s) (receive_effect now from bytes t)
+  pub receive_alike : (now from : ℕ) (bytes : List ℕ) → eqb from A ≡ false → Alike A o (receive_effect now from bytes s) (receive_effect now from bytes t)
   unfolding receive_effect
-  receive-alike now from bytes n = frame-alike now from n (frame_of bytes (io_of bytes))
+  receive_alike now from bytes n = frame_alike now from n (frame_of bytes (io_of bytes))
 
 -- a frame's data is taken of an owner only
 pub taken_owner : (u : Setup) (f : Frame) (c : Conn) → taken u f c ≡ true → is_owner c.fixed.kind ≡ true
@@ -378,10 +378,10 @@ module _ (A : ℕ) (o : ℕ → Bool) (now from : ℕ) (that : eqb from A ≡ tr
           counters = refl;
         }
 
-  frame-unseen : (x : Option Frame) → Alike A o (maybe s (λ f. received now from f s) x) s
-  frame-unseen none = itself A o s
-  frame-unseen (some f) = received-unseen f
+  frame_unseen : (x : Option Frame) → Alike A o (maybe s (λ f. received now from f s) x) s
+  frame_unseen none = itself A o s
+  frame_unseen (some f) = received-unseen f
 
-  pub receive-unseen : (bytes : List ℕ) → Alike A o (receive_effect now from bytes s) s
+  pub receive_unseen : (bytes : List ℕ) → Alike A o (receive_effect now from bytes s) s
   unfolding receive_effect
-  receive-unseen bytes = frame-unseen (frame_of bytes (io_of bytes))
+  receive_unseen bytes = frame_unseen (frame_of bytes (io_of bytes))

@@ -4,7 +4,7 @@ use Rattle.std.proofs.Common.{sym, ◌∙◌}
 use Rattle.std.proofs.Math.Path.{subst}
 use Rattle.std.proofs.Math.Option.{some}
 use Rattle.rules.specs.declared.Verdict.TheVariants.{Planned}
-use Rattle.rules.specs.Lists.{find, any, changeFirst, withoutFirst}
+use Rattle.rules.specs.Lists.{find, any, change_first, without_first}
 use Rattle.rules_laws.specs.ListLaws
 use Rattle.rules_laws.specs.ListLaws.{All}
 use Rattle.rules.specs.State.{Setup, shape_at, State, triad_is, fixeds, is_input, is_output, is_owner}
@@ -18,9 +18,9 @@ use Rattle.rules.specs.Producing.{sends, produce_effect}
 use Rattle.rules.specs.Host.{next_event_effect}
 use Rattle.rules.specs.Calls.{Call, next, run}
 use Rattle.rules_steps.specs.Names.{ForwardOpen, Origin, Fixed, Conn, Info, Event, Plan}
-use Rattle.rules_steps.specs.Steps.{Kept, kept, run-kept}
-use Rattle.rules_isolation.specs.Ends.{all-removal}
-use Rattle.rules_isolation.specs.Apart.{apart-without, apart-change, apart-map, apart-removal, apart-append}
+use Rattle.rules_steps.specs.Steps.{Kept, kept, run_kept}
+use Rattle.rules_isolation.specs.Ends.{all_removal}
+use Rattle.rules_isolation.specs.Apart.{apart_without, apart-change, apart-map, apart_removal, apart_append}
 use Rattle.rules_isolation.specs.Survive.{Distinct, triad_of, triad_is_sym}
 use Rattle.rules_isolation.specs.Seen.{Feeding, hear_fixed, send_fixed}
 
@@ -36,11 +36,11 @@ pub record Sound (u : Setup) (s : State) : Type 0 where
 
 module _ (u : Conn → Conn) (same : (c : Conn) → (u c).fixed ≡ c.fixed) where
   -- what is asked of the fixed part stays
-  pub fixed-map : (P : Fixed → Type 0) (l : List Conn) → All (λ c. P c.fixed) l → All (λ c. P c.fixed) (map u l)
-  fixed-map P l a = ListLaws.all_mapped u (λ c. P c.fixed) (λ c. P c.fixed) (λ c h. subst P (sym (same c)) h) l a
+  pub fixed_map : (P : Fixed → Type 0) (l : List Conn) → All (λ c. P c.fixed) l → All (λ c. P c.fixed) (map u l)
+  fixed_map P l a = ListLaws.all_mapped u (λ c. P c.fixed) (λ c. P c.fixed) (λ c h. subst P (sym (same c)) h) l a
 
-  pub fixed-change : (P : Fixed → Type 0) (p : Conn → Bool) (l : List Conn) → All (λ c. P c.fixed) l → All (λ c. P c.fixed) (changeFirst p u l)
-  fixed-change P p l a = ListLaws.all-change (λ c. P c.fixed) p u (λ c h. subst P (sym (same c)) h) l a
+  pub fixed_change : (P : Fixed → Type 0) (p : Conn → Bool) (l : List Conn) → All (λ c. P c.fixed) l → All (λ c. P c.fixed) (change_first p u l)
+  fixed_change P p l a = ListLaws.all-change (λ c. P c.fixed) p u (λ c h. subst P (sym (same c)) h) l a
 
 abbrev Feeds : Setup → Fixed → Type 0
 Feeds u f = is_input (shape_at u f.input).kind ≡ true
@@ -58,11 +58,11 @@ pub accepted : (request : List ℕ) (q : ForwardOpen) (s : State) (p : Plan) →
 unfolding verdict_of plan_of
 accepted request q s p e =
     let x = CheckLaws.passed s.setup (fixeds s.table) q (asked_path request q) p e in
-    let f = CheckLaws.triad-free s.setup (fixeds s.table) q (asked_path request q) x.0 in
+    let f = CheckLaws.triad_free s.setup (fixeds s.table) q (asked_path request q) x.0 in
     subst (Accepted s q) x.1
     (record {
       free = sym (ListLaws.any-map (λ c. c.fixed) (has_triad q.triad) (conn_triad q.triad) (λ c. refl) s.table) ∙ f;
-      input = CheckLaws.input-is s.setup (fixeds s.table) q (asked_path request q) x.0;
+      input = CheckLaws.input_is s.setup (fixeds s.table) q (asked_path request q) x.0;
       output = CheckLaws.output_is s.setup (fixeds s.table) q (asked_path request q) x.0;
     })
 
@@ -73,30 +73,30 @@ same_triad a b = has_triad a.triad b
 free_of : (q : ForwardOpen) (l : List Conn) → any (conn_triad q.triad) l ≡ false → any (λ x. triad_is (triad_of x) q.triad) l ≡ false
 free_of q l e =
     ListLaws.none_is (λ x. triad_is (triad_of x) q.triad) l
-    (ListLaws.all-to (λ x. conn_triad q.triad x ≡ false) (λ x. triad_is (triad_of x) q.triad ≡ false) (λ x n. triad_is_sym q.triad (triad_of x) n) l
+    (ListLaws.all_to (λ x. conn_triad q.triad x ≡ false) (λ x. triad_is (triad_of x) q.triad ≡ false) (λ x n. triad_is_sym q.triad (triad_of x) n) l
     (ListLaws.none_passes (conn_triad q.triad) l e))
 
 module _ (u : Setup) where
-  opened-sound : (now : ℕ) (q : ForwardOpen) (g : Origin) (bytes : List ℕ) (p : Plan) (s : State) → Accepted s q p → Sound u s → Sound u (opened now q g bytes p s)
+  opened_sound : (now : ℕ) (q : ForwardOpen) (g : Origin) (bytes : List ℕ) (p : Plan) (s : State) → Accepted s q p → Sound u s → Sound u (opened now q g bytes p s)
   unfolding opened new_conn new_fixed
-  opened-sound now q g bytes p s a h =
+  opened_sound now q g bytes p s a h =
       record {
         setup = h.setup;
-        distinct = apart-append same_triad (new_conn now q g p s.nextId) s.table (free_of q s.table a.free) h.distinct;
+        distinct = apart_append same_triad (new_conn now q g p s.nextId) s.table (free_of q s.table a.free) h.distinct;
         inputs = ListLaws.all_append (Feeding u) s.table (new_conn now q g p s.nextId) h.inputs (subst (λ v. is_input (shape_at v p.input).kind ≡ true) h.setup a.input);
         outputs = ListLaws.all_append (Owning u) s.table (new_conn now q g p s.nextId) h.outputs
             (λ y. subst (λ v. is_output (shape_at v p.output).kind ≡ true) h.setup (a.output y));
       }
 
   removing : (fault : Bool) (why : Info → Event) (p : Conn → Bool) (c : Conn) (s : State) → find p s.table ≡ some c → Sound u s →
-      Sound u (removed fault why c (withoutFirst p s.table) s)
+      Sound u (removed fault why c (without_first p s.table) s)
   unfolding removed
   removing fault why p c s e h =
       record {
         setup = h.setup;
-        distinct = apart-removal same_triad c (withoutFirst p s.table) (apart-without same_triad p s.table h.distinct);
-        inputs = all-removal (Feeding u) (λ x k y. y) c (withoutFirst p s.table) (ListLaws.all_without (Feeding u) p s.table h.inputs);
-        outputs = all-removal (Owning u) (λ x k y. y) c (withoutFirst p s.table) (ListLaws.all_without (Owning u) p s.table h.outputs);
+        distinct = apart_removal same_triad c (without_first p s.table) (apart_without same_triad p s.table h.distinct);
+        inputs = all_removal (Feeding u) (λ x k y. y) c (without_first p s.table) (ListLaws.all_without (Feeding u) p s.table h.inputs);
+        outputs = all_removal (Owning u) (λ x k y. y) c (without_first p s.table) (ListLaws.all_without (Owning u) p s.table h.outputs);
       }
 
   hearing : (t from : ℕ) (f : Frame) (s : State) → Sound u s → Sound u (received t from f s)
@@ -105,8 +105,8 @@ module _ (u : Setup) where
       record {
         setup = h.setup;
         distinct = apart-change same_triad (hear t f) (hear_fixed t f) (meant_for from f) s.table h.distinct;
-        inputs = fixed-change (hear t f) (hear_fixed t f) (Feeds u) (meant_for from f) s.table h.inputs;
-        outputs = fixed-change (hear t f) (hear_fixed t f) (Owns u) (meant_for from f) s.table h.outputs;
+        inputs = fixed_change (hear t f) (hear_fixed t f) (Feeds u) (meant_for from f) s.table h.inputs;
+        outputs = fixed_change (hear t f) (hear_fixed t f) (Owns u) (meant_for from f) s.table h.outputs;
       }
 
   producing : (t : ℕ) (s : State) → Sound u s → Sound u (produce_effect t s)
@@ -115,8 +115,8 @@ module _ (u : Setup) where
       record {
         setup = h.setup;
         distinct = apart-map same_triad (sends t) (send_fixed t) s.table h.distinct;
-        inputs = fixed-map (sends t) (send_fixed t) (Feeds u) s.table h.inputs;
-        outputs = fixed-map (sends t) (send_fixed t) (Owns u) s.table h.outputs;
+        inputs = fixed_map (sends t) (send_fixed t) (Feeds u) s.table h.inputs;
+        outputs = fixed_map (sends t) (send_fixed t) (Owns u) s.table h.outputs;
       }
 
   noting : (s : State) → Sound u s → Sound u (next_event_effect s)
@@ -124,8 +124,8 @@ module _ (u : Setup) where
   noting s h = record { setup = h.setup; distinct = h.distinct; inputs = h.inputs; outputs = h.outputs }
 
   -- EVERY CALL KEEPS IT
-  pub sound-kept : Kept (Sound u)
-  sound-kept =
+  pub sound_kept : Kept (Sound u)
+  sound_kept =
       record {
         quiet =
             record {
@@ -135,16 +135,16 @@ module _ (u : Setup) where
               noting = noting;
             };
         removing = removing;
-        opening = λ t request q g p s e h. opened-sound t q g (config_bytes request q) p s (accepted request q s p e) h;
+        opening = λ t request q g p s e h. opened_sound t q g (config_bytes request q) p s (accepted request q s p e) h;
         hearing = hearing;
       }
 
   pub sound : (c : Call) (s : State) → Sound u s → Sound u (next c s)
-  sound = kept (Sound u) sound-kept
+  sound = kept (Sound u) sound_kept
 
-  pub fresh-sound : (seed : ℕ) → Sound u (fresh u seed)
+  pub fresh_sound : (seed : ℕ) → Sound u (fresh u seed)
   unfolding fresh
-  fresh-sound seed = record { setup = refl; distinct = tt; inputs = tt; outputs = tt }
+  fresh_sound seed = record { setup = refl; distinct = tt; inputs = tt; outputs = tt }
 
   pub run_sound : (cs : List Call) (s : State) → Sound u s → Sound u (run cs s)
-  run_sound = run-kept (Sound u) sound-kept
+  run_sound = run_kept (Sound u) sound_kept

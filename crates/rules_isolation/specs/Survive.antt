@@ -12,7 +12,7 @@ use Rattle.rules_steps.specs.Names.{ToId, Triad, Fixed, Heard, Sent, Conn}
 use Rattle.rules.specs.Checks.{has_triad}
 use Rattle.rules.specs.Removal.{in_stream, conn_triad}
 use Rattle.rules_isolation.specs.Apart.{Apart}
-use Rattle.rules_isolation.specs.Ends.{Ends, done, step, one_end, all-ends, back-ends, outside, keep-ends, same_test, rehear, ends-rehear}
+use Rattle.rules_isolation.specs.Ends.{Ends, done, step, one_end, all_ends, back_ends, outside, keep_ends, same_test, rehear, ends-rehear}
 
 pub triad_is_true : (a b : Triad) → triad_is a b ≡ true → a ≡ b
 triad_is_true a b e =
@@ -78,16 +78,16 @@ module _ (p : Conn → Bool) (blind : (c : Conn) (s : Sent) → p (with_sent s c
   inside = outside (over (in_table r) l)
 
   -- what holds of none that is left held of none of those before that are left
-  left-tells : (f : Conn → Bool) → ((c : Conn) (s : Sent) → f (with_sent s c) ≡ f c) → All (λ c. f c ≡ false) r → All (λ c. left ts c ≡ true → f c ≡ false) l
-  left-tells f b n =
+  left_tells : (f : Conn → Bool) → ((c : Conn) (s : Sent) → f (with_sent s c) ≡ f c) → All (λ c. f c ≡ false) r → All (λ c. left ts c ≡ true → f c ≡ false) l
+  left_tells f b n =
       let a₁ = tells f l distinct in
-      let a₂ = all-ends (λ c. f c ≡ told f l (triad_of c)) (λ c s h. b c s ∙ h) ends a₁ in
+      let a₂ = all_ends (λ c. f c ≡ told f l (triad_of c)) (λ c s h. b c s ∙ h) ends a₁ in
       let a₃ = ListLaws.all_two (λ c. f c ≡ told f l (triad_of c)) (λ c. f c ≡ false) (λ c. told f l (triad_of c) ≡ false) (λ c h k. sym h ∙ k) r a₂ n in
-      ListLaws.all-to (λ c. f c ≡ told f l (triad_of c)) (λ c. left ts c ≡ true → f c ≡ false) (λ c h m. h ∙ of_listed (told f l) r a₃ (triad_of c) m) l a₁
+      ListLaws.all_to (λ c. f c ≡ told f l (triad_of c)) (λ c. left ts c ≡ true → f c ≡ false) (λ c h m. h ∙ of_listed (told f l) r a₃ (triad_of c) m) l a₁
 
   self_left : All (λ c. left ts c ≡ true) r
   self_left =
-      ListLaws.all-to (λ c. (f : Conn → Bool) → f c ≡ true → any f r ≡ true) (λ c. left ts c ≡ true)
+      ListLaws.all_to (λ c. (f : Conn → Bool) → f c ≡ true → any f r ≡ true) (λ c. left ts c ≡ true)
       (λ c h. h (conn_triad (triad_of c)) (triad_is_refl (triad_of c)))
       r (ListLaws.self r)
 
@@ -95,51 +95,51 @@ module _ (p : Conn → Bool) (blind : (c : Conn) (s : Sent) → p (with_sent s c
   lives k x = in_stream k x && left (in_table r) x
 
   -- no stream of what is left is over
-  inside-if : (c : Conn) → ((f : Conn → Bool) → f c ≡ true → any f r ≡ true) → left ts c ≡ true → inside c ≡ true
-  inside-if c h t =
+  inside_if : (c : Conn) → ((f : Conn → Bool) → f c ≡ true → any f r ≡ true) → left ts c ≡ true → inside c ≡ true
+  inside_if c h t =
       let k = c.fixed.toid in
       by_cases (any (lives k) l) (λ y. by_cases c.fixed.multicast (λ m. cc) (λ m. cc))
       λ n. by_cases c.fixed.multicast
       (λ m. clash (any (lives k) r)
       (h (lives k) (cc (T_true (eqb k.0 k.0) (eqb_refl k.0))))
-      (ListLaws.none_is (lives k) r (all-ends (λ x. lives k x ≡ false) (λ x s e. e) ends (ListLaws.none_passes (lives k) l n))))
+      (ListLaws.none_is (lives k) r (all_ends (λ x. lives k x ≡ false) (λ x s e. e) ends (ListLaws.none_passes (lives k) l n))))
       (λ m. cc)
 
-  all-inside : All (λ c. inside c ≡ true) r
-  all-inside =
-      ListLaws.all_two (λ c. (f : Conn → Bool) → f c ≡ true → any f r ≡ true) (λ c. left ts c ≡ true) (λ c. inside c ≡ true) inside-if r (ListLaws.self r) self_left
+  all_inside : All (λ c. inside c ≡ true) r
+  all_inside =
+      ListLaws.all_two (λ c. (f : Conn → Bool) → f c ≡ true → any f r ≡ true) (λ c. left ts c ≡ true) (λ c. inside c ≡ true) inside_if r (ListLaws.self r) self_left
 
   orphaned : (x : Conn) → x.fixed.multicast ≡ true → any (in_stream x.fixed.toid) r ≡ false → inside x ≡ false
   orphaned x m n =
       let k = x.fixed.toid in
-      let a = left-tells (in_stream k) (λ c s. refl) (ListLaws.none_passes (in_stream k) r n) in
-      let b = ListLaws.all-to (λ c. left ts c ≡ true → in_stream k c ≡ false) (λ c. lives k c ≡ false)
+      let a = left_tells (in_stream k) (λ c s. refl) (ListLaws.none_passes (in_stream k) r n) in
+      let b = ListLaws.all_to (λ c. left ts c ≡ true → in_stream k c ≡ false) (λ c. lives k c ≡ false)
       (λ c h. by_cases (left ts c) (λ t. cc (h t)) (λ f. by_cases (in_stream k c) (λ i. cc) (λ i. cc))) l a in
       cc (ListLaws.none_is (lives k) l b)
 
   stays : All (λ c. p c ≡ false → inside c ≡ true → left ts c ≡ true) l
   stays =
-      back-ends (λ c. p c ≡ false → inside c ≡ true → left ts c ≡ true) (λ c s h n. h (sym (blind c s) ∙ n)) p (λ c t f. clash (p c) t f) ends
-      (ListLaws.all-to (λ c. left ts c ≡ true) (λ c. p c ≡ false → inside c ≡ true → left ts c ≡ true) (λ c t n i. t) r self_left)
+      back_ends (λ c. p c ≡ false → inside c ≡ true → left ts c ≡ true) (λ c s h n. h (sym (blind c s) ∙ n)) p (λ c t f. clash (p c) t f) ends
+      (ListLaws.all_to (λ c. left ts c ≡ true) (λ c. p c ≡ false → inside c ≡ true → left ts c ≡ true) (λ c t n i. t) r self_left)
       (λ x m n f i. clash (inside x) i (orphaned x m n))
 
   agrees : All (λ c. inside c ≡ true → p c ≡ gone ts c) l
   agrees =
       ListLaws.all_two (λ c. left ts c ≡ true → p c ≡ false) (λ c. p c ≡ false → inside c ≡ true → left ts c ≡ true) (λ c. inside c ≡ true → p c ≡ gone ts c)
       (λ c h k i. by_cases (left ts c) (λ t. cc (h t)) (λ f. by_cases (p c) (λ y. cc) (λ n. clash (left ts c) (k n i) f)))
-      l (left-tells p blind (none_left ends)) stays
+      l (left_tells p blind (none_left ends)) stays
 
   pub canonical : Ends (gone ts) (keep inside l) r
   canonical =
-      let d : Ends p (keep inside l) (keep inside r) = keep-ends (over ts l) ends in
-      let e : Ends p (keep inside l) r = rw (ListLaws.keep_all inside r all-inside) at d in
+      let d : Ends p (keep inside l) (keep inside r) = keep_ends (over ts l) ends in
+      let e : Ends p (keep inside l) r = rw (ListLaws.keep_all inside r all_inside) at d in
       same_test p (gone ts) (λ c s h. blind c s ∙ h) e (ListLaws.kept (λ c. p c ≡ gone ts c) inside l agrees)
 
 -- THE EXPIRY LEMMA: two tables that differ in what was heard, and the same connections left by two tests: all else of them is the same too
 module _ (w : Fixed → Heard → Heard) where
-  pub canonical-seen : (p : Conn → Bool) → ((c : Conn) (s : Sent) → p (with_sent s c) ≡ p c) → (l r : List Conn) → Ends p l r → Distinct l →
+  pub canonical_seen : (p : Conn → Bool) → ((c : Conn) (s : Sent) → p (with_sent s c) ≡ p c) → (l r : List Conn) → Ends p l r → Distinct l →
       Ends (gone (in_table r)) (keep (outside (over (in_table r) (map (rehear w) l))) (map (rehear w) l)) (map (rehear w) r)
-  canonical-seen p b l r ends d =
+  canonical_seen p b l r ends d =
       let ts = in_table r in
       let k : over ts l ≡ over ts (map (rehear w) l) =
       fun_ext (λ k. ap not (sym (ListLaws.any-map (rehear w) (λ c. in_stream k c && left ts c) (λ c. in_stream k c && left ts c) (λ x. refl) l))) in
@@ -153,5 +153,5 @@ module _ (w : Fixed → Heard → Heard) where
       map (rehear w) l ≡ map (rehear w) m → ((d : Triad) → in_table r d ≡ in_table t d) → map (rehear w) r ≡ map (rehear w) t
   same_left p q b k l m r t e f d g seen left =
       one_end
-      (subst₂ (λ ts s. Ends (gone ts) (keep (outside (over ts s)) s) (map (rehear w) r)) (fun_ext left) seen (canonical-seen p b l r e d))
-      (canonical-seen q k m t f g)
+      (subst₂ (λ ts s. Ends (gone ts) (keep (outside (over ts s)) s) (map (rehear w) r)) (fun_ext left) seen (canonical_seen p b l r e d))
+      (canonical_seen q k m t f g)

@@ -22,7 +22,7 @@ use Rattle.rules.specs.Calls
 use Rattle.rules.specs.Calls.{Call, answer, next, run}
 use Rattle.rules_isolation.specs.Survive.{triad_is_refl}
 use Rattle.rules_steps.specs.Names.{Triad}
-use Rattle.rules_steps.specs.Steps.{log, news, learnt, history, history-next, run_next, run-follows}
+use Rattle.rules_steps.specs.Steps.{log, news, learnt, history, history_next, run_next, run_follows}
 use Rattle.rules_lastword.specs.Words.{Contact, is_news, speaks, noted, silent, Word, counts, fits, says_run, takes, asks_for, word_of, no_word, in_run, opens, early}
 use Rattle.rules_lastword.specs.Knows.{or_yes}
 use Rattle.rules_lastword.specs.LastWord.{accepted, word, lane-obeys}
@@ -58,7 +58,7 @@ open_spoken false m o x h = h
 
 always_spoken : (u : Setup) (n size : ℕ) (cs : List Call) (s : State) (w : Word) → spoken w ≡ true → spoken (history (word_of u n size) (log cs s) w) ≡ true
 always_spoken u n size cs s w h =
-    run-follows (word_of u n size) (λ w s. spoken w ≡ true)
+    run_follows (word_of u n size) (λ w s. spoken w ≡ true)
     (record {
       quiet = λ w. record { producing = λ t s h. h; setting = λ m j bytes s e h. h; reading = λ m j s e h. h; noting = λ s h. h };
       opening = λ t request q g p s w e h. open_spoken (asks_for u n request q) _ w.owner w.said h;
@@ -75,63 +75,63 @@ module _ (u : Setup) (n i : ℕ) (there : place_of is_output u n ≡ some i) (se
   abbrev told : Word
   told = word u n i there seed small cs
 
-  abbrev toldBy : Call → Word
-  toldBy c = learnt (word_of u n (shape_at u i).size) (news c (answer c before)) told
+  abbrev told_by : Call → Word
+  told_by c = learnt (word_of u n (shape_at u i).size) (news c (answer c before)) told
 
   -- a call that opens nothing
-  abbrev Opens-none : Call → Type 0
-  Opens-none c = (d : ℕ) → learnt opens (news c (answer c (run cs (fresh u seed)))) d ≡ d
+  abbrev Opens_none : Call → Type 0
+  Opens_none c = (d : ℕ) → learnt opens (news c (answer c (run cs (fresh u seed)))) d ≡ d
 
-  obeys-next : (c : Call) → Opens-none c → (content_at (next c before) i).run ≡ in_run (toldBy c)
-  obeys-next c none_open =
-      let few' : early (accepted u n i there seed small (cs ++ (c ∷ []))) ≡ true = ap early (history-next opens cs c (fresh u seed) 0 ∙ none_open (accepted u n i there seed small cs)) ∙ few in
+  obeys_next : (c : Call) → Opens_none c → (content_at (next c before) i).run ≡ in_run (told_by c)
+  obeys_next c none_open =
+      let few' : early (accepted u n i there seed small (cs ++ (c ∷ []))) ≡ true = ap early (history_next opens cs c (fresh u seed) 0 ∙ none_open (accepted u n i there seed small cs)) ∙ few in
       ap (λ (s : State). (content_at s i).run) (sym (run_next cs c (fresh u seed))) ∙ (lane-obeys u n i there seed small (cs ++ (c ∷ [])) few').run ∙
-      ap in_run (history-next (word_of u n (shape_at u i).size) cs c (fresh u seed) no_word)
+      ap in_run (history_next (word_of u n (shape_at u i).size) cs c (fresh u seed) no_word)
 
   -- A FRAME DECIDES: after a frame that is taken, run is bit 0 of its header
-  frame-says : (size t from : ℕ) (f : Frame) (o : Option Contact) (x : Option Frame) → maybe false (counts size from f) o ≡ true →
+  frame_says : (size t from : ℕ) (f : Frame) (o : Option Contact) (x : Option Frame) → maybe false (counts size from f) o ≡ true →
       maybe false (λ m. maybe false says_run (cond (maybe false (counts size from f) o) (some f) x)) (maybe none (λ m. some (cond (speaks from f m) (noted t f m) m)) o) ≡ says_run f
-  frame-says size t from f none x y = clash true refl (sym y)
-  frame-says size t from f (some m) x y = ap (λ b. maybe false says_run (cond b (some f) x)) y
+  frame_says size t from f none x y = clash true refl (sym y)
+  frame_says size t from f (some m) x y = ap (λ b. maybe false says_run (cond b (some f) x)) y
 
-  frame-opens-none : (t from : ℕ) (frame : List ℕ) (f : Frame) → timely t ≡ true → frame_of frame (io_of frame) ≡ some f → Opens-none (Calls.Receive t from frame)
+  frame_opens_none : (t from : ℕ) (frame : List ℕ) (f : Frame) → timely t ≡ true → frame_of frame (io_of frame) ≡ some f → Opens_none (Calls.Receive t from frame)
   unfolding receive_call receive_answer
-  frame-opens-none t from frame f y e d = rw (y, e) refl
+  frame_opens_none t from frame f y e d = rw (y, e) refl
 
-  frame-told : (t from : ℕ) (frame : List ℕ) (f : Frame) → timely t ≡ true → frame_of frame (io_of frame) ≡ some f →
-      toldBy (Calls.Receive t from frame) ≡ (word_of u n (shape_at u i).size).onFrame t from f told
+  frame_told_lem : (t from : ℕ) (frame : List ℕ) (f : Frame) → timely t ≡ true → frame_of frame (io_of frame) ≡ some f →
+      told_by (Calls.Receive t from frame) ≡ (word_of u n (shape_at u i).size).onFrame t from f told
   unfolding receive_call receive_answer
-  frame-told t from frame f y e = rw (y, e) refl
+  frame_told_lem t from frame f y e = rw (y, e) refl
 
-  pub frame-decides : (t from : ℕ) (frame : List ℕ) (f : Frame) → timely t ≡ true → frame_of frame (io_of frame) ≡ some f → takes (shape_at u i).size from f told ≡ true →
+  pub frame_decides : (t from : ℕ) (frame : List ℕ) (f : Frame) → timely t ≡ true → frame_of frame (io_of frame) ≡ some f → takes (shape_at u i).size from f told ≡ true →
       (content_at (next (Calls.Receive t from frame) before) i).run ≡ says_run f
-  frame-decides t from frame f y e k =
-      obeys-next (Calls.Receive t from frame) (frame-opens-none t from frame f y e) ∙ ap in_run (frame-told t from frame f y e) ∙
-      frame-says (shape_at u i).size t from f told.owner told.said k
+  frame_decides t from frame f y e k =
+      obeys_next (Calls.Receive t from frame) (frame_opens_none t from frame f y e) ∙ ap in_run (frame_told_lem t from frame f y e) ∙
+      frame_says (shape_at u i).size t from f told.owner told.said k
 
   -- CLEARED BY A FRAME whose header bit is clear
-  pub cleared-by-a-frame : (t from : ℕ) (frame : List ℕ) (f : Frame) → timely t ≡ true → frame_of frame (io_of frame) ≡ some f → takes (shape_at u i).size from f told ≡ true →
+  pub cleared_by_a_frame : (t from : ℕ) (frame : List ℕ) (f : Frame) → timely t ≡ true → frame_of frame (io_of frame) ≡ some f → takes (shape_at u i).size from f told ≡ true →
       says_run f ≡ false → (content_at (next (Calls.Receive t from frame) before) i).run ≡ false
-  cleared-by-a-frame t from frame f y e k z = frame-decides t from frame f y e k ∙ z
+  cleared_by_a_frame t from frame f y e k z = frame_decides t from frame f y e k ∙ z
 
   -- CLEARED BY ITS OWNER'S CLOSE
-  pub cleared-by-a-close : (request : List ℕ) (room : ℕ) (m : Contact) → is_yes (answer (Calls.Close request room) before) ≡ true → told.owner ≡ some m →
+  pub cleared_by_a_close : (request : List ℕ) (room : ℕ) (m : Contact) → is_yes (answer (Calls.Close request room) before) ≡ true → told.owner ≡ some m →
       close_of request ≡ Close m.triad → (content_at (next (Calls.Close request room) before) i).run ≡ false
-  cleared-by-a-close request room m y o e =
-      obeys-next (Calls.Close request room) (λ d. rw (y, e) refl) ∙ ap in_run by-close
+  cleared_by_a_close request room m y o e =
+      obeys_next (Calls.Close request room) (λ d. rw (y, e) refl) ∙ ap in_run by-close
     where
-      by-close : toldBy (Calls.Close request room) ≡ record { owner = none; said = told.said; taken = told.taken }
+      by-close : told_by (Calls.Close request room) ≡ record { owner = none; said = told.said; taken = told.taken }
       by-close = rw (y, e, o, triad_is_refl m.triad) refl
 
   -- CLEARED BY SILENCE: after an expiry call later than its owner was heard last, plus the timeout
-  pub cleared-by-silence : (t : ℕ) (m : Contact) → timely t ≡ true → told.owner ≡ some m → m.at + m.timeout < t →
+  pub cleared_by_silence : (t : ℕ) (m : Contact) → timely t ≡ true → told.owner ≡ some m → m.at + m.timeout < t →
       (content_at (next (Calls.Expire t) before) i).run ≡ false
   unfolding expire_call expire_answer
-  cleared-by-silence t m y o k =
+  cleared_by_silence t m y o k =
       let z : silent t m ≡ true = same_test m.timeout m.at t ∙ lt-ltb (m.at + m.timeout) t k in
-      obeys-next (Calls.Expire t) (λ d. rw y refl) ∙ ap in_run (by-silence z)
+      obeys_next (Calls.Expire t) (λ d. rw y refl) ∙ ap in_run (by-silence z)
     where
-      by-silence : silent t m ≡ true → toldBy (Calls.Expire t) ≡ record { owner = none; said = told.said; taken = told.taken }
+      by-silence : silent t m ≡ true → told_by (Calls.Expire t) ≡ record { owner = none; said = told.said; taken = told.taken }
       by-silence z = rw (y, o, z) refl
 
 -- ---- WHAT IS IN RUN WAS HEARD
@@ -171,19 +171,19 @@ lately_heard t (some m) x y h k =
 
 module _ (u : Setup) (n i : ℕ) (there : place_of is_output u n ≡ some i) (seed : ℕ) (small : seed < 2 ^ 32) (cs : List Call) (few : early (accepted u n i there seed small cs) ≡ true) where
   -- IN RUN MEANS that the owner's frames were recorded
-  pub in-run-was-recorded : (content_at (run cs (fresh u seed)) i).run ≡ true → Recorded (word u n i there seed small cs)
-  in-run-was-recorded y =
+  pub in_run_was_recorded : (content_at (run cs (fresh u seed)) i).run ≡ true → Recorded (word u n i there seed small cs)
+  in_run_was_recorded y =
       let w = word u n i there seed small cs in
       owner_recorded w.owner w.said w.taken (always_spoken u n (shape_at u i).size cs (fresh u seed) no_word refl) (sym (lane-obeys u n i there seed small cs few).run ∙ y)
 
   -- AFTER AN EXPIRY CALL at time t, what is in run has an owner with a recorded frame at most its timeout before t
-  pub in-run-was-heard : (t : ℕ) → timely t ≡ true → (content_at (next (Calls.Expire t) (run cs (fresh u seed))) i).run ≡ true →
+  pub in_run_was_heard : (t : ℕ) → timely t ≡ true → (content_at (next (Calls.Expire t) (run cs (fresh u seed))) i).run ≡ true →
       Heard_lately t (word u n i there seed small (cs ++ (Calls.Expire t ∷ [])))
   unfolding expire_call expire_answer
-  in-run-was-heard t y k =
+  in_run_was_heard t y k =
       let w = word u n i there seed small cs in
       let w' : Word = (word_of u n (shape_at u i).size).onExpire t w in
       let z : learnt (word_of u n (shape_at u i).size) (news (Calls.Expire t) (answer (Calls.Expire t) (run cs (fresh u seed)))) w ≡ w' = rw y refl in
-      let e : word u n i there seed small (cs ++ (Calls.Expire t ∷ [])) ≡ w' = history-next (word_of u n (shape_at u i).size) cs (Calls.Expire t) (fresh u seed) no_word ∙ z in
-      let r : in_run w' ≡ true = sym (obeys-next u n i there seed small cs few (Calls.Expire t) (λ d. rw y refl) ∙ ap in_run z) ∙ k in
+      let e : word u n i there seed small (cs ++ (Calls.Expire t ∷ [])) ≡ w' = history_next (word_of u n (shape_at u i).size) cs (Calls.Expire t) (fresh u seed) no_word ∙ z in
+      let r : in_run w' ≡ true = sym (obeys_next u n i there seed small cs few (Calls.Expire t) (λ d. rw y refl) ∙ ap in_run z) ∙ k in
       subst (Heard_lately t) (sym e) (lately_heard t w.owner w.said w.taken (always_spoken u n (shape_at u i).size cs (fresh u seed) no_word refl) r)

@@ -19,10 +19,10 @@ use Rattle.rules.specs.Calls.{Call, run}
 use Rattle.rules_isolation.specs.Survive.{triad_of, triad_is_true, triad_is_refl}
 use Rattle.rules_isolation.specs.Sound.{accepted}
 use Rattle.rules_steps.specs.Names.{Triad, ForwardOpen, Origin, Conn, Plan}
-use Rattle.rules_steps.specs.Steps.{log, history, both, both_history, Follows, run-follows, acceptance}
+use Rattle.rules_steps.specs.Steps.{log, history, both, both_history, Follows, run_follows, acceptance}
 use Rattle.rules_lastword.specs.Words.{Contact, contact_of, opens, early}
-use Rattle.rules_lastword.specs.Ids.{Ground, ground-follows, fresh-ground, next_is_new, fewer_early}
-use Rattle.rules_lastword.specs.Knows.{Known, Knows, knows-closing, knows-expiring, knows-hearing, knows-opening, knows-producing}
+use Rattle.rules_lastword.specs.Ids.{Ground, ground_follows, fresh_ground, next_is_new, fewer_early}
+use Rattle.rules_lastword.specs.Knows.{Known, Knows, knows-closing, knows-expiring, knows-hearing, knows-opening, knows_producing}
 
 -- an open under a triad
 abbrev pub asks_as : Triad → List ℕ → ForwardOpen → Bool
@@ -55,11 +55,11 @@ module _ (u : Setup) (seed : ℕ) (small : seed < 2 ^ 32) where
 
     stands : Follows (both opens (contact_of (asks_as k))) Stands
     stands =
-        let ground = ground-follows u seed small in
+        let ground = ground_follows u seed small in
         record {
           quiet = λ w.
               record {
-                producing = λ t s h. ((ground.quiet w.0).producing t s h.0, (λ y. knows-producing (has_triad k) w.1 t s (h.1 y)));
+                producing = λ t s h. ((ground.quiet w.0).producing t s h.0, (λ y. knows_producing (has_triad k) w.1 t s (h.1 y)));
                 setting = λ m j bytes s e h. ((ground.quiet w.0).setting m j bytes s e h.0, (λ y. let z = h.1 y in record { apart = z.apart; known = z.known }));
                 reading = λ m j s e h. ((ground.quiet w.0).reading m j s e h.0, (λ y. let z = h.1 y in record { apart = z.apart; known = z.known }));
                 noting = λ s h. ((ground.quiet w.0).noting s h.0, (λ y. noting w.1 s (h.1 y)));
@@ -79,7 +79,7 @@ module _ (u : Setup) (seed : ℕ) (small : seed < 2 ^ 32) where
 
     known : (cs : List Call) → early (history opens (log cs (fresh u seed)) 0) ≡ true → Knows (has_triad k) (contact k cs) (run cs (fresh u seed))
     known cs y =
-        let a = run-follows (both opens (contact_of (asks_as k))) Stands stands cs (fresh u seed) (0, none) (fresh-ground u seed small, (λ z. fresh-knows)) in
+        let a = run_follows (both opens (contact_of (asks_as k))) Stands stands cs (fresh u seed) (0, none) (fresh_ground u seed small, (λ z. fresh-knows)) in
         let e = both_history opens (contact_of (asks_as k)) (log cs (fresh u seed)) (0, none) in
         (subst (λ (w : ℕ × Option Contact). Stands w (run cs (fresh u seed))) e a).1 y
 
@@ -91,20 +91,20 @@ module _ (u : Setup) (seed : ℕ) (small : seed < 2 ^ 32) where
   pub all_known : (cs : List Call) → early (history opens (log cs (fresh u seed)) 0) ≡ true → All (λ c. Known (contact (triad_of c) cs) c) (run cs (fresh u seed)).table
   all_known cs y = spread (λ k c. Known (contact k cs) c) (run cs (fresh u seed)).table (λ k. (known k cs y).known)
 
-  until-told : (w : Option Contact) (c : Conn) → Known w c → c.heard.until ≡ maybe 0 (λ m. m.at) w + timeout c
-  until-told none c h = absurd h
-  until-told (some m) c h = h.until ∙ ap (λ n. m.at + n) (sym h.timeout)
+  until_told : (w : Option Contact) (c : Conn) → Known w c → c.heard.until ≡ maybe 0 (λ m. m.at) w + timeout c
+  until_told none c h = absurd h
+  until_told (some m) c h = h.until ∙ ap (λ n. m.at + n) (sym h.timeout)
 
   -- HEARD MEANS HEARD
-  pub heard-is-heard : (cs : List Call) → early (history opens (log cs (fresh u seed)) 0) ≡ true →
+  pub heard_is_heard : (cs : List Call) → early (history opens (log cs (fresh u seed)) 0) ≡ true →
       All (λ c. c.heard.until ≡ heard_at (triad_of c) cs + timeout c) (run cs (fresh u seed)).table
-  heard-is-heard cs y =
-      ListLaws.all-to (λ c. Known (contact (triad_of c) cs) c) (λ c. c.heard.until ≡ heard_at (triad_of c) cs + timeout c)
-      (λ c h. until-told (contact (triad_of c) cs) c h) (run cs (fresh u seed)).table (all_known cs y)
+  heard_is_heard cs y =
+      ListLaws.all_to (λ c. Known (contact (triad_of c) cs) c) (λ c. c.heard.until ≡ heard_at (triad_of c) cs + timeout c)
+      (λ c h. until_told (contact (triad_of c) cs) c h) (run cs (fresh u seed)).table (all_known cs y)
 
   -- a connection is expired exactly where more than its timeout has gone by since it was heard last
-  pub expired-is-silent : (cs : List Call) (t : ℕ) → early (history opens (log cs (fresh u seed)) 0) ≡ true →
+  pub expired_is_silent : (cs : List Call) (t : ℕ) → early (history opens (log cs (fresh u seed)) 0) ≡ true →
       All (λ c. expired t c ≡ silent_too_long (timeout c) (heard_at (triad_of c) cs) t) (run cs (fresh u seed)).table
-  expired-is-silent cs t y =
-      ListLaws.all-to (λ c. c.heard.until ≡ heard_at (triad_of c) cs + timeout c) (λ c. expired t c ≡ silent_too_long (timeout c) (heard_at (triad_of c) cs) t)
-      (λ c e. ap (λ n. ltb n t) e ∙ sym (same_test (timeout c) (heard_at (triad_of c) cs) t)) (run cs (fresh u seed)).table (heard-is-heard cs y)
+  expired_is_silent cs t y =
+      ListLaws.all_to (λ c. c.heard.until ≡ heard_at (triad_of c) cs + timeout c) (λ c. expired t c ≡ silent_too_long (timeout c) (heard_at (triad_of c) cs) t)
+      (λ c e. ap (λ n. ltb n t) e ∙ sym (same_test (timeout c) (heard_at (triad_of c) cs) t)) (run cs (fresh u seed)).table (heard_is_heard cs y)

@@ -4,7 +4,7 @@ use Rattle.std.proofs.Common.{ap, arith}
 use borrow.Author.Tests.{leb-true, leb-false, le-leb, lt-leb, ltb-true, lt-ltb}
 use Rattle.rules.specs.declared.Verdict.TheVariants.{Planned}
 use Rattle.rules.specs.declared.Stream.TheVariants.{Joins, Own}
-use Rattle.rules.specs.Lists.{any, withoutFirst}
+use Rattle.rules.specs.Lists.{any, without_first}
 use Rattle.rules_laws.specs.ListLaws
 use Rattle.rules_laws.specs.ListLaws.{by_cases, either_way, All, eqb_true}
 use Rattle.rules.specs.State.{Setup, State}
@@ -16,11 +16,11 @@ use Rattle.rules.specs.Removal.{conn_triad, removed}
 use Rattle.rules.specs.Receiving.{Frame, meant_for, hear, received}
 use Rattle.rules.specs.Producing.{sends, produce_effect}
 use Rattle.rules.specs.Host.{next_event_effect}
-use Rattle.rules_isolation.specs.Ends.{all-removal}
+use Rattle.rules_isolation.specs.Ends.{all_removal}
 use Rattle.rules_isolation.specs.Seen.{hear_fixed, send_fixed}
 use Rattle.rules_steps.specs.Names.{ForwardOpen, Origin, Fixed, Plan, Stream}
-use Rattle.rules_steps.specs.Steps.{Removing, Follows, expiry-keeps}
-use Rattle.rules_isolation.specs.Sound.{Sound, sound-kept, fresh-sound, fixed-map, fixed-change}
+use Rattle.rules_steps.specs.Steps.{Removing, Follows, expiry_keeps}
+use Rattle.rules_isolation.specs.Sound.{Sound, sound_kept, fresh_sound, fixed_map, fixed_change}
 use Rattle.rules_lastword.specs.Words.{opens, few, early}
 
 -- where an id stands on a line from the first, on which ids go on behind 2^32 - 1
@@ -51,7 +51,7 @@ pub record Numbered (first d : ℕ) (s : State) : Type 0 where
 pub next_is_new : (first d : ℕ) (s : State) → Numbered first d s → any (λ c. eqb c.fixed.otid.0 s.nextId) s.table ≡ false
 next_is_new first d s h =
     ListLaws.none_is (λ c. eqb c.fixed.otid.0 s.nextId) s.table
-    (ListLaws.all-to (λ c. along first c.fixed.otid.0 < along first s.nextId) (λ c. eqb c.fixed.otid.0 s.nextId ≡ false)
+    (ListLaws.all_to (λ c. along first c.fixed.otid.0 < along first s.nextId) (λ c. eqb c.fixed.otid.0 s.nextId ≡ false)
     (λ c k. by_cases (eqb c.fixed.otid.0 s.nextId)
     (λ y. let e = ap (along first) (eqb_true c.fixed.otid.0 s.nextId y) in absurd (omega (arith, e, k)))
     (λ n. n)) s.table h.ids)
@@ -79,7 +79,7 @@ module _ (first : ℕ) (small : first < 2 ^ 32) where
       record {
         upto = b.0;
         ids = ListLaws.all_append (λ c. along first c.fixed.otid.0 < m) s.table (new_conn t q g p s.nextId)
-            (ListLaws.all-to (λ c. along first c.fixed.otid.0 < along first s.nextId) (λ c. along first c.fixed.otid.0 < m) (λ c z. let y = b.1 in omega (arith, y, z)) s.table h.ids)
+            (ListLaws.all_to (λ c. along first c.fixed.otid.0 < along first s.nextId) (λ c. along first c.fixed.otid.0 < m) (λ c z. let y = b.1 in omega (arith, y, z)) s.table h.ids)
             b.1;
       }
 
@@ -98,69 +98,69 @@ pub fewer_early : (d : ℕ) → early (suc d) ≡ true → early d ≡ true
 fewer_early d y = let k = ltb-true (suc d) few y in lt-ltb d few (omega arith)
 
 module _ (u : Setup) (seed : ℕ) (small : seed < 2 ^ 32) where
-  ground-removing : (d : ℕ) → Removing (Ground u seed d)
+  ground_removing : (d : ℕ) → Removing (Ground u seed d)
   unfolding removed
-  ground-removing d fault why p c s e h =
+  ground_removing d fault why p c s e h =
       record {
-        sound = (sound-kept u).removing fault why p c s e h.sound;
+        sound = (sound_kept u).removing fault why p c s e h.sound;
         ids = λ y. let n = h.ids y in
             record {
               upto = n.upto;
-              ids = all-removal (λ c. along (first_id seed) c.fixed.otid.0 < along (first_id seed) s.nextId) (λ x z k. k) c (withoutFirst p s.table)
+              ids = all_removal (λ c. along (first_id seed) c.fixed.otid.0 < along (first_id seed) s.nextId) (λ x z k. k) c (without_first p s.table)
                   (ListLaws.all_without (λ c. along (first_id seed) c.fixed.otid.0 < along (first_id seed) s.nextId) p s.table n.ids);
             };
       }
 
-  ground-producing : (d t : ℕ) (s : State) → Ground u seed d s → Ground u seed d (produce_effect t s)
+  ground_producing : (d t : ℕ) (s : State) → Ground u seed d s → Ground u seed d (produce_effect t s)
   unfolding produce_effect
-  ground-producing d t s h =
+  ground_producing d t s h =
       let P : Fixed → Type 0 = λ f. along (first_id seed) f.otid.0 < along (first_id seed) s.nextId in
       record {
-        sound = (sound-kept u).quiet.producing t s h.sound;
-        ids = λ y. let n = h.ids y in record { upto = n.upto; ids = fixed-map (sends t) (send_fixed t) P s.table n.ids };
+        sound = (sound_kept u).quiet.producing t s h.sound;
+        ids = λ y. let n = h.ids y in record { upto = n.upto; ids = fixed_map (sends t) (send_fixed t) P s.table n.ids };
       }
 
-  ground-hearing : (d t from : ℕ) (f : Frame) (s : State) → Ground u seed d s → Ground u seed d (received t from f s)
+  ground_hearing : (d t from : ℕ) (f : Frame) (s : State) → Ground u seed d s → Ground u seed d (received t from f s)
   unfolding received
-  ground-hearing d t from f s h =
+  ground_hearing d t from f s h =
       let P : Fixed → Type 0 = λ f. along (first_id seed) f.otid.0 < along (first_id seed) s.nextId in
       record {
-        sound = (sound-kept u).hearing t from f s h.sound;
-        ids = λ y. let n = h.ids y in record { upto = n.upto; ids = fixed-change (hear t f) (hear_fixed t f) P (meant_for from f) s.table n.ids };
+        sound = (sound_kept u).hearing t from f s h.sound;
+        ids = λ y. let n = h.ids y in record { upto = n.upto; ids = fixed_change (hear t f) (hear_fixed t f) P (meant_for from f) s.table n.ids };
       }
 
-  ground-noting : (d : ℕ) (s : State) → Ground u seed d s → Ground u seed d (next_event_effect s)
+  ground_noting : (d : ℕ) (s : State) → Ground u seed d s → Ground u seed d (next_event_effect s)
   unfolding next_event_effect
-  ground-noting d s h =
-      record { sound = (sound-kept u).quiet.noting s h.sound; ids = λ y. let n = h.ids y in record { upto = n.upto; ids = n.ids } }
+  ground_noting d s h =
+      record { sound = (sound_kept u).quiet.noting s h.sound; ids = λ y. let n = h.ids y in record { upto = n.upto; ids = n.ids } }
 
-  ground-opening : (t : ℕ) (request : List ℕ) (q : ForwardOpen) (g : Origin) (p : Plan) (s : State) (d : ℕ) → verdict_of request q s ≡ Planned p → Ground u seed d s →
+  ground_opening : (t : ℕ) (request : List ℕ) (q : ForwardOpen) (g : Origin) (p : Plan) (s : State) (d : ℕ) → verdict_of request q s ≡ Planned p → Ground u seed d s →
       Ground u seed (suc d) (opened t q g (config_bytes request q) p s)
-  ground-opening t request q g p s d e h =
+  ground_opening t request q g p s d e h =
       record {
-        sound = (sound-kept u).opening t request q g p s e h.sound;
+        sound = (sound_kept u).opening t request q g p s e h.sound;
         ids = λ y. opening (first_id seed) (first_small seed small) t q g (config_bytes request q) p s d (ltb-true (suc d) few y) (h.ids (fewer_early d y));
       }
 
-  pub ground-follows : Follows opens (Ground u seed)
-  ground-follows =
+  pub ground_follows : Follows opens (Ground u seed)
+  ground_follows =
       record {
         quiet = λ d.
             record {
-              producing = ground-producing d;
-              setting = λ n i bytes s e h. record { sound = (sound-kept u).quiet.setting n i bytes s e h.sound; ids = λ y. let k = h.ids y in record { upto = k.upto; ids = k.ids } };
-              reading = λ n i s e h. record { sound = (sound-kept u).quiet.reading n i s e h.sound; ids = λ y. let k = h.ids y in record { upto = k.upto; ids = k.ids } };
-              noting = ground-noting d;
+              producing = ground_producing d;
+              setting = λ n i bytes s e h. record { sound = (sound_kept u).quiet.setting n i bytes s e h.sound; ids = λ y. let k = h.ids y in record { upto = k.upto; ids = k.ids } };
+              reading = λ n i s e h. record { sound = (sound_kept u).quiet.reading n i s e h.sound; ids = λ y. let k = h.ids y in record { upto = k.upto; ids = k.ids } };
+              noting = ground_noting d;
             };
-        opening = ground-opening;
-        closing = λ k c s d e h. ground-removing d false Closed (conn_triad k) c s e h;
-        expiring = λ t s d h. expiry-keeps (Ground u seed d) (ground-removing d) t s h;
-        hearing = λ t from f s d h. ground-hearing d t from f s h;
+        opening = ground_opening;
+        closing = λ k c s d e h. ground_removing d false Closed (conn_triad k) c s e h;
+        expiring = λ t s d h. expiry_keeps (Ground u seed d) (ground_removing d) t s h;
+        hearing = λ t from f s d h. ground_hearing d t from f s h;
       }
 
-  pub fresh-ground : Ground u seed 0 (fresh u seed)
+  pub fresh_ground : Ground u seed 0 (fresh u seed)
   unfolding fresh
-  fresh-ground = record { sound = fresh-sound u seed; ids = λ y. record { upto = first-along (first_id seed); ids = tt } }
+  fresh_ground = record { sound = fresh_sound u seed; ids = λ y. record { upto = first-along (first_id seed); ids = tt } }
     where
       first-along : (first : ℕ) → along first first ≤ first + 2 * 0
       first-along first = let a = le-leb first first (omega arith) in rw a (omega arith)

@@ -12,7 +12,7 @@ use Rattle.base_cells.specs.Records.{enc_fields, le_mid}
 use Rattle.wire_rules.specs.Timeout.{timeout_of}
 use Rattle.wire_rules.specs.Replies.{open_reply}
 use Rattle.rules.specs.declared.Event.TheVariants.{Closed}
-use Rattle.rules.specs.Lists.{find, any, changeFirst, withoutFirst, maybe, is_some}
+use Rattle.rules.specs.Lists.{find, any, change_first, without_first, maybe, is_some}
 use Rattle.rules_laws.specs.ListLaws
 use Rattle.rules_laws.specs.ListLaws.{by_cases, clash, either_way, All, eqb_true, and_left, and_right}
 use Rattle.rules_laws.specs.ExpiryLaws.{same_test}
@@ -22,13 +22,13 @@ use Rattle.rules.specs.Opening.{new_conn, new_fixed, new_heard, reply_of, opened
 use Rattle.rules.specs.Removal.{after_removal, conn_triad, removed, expired, expire_effect}
 use Rattle.rules.specs.Receiving.{Frame, meant_for, newer, recorded, hear, received}
 use Rattle.rules.specs.Producing.{due, sends, produce_effect}
-use Rattle.rules_isolation.specs.Ends.{all-removal}
-use Rattle.rules_isolation.specs.Apart.{Apart, apart-without, apart-change, apart-map, apart-removal, apart-append}
+use Rattle.rules_isolation.specs.Ends.{all_removal}
+use Rattle.rules_isolation.specs.Apart.{Apart, apart_without, apart-change, apart-map, apart_removal, apart_append}
 use Rattle.rules_isolation.specs.Survive.{Distinct, triad_of, triad_is_true}
 use Rattle.rules_isolation.specs.Seen.{hear_fixed, send_fixed}
 use Rattle.rules_faults.specs.RunBit.{none_silent}
 use Rattle.rules_steps.specs.Names.{Triad, ForwardOpen, Origin, Fixed, Sent, Conn, Plan}
-use Rattle.rules_steps.specs.Steps.{Removing, expiry-keeps, acceptance}
+use Rattle.rules_steps.specs.Steps.{Removing, expiry_keeps, acceptance}
 use Rattle.rules_lastword.specs.Words.{Contact, met, is_for, in_order, is_news, speaks, noted, silent, contact_of}
 
 pub or_yes : (b : Bool) → b || true ≡ true
@@ -118,7 +118,7 @@ abbrev same_id : Fixed → Fixed → Bool
 same_id a b = eqb a.otid.0 b.otid.0 && eqb a.originator b.originator
 
 -- after a removal by its triad none has that triad
-gone_triad : (k : Triad) (l : List Conn) → Distinct l → any (conn_triad k) (withoutFirst (conn_triad k) l) ≡ false
+gone_triad : (k : Triad) (l : List Conn) → Distinct l → any (conn_triad k) (without_first (conn_triad k) l) ≡ false
 gone_triad k [] d = refl
 gone_triad k (x ∷ xs) d =
     by_cases (conn_triad k x)
@@ -143,61 +143,61 @@ module _ (g : Fixed → Bool) where
 
   -- of what passes nothing, anything is so; and the other way round
   vacuous : (w : Option Contact) (l : List Conn) → any passes l ≡ false → All (Ears w) l
-  vacuous w l n = ListLaws.all-to (λ c. passes c ≡ false) (Ears w) (λ c z y. clash (passes c) y z) l (ListLaws.none_passes passes l n)
+  vacuous w l n = ListLaws.all_to (λ c. passes c ≡ false) (Ears w) (λ c z y. clash (passes c) y z) l (ListLaws.none_passes passes l n)
 
-  pub none-known : (l : List Conn) → All (λ c. g c.fixed ≡ true → Known none c) l → any passes l ≡ false
-  none-known l a = ListLaws.none_is passes l (ListLaws.all-to (Ears none) (λ c. passes c ≡ false) (λ c h. by_cases (passes c) (λ y. absurd (h y)) (λ n. n)) l a)
+  pub none_known : (l : List Conn) → All (λ c. g c.fixed ≡ true → Known none c) l → any passes l ≡ false
+  none_known l a = ListLaws.none_is passes l (ListLaws.all_to (Ears none) (λ c. passes c ≡ false) (λ c h. by_cases (passes c) (λ y. absurd (h y)) (λ n. n)) l a)
 
   -- of two that pass none stands apart
   pub sole : (x : Conn) (xs : List Conn) → any (λ y. crowds x.fixed y.fixed) xs ≡ false → passes x ≡ true → any passes xs ≡ false
   sole x xs n v =
       ListLaws.none_is passes xs
-      (ListLaws.all-to (λ y. crowds x.fixed y.fixed ≡ false) (λ y. passes y ≡ false)
+      (ListLaws.all_to (λ y. crowds x.fixed y.fixed ≡ false) (λ y. passes y ≡ false)
       (λ y k. by_cases (passes y)
       (λ z. clash (crowds x.fixed y.fixed) (ap (λ d. d && (passes x || same_id x.fixed y.fixed)) z ∙ ap (λ d. d || same_id x.fixed y.fixed) v) k)
       (λ z. z)) xs (ListLaws.none_passes (λ y. crowds x.fixed y.fixed) xs n))
 
   -- once it is gone none passes
-  pub gone : (p : Conn → Bool) (c : Conn) (l : List Conn) → find p l ≡ some c → passes c ≡ true → Apart crowds l → any passes (withoutFirst p l) ≡ false
+  pub gone : (p : Conn → Bool) (c : Conn) (l : List Conn) → find p l ≡ some c → passes c ≡ true → Apart crowds l → any passes (without_first p l) ≡ false
   gone p c [] e y d = refl
   gone p c (x ∷ xs) e y d =
       by_cases (p x)
       (λ k. let s : some x ≡ some c = rw k at e in let z : x ≡ c = cc in rw k (sole x xs d.0 (ap passes z ∙ y)))
       (λ k. let f : find p xs ≡ some c = rw k at e in
-      let n : passes x ≡ false = by_cases (passes x) (λ z. clash (any passes xs) (ListLaws.find-any p passes c xs f y) (sole x xs d.0 z)) (λ z. z) in
+      let n : passes x ≡ false = by_cases (passes x) (λ z. clash (any passes xs) (ListLaws.find_any p passes c xs f y) (sole x xs d.0 z)) (λ z. z) in
       rw (k, n) (gone p c xs f y d.1))
 
   -- A REMOVAL
-  pub knows-removing : (w : Option Contact) → Removing (Knows w)
+  pub knows_removing : (w : Option Contact) → Removing (Knows w)
   unfolding removed
-  knows-removing w fault why p c s e h =
+  knows_removing w fault why p c s e h =
       record {
-        apart = apart-removal crowds c (withoutFirst p s.table) (apart-without crowds p s.table h.apart);
-        known = all-removal (Ears w) (λ x z k y. known_sent w x z (k y)) c (withoutFirst p s.table) (ListLaws.all_without (Ears w) p s.table h.known);
+        apart = apart_removal crowds c (without_first p s.table) (apart_without crowds p s.table h.apart);
+        known = all_removal (Ears w) (λ x z k y. known_sent w x z (k y)) c (without_first p s.table) (ListLaws.all_without (Ears w) p s.table h.known);
       }
 
   -- A CLOSE: of its own connection nothing is known any more
-  closed-known : (k : Triad) (w : Option Contact) (l : List Conn) → any (conn_triad k) l ≡ false → All (Ears w) l →
+  closed_known : (k : Triad) (w : Option Contact) (l : List Conn) → any (conn_triad k) l ≡ false → All (Ears w) l →
       All (Ears (maybe none (λ m. cond (triad_is k m.triad) none (some m)) w)) l
-  closed-known k none l n a = a
-  closed-known k (some m) l n a =
+  closed_known k none l n a = a
+  closed_known k (some m) l n a =
       by_cases (triad_is k m.triad)
       (λ y. rw y (ListLaws.all_two (λ c. conn_triad k c ≡ false) (Ears (some m)) (Ears none)
       (λ c z h v. clash (conn_triad k c) (ap (triad_is k) (h v).triad ∙ y) z) l (ListLaws.none_passes (conn_triad k) l n) a))
       (λ y. rw y a)
 
-  none-triad : (k : Triad) (c : Conn) (l : List Conn) → Distinct l → any (conn_triad k) (after_removal c (withoutFirst (conn_triad k) l)) ≡ false
-  none-triad k c l d =
-      ListLaws.none_is (conn_triad k) (after_removal c (withoutFirst (conn_triad k) l))
-      (all-removal (λ x. conn_triad k x ≡ false) (λ x z h. h) c (withoutFirst (conn_triad k) l) (ListLaws.none_passes (conn_triad k) (withoutFirst (conn_triad k) l) (gone_triad k l d)))
+  none_triad : (k : Triad) (c : Conn) (l : List Conn) → Distinct l → any (conn_triad k) (after_removal c (without_first (conn_triad k) l)) ≡ false
+  none_triad k c l d =
+      ListLaws.none_is (conn_triad k) (after_removal c (without_first (conn_triad k) l))
+      (all_removal (λ x. conn_triad k x ≡ false) (λ x z h. h) c (without_first (conn_triad k) l) (ListLaws.none_passes (conn_triad k) (without_first (conn_triad k) l) (gone_triad k l d)))
 
   module _ (asks : List ℕ → ForwardOpen → Bool) where
     pub knows-closing : (k : Triad) (c : Conn) (s : State) (w : Option Contact) → Distinct s.table → find (conn_triad k) s.table ≡ some c → Knows w s →
-        Knows ((contact_of asks).onClose k w) (removed false Closed c (withoutFirst (conn_triad k) s.table) s)
+        Knows ((contact_of asks).onClose k w) (removed false Closed c (without_first (conn_triad k) s.table) s)
     unfolding removed
     knows-closing k c s w d e h =
-        let b = knows-removing w false Closed (conn_triad k) c s e h in
-        record { apart = b.apart; known = closed-known k w (after_removal c (withoutFirst (conn_triad k) s.table)) (none-triad k c s.table d) b.known }
+        let b = knows_removing w false Closed (conn_triad k) c s e h in
+        record { apart = b.apart; known = closed_known k w (after_removal c (without_first (conn_triad k) s.table)) (none_triad k c s.table d) b.known }
 
     -- AN EXPIRY: a connection that was silent for too long is gone
     silent-known : (t : ℕ) (w : Option Contact) (l : List Conn) → All (λ c. expired t c ≡ false) l → All (Ears w) l →
@@ -210,7 +210,7 @@ module _ (g : Fixed → Bool) where
 
     pub knows-expiring : (t : ℕ) (s : State) (w : Option Contact) → Knows w s → Knows ((contact_of asks).onExpire t w) (expire_effect t s)
     knows-expiring t s w h =
-        let b = expiry-keeps (Knows w) (knows-removing w) t s h in
+        let b = expiry_keeps (Knows w) (knows_removing w) t s h in
         record { apart = b.apart; known = silent-known t w (expire_effect t s).table (none_silent t s) b.known }
 
     -- A FRAME
@@ -247,7 +247,7 @@ module _ (g : Fixed → Bool) where
         (λ z. z)
 
     heard-known : (t from : ℕ) (f : Frame) (m : Contact) (l : List Conn) → Apart crowds l → All (Ears (some m)) l →
-        All (Ears (some (told t from f m))) (changeFirst (meant_for from f) (hear t f) l)
+        All (Ears (some (told t from f m))) (change_first (meant_for from f) (hear t f) l)
     heard-known t from f m [] d a = tt
     heard-known t from f m (x ∷ xs) d a =
         by_cases (meant_for from f x)
@@ -263,7 +263,7 @@ module _ (g : Fixed → Bool) where
         ))
 
     heard-any : (t from : ℕ) (f : Frame) (w : Option Contact) (l : List Conn) → Apart crowds l → All (Ears w) l →
-        All (Ears ((contact_of asks).onFrame t from f w)) (changeFirst (meant_for from f) (hear t f) l)
+        All (Ears ((contact_of asks).onFrame t from f w)) (change_first (meant_for from f) (hear t f) l)
     heard-any t from f none l d a = ListLaws.all-change (Ears none) (meant_for from f) (hear t f) (λ x h y. h (sym (ap g (hear_fixed t f x)) ∙ y)) l a
     heard-any t from f (some m) l d a = heard-known t from f m l d a
 
@@ -329,12 +329,12 @@ module _ (g : Fixed → Bool) where
         let now = some (met t q o (acceptance q o p s.nextId)) in
         subst (λ b. Knows (cond b now w) (opened t q o bytes p s)) (sym (sym same ∙ y))
         (record {
-          apart = apart-append crowds c l (alone c l a new) h.apart;
+          apart = apart_append crowds c l (alone c l a new) h.apart;
           known = ListLaws.all_append (Ears now) l c (vacuous now l a) (λ z. new-ear t q o p s.nextId);
         }))
         (λ n. subst (λ b. Knows (cond b (some (met t q o (acceptance q o p s.nextId))) w) (opened t q o bytes p s)) (sym (sym same ∙ n))
         (record {
-          apart = apart-append crowds c l (ListLaws.none_is (λ x. crowds x.fixed c.fixed) l (ListLaws.all_from (λ x. crowds x.fixed c.fixed ≡ false) (λ x. ap (λ b. b && (passes x || same_id x.fixed c.fixed)) n) l)) h.apart;
+          apart = apart_append crowds c l (ListLaws.none_is (λ x. crowds x.fixed c.fixed) l (ListLaws.all_from (λ x. crowds x.fixed c.fixed ≡ false) (λ x. ap (λ b. b && (passes x || same_id x.fixed c.fixed)) n) l)) h.apart;
           known = ListLaws.all_append (Ears w) l c h.known (λ z. clash (passes c) z n);
         }))
       where
@@ -347,13 +347,13 @@ module _ (g : Fixed → Bool) where
             (ListLaws.none_passes passes l a) (ListLaws.none_passes (λ x. eqb x.fixed.otid.0 c.fixed.otid.0) l new))
 
   -- what is sent says nothing of what was heard
-  sends-known : (w : Option Contact) (t : ℕ) (c : Conn) → Ears w c → Ears w (sends t c)
-  sends-known w t c h = either_way (Ears w) (due t c) (λ y. known_sent w c _ (h y)) h
+  sends_known : (w : Option Contact) (t : ℕ) (c : Conn) → Ears w c → Ears w (sends t c)
+  sends_known w t c h = either_way (Ears w) (due t c) (λ y. known_sent w c _ (h y)) h
 
-  pub knows-producing : (w : Option Contact) (t : ℕ) (s : State) → Knows w s → Knows w (produce_effect t s)
+  pub knows_producing : (w : Option Contact) (t : ℕ) (s : State) → Knows w s → Knows w (produce_effect t s)
   unfolding produce_effect
-  knows-producing w t s h =
+  knows_producing w t s h =
       record {
         apart = apart-map crowds (sends t) (send_fixed t) s.table h.apart;
-        known = ListLaws.all_mapped (sends t) (Ears w) (Ears w) (sends-known w t) s.table h.known;
+        known = ListLaws.all_mapped (sends t) (Ears w) (Ears w) (sends_known w t) s.table h.known;
       }

@@ -10,7 +10,7 @@ use Rattle.base_cells.specs.Numbers.{le}
 use Rattle.rules.specs.declared.AssemblyKind.TheVariants.{Input, Output, Config}
 use Rattle.rules.specs.declared.Verdict.TheVariants.{Planned}
 use Rattle.rules.specs.declared.Stores.TheVariants.{Nothing, Into}
-use Rattle.rules.specs.Lists.{any, changeAt, maybe, same, is_some}
+use Rattle.rules.specs.Lists.{any, change_at, maybe, same, is_some}
 use Rattle.rules_laws.specs.ListLaws
 use Rattle.rules_laws.specs.ListLaws.{by_cases, clash, and_left, and_right, eqb_true, not_true}
 use Rattle.rules.specs.State.{Setup, Shape, no_shape, shape_at, Content, no_content, State, fixeds, is_output, is_config, is_owner}
@@ -76,10 +76,10 @@ lone_owner i l o j h y =
     subst (λ j. any (owner_of j) l ≡ false) k (sym (ListLaws.any-map (λ c. c.fixed) (owns j) (owner_of j) (λ c. refl) l) ∙ m)
 
 module _ (u : Setup) (n i : ℕ) (there : place_of is_output u n ≡ some i) where
-  asks-is : (a : ConnectionPath) → (is_owner (kind_of u (ot_point a)) ≡ true → is_some (place_of is_output u (ot_point a)) ≡ true) →
+  asks_is : (a : ConnectionPath) → (is_owner (kind_of u (ot_point a)) ≡ true → is_some (place_of is_output u (ot_point a)) ≡ true) →
       is_owner (kind_of u (ot_point a)) && eqb (cond (is_owner (kind_of u (ot_point a))) (place_or0 (place_of is_output u (ot_point a))) 0) i ≡
       not (eqb (ot_point a) u.inputOnly) && not (eqb (ot_point a) u.listenOnly) && eqb (ot_point a) n
-  asks-is a h =
+  asks_is a h =
       let point = ot_point a in
       let o = is_owner (kind_of u point) in
       asked_same o (eqb (cond o (place_or0 (place_of is_output u point)) 0) i) (eqb point n)
@@ -96,7 +96,7 @@ module _ (u : Setup) (n i : ℕ) (there : place_of is_output u n ≡ some i) whe
       let named = CheckLaws.must_none (not (is_owner (kind_of u (ot_point a))) || is_some (place_of is_output u (ot_point a))) _ points in
       subst (Admits u n i request q s) x.1
       (record {
-        asks = asks-is a (λ y. sym (ap (λ b. not b || is_some (place_of is_output u (ot_point a))) y) ∙ named);
+        asks = asks_is a (λ y. sym (ap (λ b. not b || is_some (place_of is_output u (ot_point a))) y) ∙ named);
         lone = lone_owner i s.table (is_owner (kind_of u (ot_point a))) _ (CheckLaws.must_none _ _ x.0.owner);
         config = λ j k. (at_place is_config u (config_point a) j (stores_at (eqb a.datalen 0) (has_config a) (place_of is_config u (config_point a)) j k)).0;
       })
@@ -170,12 +170,12 @@ unfolding deliver
 as_said f a = by_cases (changes f a) (λ y. rw y (refl, refl)) (λ n. rw n (unchanged f a n))
 
 -- ---- lists
-pub change_there : (i : ℕ) (f : Content → Content) (l : List Content) → i < length l → get_or (changeAt i f l) i no_content ≡ f (get_or l i no_content)
+pub change_there : (i : ℕ) (f : Content → Content) (l : List Content) → i < length l → get_or (change_at i f l) i no_content ≡ f (get_or l i no_content)
 change_there i f [] h = absurd (omega (arith, h))
 change_there zero f (a ∷ l) h = refl
 change_there (suc i) f (a ∷ l) h = change_there i f l (omega (arith, h))
 
-pub length_at : (j : ℕ) (f : Content → Content) (l : List Content) → length (changeAt j f l) ≡ length l
+pub length_at : (j : ℕ) (f : Content → Content) (l : List Content) → length (change_at j f l) ≡ length l
 length_at j f [] = refl
 length_at zero f (a ∷ l) = refl
 length_at (suc j) f (a ∷ l) = ap suc (length_at j f l)

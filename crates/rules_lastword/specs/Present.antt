@@ -4,39 +4,39 @@ use Rattle.std.specs.Prelude.{◌≡◌, refl, List, Bool, true, false, cond, �
 use Rattle.std.proofs.Math.Path.{sym, ap}
 use Rattle.std.proofs.Common.{◌∙◌, subst, arith}
 use Rattle.std.proofs.Math.Option.{Option, none, some}
-use Rattle.rules.specs.Lists.{find, any, withoutFirst, maybe, is_some}
+use Rattle.rules.specs.Lists.{find, any, without_first, maybe, is_some}
 use Rattle.rules_laws.specs.ListLaws
 use Rattle.rules_laws.specs.ListLaws.{by_cases, clash, All}
 use Rattle.rules.specs.State.{State, triad_is, is_listener}
 use Rattle.rules.specs.Removal.{after_removal, remove_first, conn_triad, expired, expire_effect}
-use Rattle.rules_isolation.specs.Ends.{Ends, done, step, reaches, all-removal, any-removal}
-use Rattle.rules_isolation.specs.Expiry.{expire-table}
+use Rattle.rules_isolation.specs.Ends.{Ends, done, step, reaches, all_removal, any_removal}
+use Rattle.rules_isolation.specs.Expiry.{expire_table}
 use Rattle.rules_steps.specs.Names.{Triad, Fixed, Conn}
 use Rattle.rules_lastword.specs.Words.{Contact, silent}
-use Rattle.rules_lastword.specs.Knows.{Known, passes, silent_is, none-known}
+use Rattle.rules_lastword.specs.Knows.{Known, passes, silent_is, none_known}
 
 module _ (g : Fixed → Bool) (mute : (c : Conn) → is_listener c.fixed.kind ≡ true → g c.fixed ≡ false) where
   abbrev Ears : Option Contact → Conn → Type 0
   Ears w c = g c.fixed ≡ true → Known w c
 
   pub any_left : (p : Conn → Bool) (c : Conn) (l : List Conn) → find p l ≡ some c →
-      any (passes g) l ≡ passes g c || any (passes g) (after_removal c (withoutFirst p l))
-  any_left p c l e = any-removal (passes g) (λ x s. refl) p c l e (ListLaws.all_from (λ x. is_listener x.fixed.kind ≡ true → passes g x ≡ false) mute l)
+      any (passes g) l ≡ passes g c || any (passes g) (after_removal c (without_first p l))
+  any_left p c l e = any_removal (passes g) (λ x s. refl) p c l e (ListLaws.all_from (λ x. is_listener x.fixed.kind ≡ true → passes g x ≡ false) mute l)
 
   -- A CLOSE
-  pub present-closing : (k : Triad) (c : Conn) (l : List Conn) (w : Option Contact) → find (conn_triad k) l ≡ some c → All (λ c. g c.fixed ≡ true → Known w c) l →
-      let left = after_removal c (withoutFirst (conn_triad k) l) in
+  pub present_closing : (k : Triad) (c : Conn) (l : List Conn) (w : Option Contact) → find (conn_triad k) l ≡ some c → All (λ c. g c.fixed ≡ true → Known w c) l →
+      let left = after_removal c (without_first (conn_triad k) l) in
       let w' = maybe none (λ m. cond (triad_is k m.triad) none (some m)) w in
       All (λ c. g c.fixed ≡ true → Known w' c) left → is_some w ≡ any (passes g) l → is_some w' ≡ any (passes g) left
-  present-closing k c l none e a b h = sym (none-known g (after_removal c (withoutFirst (conn_triad k) l)) b)
-  present-closing k c l (some m) e a b h =
-      let left = after_removal c (withoutFirst (conn_triad k) l) in
+  present_closing k c l none e a b h = sym (none_known g (after_removal c (without_first (conn_triad k) l)) b)
+  present_closing k c l (some m) e a b h =
+      let left = after_removal c (without_first (conn_triad k) l) in
       by_cases (triad_is k m.triad)
-      (λ y. ap (λ b. is_some (cond b none (some m))) y ∙ sym (none-known g left (subst (λ b. All (Ears (cond b none (some m))) left) y b)))
+      (λ y. ap (λ b. is_some (cond b none (some m))) y ∙ sym (none_known g left (subst (λ b. All (Ears (cond b none (some m))) left) y b)))
       (λ n. let other : passes g c ≡ false =
       by_cases (passes g c)
       (λ v. let ear = ListLaws.all-find (Ears (some m)) (conn_triad k) c l e a v in
-      clash (triad_is k m.triad) (sym (ap (triad_is k) ear.triad) ∙ ListLaws.find-passes (conn_triad k) c l e) n)
+      clash (triad_is k m.triad) (sym (ap (triad_is k) ear.triad) ∙ ListLaws.find_passes (conn_triad k) c l e) n)
       (λ v. v) in
       ap (λ b. is_some (cond b none (some m))) n ∙ h ∙ any_left (conn_triad k) c l e ∙ ap (λ b. b || any (passes g) left) other)
 
@@ -44,26 +44,26 @@ module _ (g : Fixed → Bool) (mute : (c : Conn) → is_listener c.fixed.kind �
   abbrev spared : ℕ → Conn → Type 0
   spared t c = expired t c ≡ true → g c.fixed ≡ false
 
-  any-ends : (t : ℕ) {l r : List Conn} → Ends (expired t) l r → All (spared t) l → any (passes g) l ≡ any (passes g) r
-  any-ends t (done e) a = refl
-  any-ends t (step {l = l} c e d) a =
-      let rest = withoutFirst (expired t) l in
-      let other : passes g c ≡ false = ListLaws.all-find (spared t) (expired t) c l e a (ListLaws.find-passes (expired t) c l e) in
-      let b : All (spared t) (remove_first (expired t) l) = rw e (all-removal (spared t) (λ x s h. h) c rest (ListLaws.all_without (spared t) (expired t) l a)) in
+  any_ends : (t : ℕ) {l r : List Conn} → Ends (expired t) l r → All (spared t) l → any (passes g) l ≡ any (passes g) r
+  any_ends t (done e) a = refl
+  any_ends t (step {l = l} c e d) a =
+      let rest = without_first (expired t) l in
+      let other : passes g c ≡ false = ListLaws.all-find (spared t) (expired t) c l e a (ListLaws.find_passes (expired t) c l e) in
+      let b : All (spared t) (remove_first (expired t) l) = rw e (all_removal (spared t) (λ x s h. h) c rest (ListLaws.all_without (spared t) (expired t) l a)) in
       let is : remove_first (expired t) l ≡ after_removal c rest = rw e refl in
-      any_left (expired t) c l e ∙ ap (λ z. z || any (passes g) (after_removal c rest)) other ∙ sym (ap (any (passes g)) is) ∙ any-ends t d b
+      any_left (expired t) c l e ∙ ap (λ z. z || any (passes g) (after_removal c rest)) other ∙ sym (ap (any (passes g)) is) ∙ any_ends t d b
 
-  pub present-expiring : (t : ℕ) (s : State) (w : Option Contact) → All (λ c. g c.fixed ≡ true → Known w c) s.table →
+  pub present_expiring : (t : ℕ) (s : State) (w : Option Contact) → All (λ c. g c.fixed ≡ true → Known w c) s.table →
       let w' = maybe none (λ m. cond (silent t m) none (some m)) w in
       All (λ c. g c.fixed ≡ true → Known w' c) (expire_effect t s).table → is_some w ≡ any (passes g) s.table →
       is_some w' ≡ any (passes g) (expire_effect t s).table
   unfolding expire_effect
-  present-expiring t s none a b h = sym (none-known g (expire_effect t s).table b)
-  present-expiring t s (some m) a b h =
+  present_expiring t s none a b h = sym (none_known g (expire_effect t s).table b)
+  present_expiring t s (some m) a b h =
       by_cases (silent t m)
-      (λ y. ap (λ b. is_some (cond b none (some m))) y ∙ sym (none-known g (expire_effect t s).table (subst (λ b. All (Ears (cond b none (some m))) (expire_effect t s).table) y b)))
+      (λ y. ap (λ b. is_some (cond b none (some m))) y ∙ sym (none_known g (expire_effect t s).table (subst (λ b. All (Ears (cond b none (some m))) (expire_effect t s).table) y b)))
       (λ n. let heard : All (spared t) s.table =
-      ListLaws.all-to (Ears (some m)) (spared t)
+      ListLaws.all_to (Ears (some m)) (spared t)
       (λ c k x. by_cases (passes g c) (λ v. clash (silent t m) (sym (silent_is m t c (k v)) ∙ x) n) (λ v. v)) s.table a in
-      ap (λ b. is_some (cond b none (some m))) n ∙ h ∙ any-ends t (reaches (expired t) (length s.table) s.table (omega arith)) heard ∙
-      sym (ap (any (passes g)) (expire-table t (length s.table) s)))
+      ap (λ b. is_some (cond b none (some m))) n ∙ h ∙ any_ends t (reaches (expired t) (length s.table) s.table (omega arith)) heard ∙
+      sym (ap (any (passes g)) (expire_table t (length s.table) s)))

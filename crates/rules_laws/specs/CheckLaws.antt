@@ -100,36 +100,36 @@ placed is u n e =
     and_left (is a.kind) (eqb a.instance n) (place_is (Checks.is_at is n) u.assemblies no_shape e)
 
 module _ (u : Setup) (table : List Fixed) (o : ForwardOpen) (answer : PathAnswer) (a : Passed u table o answer) where
-  abbrev theRoles : Checks.Roles
-  theRoles = Checks.roles_of u (Checks.path_in answer)
+  abbrev the_roles : Checks.Roles
+  the_roles = Checks.roles_of u (Checks.path_in answer)
 
   abbrev p : ConnectionPath
   p = Checks.path_in answer
 
-  points-told : (is_some (Checks.place_of is_input u (Checks.to_point p)) ≡ true) ×
+  points_told : (is_some (Checks.place_of is_input u (Checks.to_point p)) ≡ true) ×
       (not (is_owner (Checks.kind_of u (Checks.ot_point p))) || is_some (Checks.place_of is_output u (Checks.ot_point p)) ≡ true)
   unfolding Checks.points_check
-  points-told =
+  points_told =
       let b = then_none _ _ a.points in
       let c = then_none _ _ b.1 in
       let d = then_none _ _ c.1 in
       (must_none _ _ d.1, must_none _ _ d.0)
 
   -- the input is an input assembly
-  pub input-is : is_input (shape_at u theRoles.input).kind ≡ true
+  pub input_is : is_input (shape_at u the_roles.input).kind ≡ true
   unfolding Checks.roles_of
-  input-is = placed is_input u (Checks.to_point p) points-told.0
+  input_is = placed is_input u (Checks.to_point p) points_told.0
 
   -- an owner's output is an output assembly
-  pub output_is : is_owner theRoles.kind ≡ true → is_output (shape_at u theRoles.output).kind ≡ true
+  pub output_is : is_owner the_roles.kind ≡ true → is_output (shape_at u the_roles.output).kind ≡ true
   unfolding Checks.roles_of
   output_is y =
-      let e : is_some (Checks.place_of is_output u (Checks.ot_point p)) ≡ true = by_cases (is_some (Checks.place_of is_output u (Checks.ot_point p))) (λ z. z) (λ z. clash true refl (cc points-told.1)) in
+      let e : is_some (Checks.place_of is_output u (Checks.ot_point p)) ≡ true = by_cases (is_some (Checks.place_of is_output u (Checks.ot_point p))) (λ z. z) (λ z. clash true refl (cc points_told.1)) in
       rw y (placed is_output u (Checks.ot_point p) e)
 
   -- no connection has its triad
-  pub triad-free : any (Checks.has_triad o.triad) table ≡ false
+  pub triad_free : any (Checks.has_triad o.triad) table ≡ false
   unfolding Checks.triad_check
-  triad-free =
+  triad_free =
       let e = must_none (not (any (Checks.has_triad o.triad) table)) _ a.triad in
       by_cases (any (Checks.has_triad o.triad) table) (λ y. clash true refl (cc)) (λ n. n)

@@ -2,7 +2,7 @@
 use Rattle.std.specs.Prelude.{◌≡◌, refl, List, [], ◌∷◌, ◌++◌, map, Bool, true, false, cond, not, ◌&&◌, ◌||◌, ℕ, suc, ◌+◌, ◌≤◌, length, T, eqb}
 use Rattle.std.proofs.Common.{sym, subst, arith, eqb→eq}
 use Rattle.std.proofs.Math.Option.{Option, none, some}
-use Rattle.rules.specs.Lists.{maybe, find, any, keep, changeFirst, withoutFirst}
+use Rattle.rules.specs.Lists.{maybe, find, any, keep, change_first, without_first}
 
 -- what is shown of both values of a test
 pub by_cases {ℓ} : {P : Type ℓ} (b : Bool) → (b ≡ true → P) → (b ≡ false → P) → P
@@ -52,24 +52,24 @@ module _ {A : Type 0} where
   All P [] = Unit {0}
   All P (x ∷ xs) = P x × All P xs
 
-  pub any-keep : (s g : A → Bool) → ((x : A) → s x ≡ true → g x ≡ true) → (l : List A) → any s (keep g l) ≡ any s l
-  any-keep s g h [] = refl
-  any-keep s g h (x ∷ xs) = by_cases (s x) (λ e. cc (h x e)) λ e. by_cases (g x) (λ k. cc (any-keep s g h xs)) (λ k. cc (any-keep s g h xs))
+  pub any_keep : (s g : A → Bool) → ((x : A) → s x ≡ true → g x ≡ true) → (l : List A) → any s (keep g l) ≡ any s l
+  any_keep s g h [] = refl
+  any_keep s g h (x ∷ xs) = by_cases (s x) (λ e. cc (h x e)) λ e. by_cases (g x) (λ k. cc (any_keep s g h xs)) (λ k. cc (any_keep s g h xs))
 
-  pub any-keep-not : (s : A → Bool) (l : List A) → any s (keep (λ x. not (s x)) l) ≡ false
-  any-keep-not s [] = refl
-  any-keep-not s (x ∷ xs) = by_cases (s x) (λ e. cc (any-keep-not s xs)) (λ e. cc (any-keep-not s xs))
+  pub any_keep_not : (s : A → Bool) (l : List A) → any s (keep (λ x. not (s x)) l) ≡ false
+  any_keep_not s [] = refl
+  any_keep_not s (x ∷ xs) = by_cases (s x) (λ e. cc (any_keep_not s xs)) (λ e. cc (any_keep_not s xs))
 
-  pub keep-keep : (g h : A → Bool) (l : List A) → keep g (keep h l) ≡ keep h (keep g l)
-  keep-keep g h [] = refl
-  keep-keep g h (x ∷ xs) =
-      let r = keep-keep g h xs in
+  pub keep_keep : (g h : A → Bool) (l : List A) → keep g (keep h l) ≡ keep h (keep g l)
+  keep_keep g h [] = refl
+  keep_keep g h (x ∷ xs) =
+      let r = keep_keep g h xs in
       by_cases (g x) (λ e. by_cases (h x) (λ k. cc) (λ k. cc)) (λ e. by_cases (h x) (λ k. cc) (λ k. cc))
 
-  pub keep-drops : (s g : A → Bool) → ((x : A) → s x ≡ true → g x ≡ false) → (l : List A) → keep g (keep (λ x. not (s x)) l) ≡ keep g l
-  keep-drops s g h [] = refl
-  keep-drops s g h (x ∷ xs) =
-      let r = keep-drops s g h xs in
+  pub keep_drops : (s g : A → Bool) → ((x : A) → s x ≡ true → g x ≡ false) → (l : List A) → keep g (keep (λ x. not (s x)) l) ≡ keep g l
+  keep_drops s g h [] = refl
+  keep_drops s g h (x ∷ xs) =
+      let r = keep_drops s g h xs in
       by_cases (s x) (λ e. cc (h x e)) (λ e. by_cases (g x) (λ k. cc) (λ k. cc))
 
   pub keep_all : (g : A → Bool) (l : List A) → All (λ x. g x ≡ true) l → keep g l ≡ l
@@ -77,13 +77,13 @@ module _ {A : Type 0} where
   keep_all g (x ∷ xs) a = cc (a.0, keep_all g xs a.1)
 
   module _ (s g : A → Bool) (u : A → A) (same : (x : A) → g (u x) ≡ g x) where
-    pub keep-change-in : ((x : A) → s x ≡ true → g x ≡ true) → (l : List A) → keep g (changeFirst s u l) ≡ changeFirst s u (keep g l)
+    pub keep-change-in : ((x : A) → s x ≡ true → g x ≡ true) → (l : List A) → keep g (change_first s u l) ≡ change_first s u (keep g l)
     keep-change-in h [] = refl
     keep-change-in h (x ∷ xs) =
         let r = keep-change-in h xs in
         by_cases (s x) (λ e. cc (h x e, same x)) (λ e. by_cases (g x) (λ k. cc) (λ k. cc))
 
-    pub keep-change-out : ((x : A) → s x ≡ true → g x ≡ false) → (l : List A) → keep g (changeFirst s u l) ≡ keep g l
+    pub keep-change-out : ((x : A) → s x ≡ true → g x ≡ false) → (l : List A) → keep g (change_first s u l) ≡ keep g l
     keep-change-out h [] = refl
     keep-change-out h (x ∷ xs) =
         let r = keep-change-out h xs in
@@ -95,28 +95,28 @@ module _ {A : Type 0} where
     find-keep (x ∷ xs) f k =
         by_cases (p x) (λ e. let f : some x ≡ some c = cc in cc) (λ e. let f : find p xs ≡ some c = cc in let r = find-keep xs f k in by_cases (g x) (λ h. cc) (λ h. cc))
 
-    pub without-keep-in : (l : List A) → find p l ≡ some c → g c ≡ true → keep g (withoutFirst p l) ≡ withoutFirst p (keep g l)
+    pub without-keep-in : (l : List A) → find p l ≡ some c → g c ≡ true → keep g (without_first p l) ≡ without_first p (keep g l)
     without-keep-in [] f k = refl
     without-keep-in (x ∷ xs) f k =
         by_cases (p x) (λ e. let f : some x ≡ some c = cc in cc) (λ e. let f : find p xs ≡ some c = cc in let r = without-keep-in xs f k in by_cases (g x) (λ h. cc) (λ h. cc))
 
-    pub without-keep-out : (l : List A) → find p l ≡ some c → g c ≡ false → keep g (withoutFirst p l) ≡ keep g l
+    pub without-keep-out : (l : List A) → find p l ≡ some c → g c ≡ false → keep g (without_first p l) ≡ keep g l
     without-keep-out [] f k = refl
     without-keep-out (x ∷ xs) f k =
         by_cases (p x) (λ e. let f : some x ≡ some c = cc in cc) (λ e. let f : find p xs ≡ some c = cc in let r = without-keep-out xs f k in by_cases (g x) (λ h. cc) (λ h. cc))
 
-  pub find-none-keep : (p g : A → Bool) (l : List A) → find p l ≡ none → find p (keep g l) ≡ none
-  find-none-keep p g [] f = refl
-  find-none-keep p g (x ∷ xs) f =
-      by_cases (p x) (λ e. clash true refl (cc)) (λ e. let f : find p xs ≡ none = cc in let r = find-none-keep p g xs f in by_cases (g x) (λ h. cc) (λ h. cc))
+  pub find_none_keep : (p g : A → Bool) (l : List A) → find p l ≡ none → find p (keep g l) ≡ none
+  find_none_keep p g [] f = refl
+  find_none_keep p g (x ∷ xs) f =
+      by_cases (p x) (λ e. clash true refl (cc)) (λ e. let f : find p xs ≡ none = cc in let r = find_none_keep p g xs f in by_cases (g x) (λ h. cc) (λ h. cc))
 
-  pub find-any : (p f : A → Bool) (c : A) (l : List A) → find p l ≡ some c → f c ≡ true → any f l ≡ true
-  find-any p f c [] e y = clash true refl (cc)
-  find-any p f c (x ∷ xs) e y = by_cases (p x) (λ k. cc) (λ k. let r = find-any p f c xs (cc) y in by_cases (f x) (λ z. cc) (λ z. cc))
+  pub find_any : (p f : A → Bool) (c : A) (l : List A) → find p l ≡ some c → f c ≡ true → any f l ≡ true
+  find_any p f c [] e y = clash true refl (cc)
+  find_any p f c (x ∷ xs) e y = by_cases (p x) (λ k. cc) (λ k. let r = find_any p f c xs (cc) y in by_cases (f x) (λ z. cc) (λ z. cc))
 
-  pub find-passes : (p : A → Bool) (c : A) (l : List A) → find p l ≡ some c → p c ≡ true
-  find-passes p c [] f = cc
-  find-passes p c (x ∷ xs) f = by_cases (p x) (λ e. cc) (λ e. find-passes p c xs (cc))
+  pub find_passes : (p : A → Bool) (c : A) (l : List A) → find p l ≡ some c → p c ≡ true
+  find_passes p c [] f = cc
+  find_passes p c (x ∷ xs) f = by_cases (p x) (λ e. cc) (λ e. find_passes p c xs (cc))
 
   -- every element
   module _ (P : A → Type 0) where
@@ -128,11 +128,11 @@ module _ {A : Type 0} where
     all_keep g [] a = tt
     all_keep g (x ∷ xs) a = by_cases (g x) (λ e. rw e (a.0, all_keep g xs a.1)) (λ e. rw e (all_keep g xs a.1))
 
-    pub all_without : (p : A → Bool) (l : List A) → All P l → All P (withoutFirst p l)
+    pub all_without : (p : A → Bool) (l : List A) → All P l → All P (without_first p l)
     all_without p [] a = tt
     all_without p (x ∷ xs) a = by_cases (p x) (λ e. rw e a.1) (λ e. rw e (a.0, all_without p xs a.1))
 
-    pub all-change : (p : A → Bool) (u : A → A) → ((x : A) → P x → P (u x)) → (l : List A) → All P l → All P (changeFirst p u l)
+    pub all-change : (p : A → Bool) (u : A → A) → ((x : A) → P x → P (u x)) → (l : List A) → All P l → All P (change_first p u l)
     all-change p u h [] a = tt
     all-change p u h (x ∷ xs) a = by_cases (p x) (λ e. rw e (h x a.0, a.1)) (λ e. rw e (a.0, all-change p u h xs a.1))
 
@@ -144,7 +144,7 @@ module _ {A : Type 0} where
     all-find p c [] e a = clash true refl (cc)
     all-find p c (x ∷ xs) e a = by_cases (p x) (λ k. let s : x ≡ c = cc in subst P s a.0) (λ k. all-find p c xs (cc) a.1)
 
-    pub all-change-where : (p : A → Bool) (u : A → A) → ((x : A) → p x ≡ true → P x → P (u x)) → (l : List A) → All P l → All P (changeFirst p u l)
+    pub all-change-where : (p : A → Bool) (u : A → A) → ((x : A) → p x ≡ true → P x → P (u x)) → (l : List A) → All P l → All P (change_first p u l)
     all-change-where p u h [] a = tt
     all-change-where p u h (x ∷ xs) a = by_cases (p x) (λ e. rw e (h x e a.0, a.1)) (λ e. rw e (a.0, all-change-where p u h xs a.1))
 
@@ -153,17 +153,17 @@ module _ {A : Type 0} where
     back_keep g h (x ∷ xs) a =
         by_cases (g x) (λ e. let b : P x × All P (keep g xs) = rw e at a in (b.0, back_keep g h xs b.1)) (λ e. (h x e, back_keep g h xs (rw e at a)))
 
-    pub back-without : (p : A → Bool) → ((x : A) → p x ≡ true → P x) → (l : List A) → All P (withoutFirst p l) → All P l
+    pub back-without : (p : A → Bool) → ((x : A) → p x ≡ true → P x) → (l : List A) → All P (without_first p l) → All P l
     back-without p h [] a = tt
     back-without p h (x ∷ xs) a =
-        by_cases (p x) (λ e. (h x e, rw e at a)) (λ e. let b : P x × All P (withoutFirst p xs) = rw e at a in (b.0, back-without p h xs b.1))
+        by_cases (p x) (λ e. (h x e, rw e at a)) (λ e. let b : P x × All P (without_first p xs) = rw e at a in (b.0, back-without p h xs b.1))
 
-    pub back-change : (p : A → Bool) (u : A → A) → ((x : A) → P (u x) → P x) → (l : List A) → All P (changeFirst p u l) → All P l
+    pub back-change : (p : A → Bool) (u : A → A) → ((x : A) → P (u x) → P x) → (l : List A) → All P (change_first p u l) → All P l
     back-change p u h [] a = tt
     back-change p u h (x ∷ xs) a =
         by_cases (p x)
         (λ e. let b : P (u x) × All P xs = rw e at a in (h x b.0, b.1))
-        (λ e. let b : P x × All P (changeFirst p u xs) = rw e at a in (b.0, back-change p u h xs b.1))
+        (λ e. let b : P x × All P (change_first p u xs) = rw e at a in (b.0, back-change p u h xs b.1))
 
   pub none_passes : (p : A → Bool) (l : List A) → any p l ≡ false → All (λ x. p x ≡ false) l
   none_passes p [] e = tt
@@ -183,7 +183,7 @@ module _ {A : Type 0} where
     find-same [] a = refl
     find-same (x ∷ xs) a = cc (a.0, find-same xs a.1)
 
-    pub without-same : (l : List A) → All (λ x. p x ≡ q x) l → withoutFirst p l ≡ withoutFirst q l
+    pub without-same : (l : List A) → All (λ x. p x ≡ q x) l → without_first p l ≡ without_first q l
     without-same [] a = refl
     without-same (x ∷ xs) a = cc (a.0, without-same xs a.1)
 
@@ -192,47 +192,47 @@ module _ {A : Type 0} where
     any_same (x ∷ xs) a = cc (a.0, any_same xs a.1)
 
   -- `any` after a change
-  pub any-without : (f p : A → Bool) (c : A) (l : List A) → find p l ≡ some c → any f l ≡ f c || any f (withoutFirst p l)
-  any-without f p c [] e = clash true refl (cc)
-  any-without f p c (x ∷ xs) e =
-      by_cases (p x) (λ t. cc) (λ n. let r = any-without f p c xs (cc) in by_cases (f x) (λ y. by_cases (f c) (λ z. cc) (λ z. cc)) (λ y. by_cases (f c) (λ z. cc) (λ z. cc)))
+  pub any_without : (f p : A → Bool) (c : A) (l : List A) → find p l ≡ some c → any f l ≡ f c || any f (without_first p l)
+  any_without f p c [] e = clash true refl (cc)
+  any_without f p c (x ∷ xs) e =
+      by_cases (p x) (λ t. cc) (λ n. let r = any_without f p c xs (cc) in by_cases (f x) (λ y. by_cases (f c) (λ z. cc) (λ z. cc)) (λ y. by_cases (f c) (λ z. cc) (λ z. cc)))
 
-  pub any-change : (f p : A → Bool) (u : A → A) → ((x : A) → f (u x) ≡ f x) → (l : List A) → any f (changeFirst p u l) ≡ any f l
-  any-change f p u h [] = refl
-  any-change f p u h (x ∷ xs) = by_cases (p x) (λ e. cc (h x)) (λ e. cc (any-change f p u h xs))
+  pub any_change : (f p : A → Bool) (u : A → A) → ((x : A) → f (u x) ≡ f x) → (l : List A) → any f (change_first p u l) ≡ any f l
+  any_change f p u h [] = refl
+  any_change f p u h (x ∷ xs) = by_cases (p x) (λ e. cc (h x)) (λ e. cc (any_change f p u h xs))
 
-  pub any-change-where : (f p : A → Bool) (u : A → A) → ((x : A) → p x ≡ true → f (u x) ≡ f x) → (l : List A) → any f (changeFirst p u l) ≡ any f l
-  any-change-where f p u h [] = refl
-  any-change-where f p u h (x ∷ xs) = by_cases (p x) (λ e. cc (h x e)) (λ e. cc (any-change-where f p u h xs))
+  pub any_change_where : (f p : A → Bool) (u : A → A) → ((x : A) → p x ≡ true → f (u x) ≡ f x) → (l : List A) → any f (change_first p u l) ≡ any f l
+  any_change_where f p u h [] = refl
+  any_change_where f p u h (x ∷ xs) = by_cases (p x) (λ e. cc (h x e)) (λ e. cc (any_change_where f p u h xs))
 
-  pub any-change-makes : (f p : A → Bool) (u : A → A) → ((x : A) → p x ≡ true → f (u x) ≡ true) → (l : List A) → any p l ≡ true → any f (changeFirst p u l) ≡ true
-  any-change-makes f p u h [] y = y
-  any-change-makes f p u h (x ∷ xs) y = by_cases (p x) (λ e. cc (h x e)) (λ e. let r = any-change-makes f p u h xs (cc) in by_cases (f x) (λ z. cc) (λ z. cc))
+  pub any_change_makes : (f p : A → Bool) (u : A → A) → ((x : A) → p x ≡ true → f (u x) ≡ true) → (l : List A) → any p l ≡ true → any f (change_first p u l) ≡ true
+  any_change_makes f p u h [] y = y
+  any_change_makes f p u h (x ∷ xs) y = by_cases (p x) (λ e. cc (h x e)) (λ e. let r = any_change_makes f p u h xs (cc) in by_cases (f x) (λ z. cc) (λ z. cc))
 
-  pub any-keep-rest : (f s : A → Bool) (l : List A) → All (λ x. s x ≡ true → f x ≡ false) l → any f (keep (λ x. not (s x)) l) ≡ any f l
-  any-keep-rest f s [] a = refl
-  any-keep-rest f s (x ∷ xs) a = let r = any-keep-rest f s xs a.1 in by_cases (s x) (λ e. cc (a.0 e)) (λ e. cc)
+  pub any_keep_rest : (f s : A → Bool) (l : List A) → All (λ x. s x ≡ true → f x ≡ false) l → any f (keep (λ x. not (s x)) l) ≡ any f l
+  any_keep_rest f s [] a = refl
+  any_keep_rest f s (x ∷ xs) a = let r = any_keep_rest f s xs a.1 in by_cases (s x) (λ e. cc (a.0 e)) (λ e. cc)
 
   pub any_append : (f : A → Bool) (l m : List A) → any f (l ++ m) ≡ any f l || any f m
   any_append f [] m = refl
   any_append f (x ∷ xs) m = by_cases (f x) (λ e. cc) (λ e. cc (any_append f xs m))
 
   -- lengths
-  pub length-keep : (g : A → Bool) (l : List A) → length (keep g l) ≤ length l
-  length-keep g [] = omega arith
-  length-keep g (x ∷ xs) = let r = length-keep g xs in by_cases (g x) (λ e. rw e (omega arith)) (λ e. rw e (omega arith))
+  pub length_keep : (g : A → Bool) (l : List A) → length (keep g l) ≤ length l
+  length_keep g [] = omega arith
+  length_keep g (x ∷ xs) = let r = length_keep g xs in by_cases (g x) (λ e. rw e (omega arith)) (λ e. rw e (omega arith))
 
-  pub length-change : (p : A → Bool) (u : A → A) (l : List A) → length (changeFirst p u l) ≡ length l
-  length-change p u [] = refl
-  length-change p u (x ∷ xs) = by_cases (p x) (λ e. cc) (λ e. cc (length-change p u xs))
+  pub length_change : (p : A → Bool) (u : A → A) (l : List A) → length (change_first p u l) ≡ length l
+  length_change p u [] = refl
+  length_change p u (x ∷ xs) = by_cases (p x) (λ e. cc) (λ e. cc (length_change p u xs))
 
-  pub length_without : (p : A → Bool) (c : A) (l : List A) → find p l ≡ some c → suc (length (withoutFirst p l)) ≡ length l
+  pub length_without : (p : A → Bool) (c : A) (l : List A) → find p l ≡ some c → suc (length (without_first p l)) ≡ length l
   length_without p c [] f = clash true refl (cc)
   length_without p c (x ∷ xs) f = by_cases (p x) (λ e. cc) (λ e. cc (length_without p c xs (cc)))
 
-  pub all-to : (P Q : A → Type 0) → ((x : A) → P x → Q x) → (l : List A) → All P l → All Q l
-  all-to P Q h [] a = tt
-  all-to P Q h (x ∷ xs) a = (h x a.0, all-to P Q h xs a.1)
+  pub all_to : (P Q : A → Type 0) → ((x : A) → P x → Q x) → (l : List A) → All P l → All Q l
+  all_to P Q h [] a = tt
+  all_to P Q h (x ∷ xs) a = (h x a.0, all_to P Q h xs a.1)
 
   pub kept : (P : A → Type 0) (g : A → Bool) (l : List A) → All (λ x. g x ≡ true → P x) l → All P (keep g l)
   kept P g [] a = tt
@@ -243,7 +243,7 @@ module _ {A : Type 0} where
   self [] = tt
   self (x ∷ xs) = (
     (λ f e. cc),
-    all-to (λ y. (f : A → Bool) → f y ≡ true → any f xs ≡ true) (λ y. (f : A → Bool) → f y ≡ true → any f (x ∷ xs) ≡ true)
+    all_to (λ y. (f : A → Bool) → f y ≡ true → any f xs ≡ true) (λ y. (f : A → Bool) → f y ≡ true → any f (x ∷ xs) ≡ true)
         (λ y h f e. by_cases (f x) (λ k. cc) (λ k. cc (h f e))) xs (self xs),
   )
 
@@ -266,24 +266,24 @@ module _ {A B : Type 0} (f : A → B) where
     keep-map [] = refl
     keep-map (x ∷ xs) = by_cases (q x) (λ e. cc (same x, keep-map xs)) (λ e. cc (same x, keep-map xs))
 
-    pub without-map : (l : List A) → withoutFirst p (map f l) ≡ map f (withoutFirst q l)
+    pub without-map : (l : List A) → without_first p (map f l) ≡ map f (without_first q l)
     without-map [] = refl
     without-map (x ∷ xs) = by_cases (q x) (λ e. cc (same x)) (λ e. cc (same x, without-map xs))
 
-    pub change-map : (v : B → B) (u : A → A) → ((x : A) → q x ≡ true → v (f x) ≡ f (u x)) → (l : List A) → changeFirst p v (map f l) ≡ map f (changeFirst q u l)
+    pub change-map : (v : B → B) (u : A → A) → ((x : A) → q x ≡ true → v (f x) ≡ f (u x)) → (l : List A) → change_first p v (map f l) ≡ map f (change_first q u l)
     change-map v u h [] = refl
     change-map v u h (x ∷ xs) = by_cases (q x) (λ e. cc (same x, h x e)) (λ e. cc (same x, change-map v u h xs))
 
   -- a change that the map does not show
-  pub change_unseen : (p : A → Bool) (u : A → A) → ((x : A) → p x ≡ true → f (u x) ≡ f x) → (l : List A) → map f (changeFirst p u l) ≡ map f l
+  pub change_unseen : (p : A → Bool) (u : A → A) → ((x : A) → p x ≡ true → f (u x) ≡ f x) → (l : List A) → map f (change_first p u l) ≡ map f l
   change_unseen p u h [] = refl
   change_unseen p u h (x ∷ xs) = by_cases (p x) (λ e. cc (h x e)) (λ e. cc (change_unseen p u h xs))
 
 -- what is found
 module _ {A B : Type 0} (d : B) (g : A → B) (p : A → Bool) where
-  pub found-seen : (h : A → A) → ((x : A) → p (h x) ≡ p x) → ((x : A) → p x ≡ true → g (h x) ≡ g x) → (l : List A) → maybe d g (find p (map h l)) ≡ maybe d g (find p l)
-  found-seen h same e [] = refl
-  found-seen h same e (x ∷ xs) = by_cases (p x) (λ t. cc (same x, e x t)) (λ f. cc (same x, found-seen h same e xs))
+  pub found_seen : (h : A → A) → ((x : A) → p (h x) ≡ p x) → ((x : A) → p x ≡ true → g (h x) ≡ g x) → (l : List A) → maybe d g (find p (map h l)) ≡ maybe d g (find p l)
+  found_seen h same e [] = refl
+  found_seen h same e (x ∷ xs) = by_cases (p x) (λ t. cc (same x, e x t)) (λ f. cc (same x, found_seen h same e xs))
 
   pub found_is : (P : A → Type 0) (Q : B → Type 0) → Q d → ((x : A) → p x ≡ true → P x → Q (g x)) → (l : List A) → All P l → Q (maybe d g (find p l))
   found_is P Q n h [] a = n

@@ -52,20 +52,20 @@ module _ (n : ℕ) where
   one_of true x y h g = h
   one_of false x y h g = g
 
-  one-step : (b : Bool) (x y : Outcome × Upload) → data_length x.0 ≤ n → data_length y.0 ≤ n → data_length (cond b x y).0 ≤ n
-  one-step true x y h g = h
-  one-step false x y h g = g
+  one_step : (b : Bool) (x y : Outcome × Upload) → data_length x.0 ≤ n → data_length y.0 ≤ n → data_length (cond b x y).0 ≤ n
+  one_step true x y h g = h
+  one_step false x y h g = g
 
-  value-short : (a : ℕ) (table : Attributes) → Short n table → data_length (value_of a table) ≤ n
-  value-short a [] h = omega arith
-  value-short a (entry ∷ rest) h = one_of (eqb a entry.0) _ _ h.0 (value-short a rest h.1)
+  value_short : (a : ℕ) (table : Attributes) → Short n table → data_length (value_of a table) ≤ n
+  value_short a [] h = omega arith
+  value_short a (entry ∷ rest) h = one_of (eqb a entry.0) _ _ h.0 (value_short a rest h.1)
 
-  named-short : (a : FirstAttribute) (table : Attributes) → Short n table → data_length (attribute_named a table) ≤ n
-  named-short NoAttribute table h = omega arith
-  named-short (Number a) table h = value-short a table h
+  named_short : (a : FirstAttribute) (table : Attributes) → Short n table → data_length (attribute_named a table) ≤ n
+  named_short NoAttribute table h = omega arith
+  named_short (Number a) table h = value_short a table h
 
-  single-short : (service : ℕ) (a : FirstAttribute) (table : Attributes) → Short n table → data_length (single service a table) ≤ n
-  single-short service a table h = one_of (eqb service get_single) _ _ (named-short a table h) (omega arith)
+  single_short : (service : ℕ) (a : FirstAttribute) (table : Attributes) → Short n table → data_length (single service a table) ≤ n
+  single_short service a table h = one_of (eqb service get_single) _ _ (named_short a table h) (omega arith)
 
 class_short : Short 512 class_attributes
 unfolding le_bytes
@@ -75,38 +75,38 @@ class_short = (omega arith, (omega arith, (omega arith, tt)))
 among_short : (one service instance : ℕ) (a : FirstAttribute) (table : Attributes) → Short 512 table
     → data_length (among one instance (single service a class_attributes) (single service a table)) ≤ 512
 among_short one service instance a table h =
-    one_of 512 (eqb instance 0) _ _ (single-short 512 service a class_attributes class_short)
-    (one_of 512 (eqb instance one) _ _ (single-short 512 service a table h) (omega arith))
+    one_of 512 (eqb instance 0) _ _ (single_short 512 service a class_attributes class_short)
+    (one_of 512 (eqb instance one) _ _ (single_short 512 service a table h) (omega arith))
 
 -- ---- the upload
 
 module _ (eds : List ℕ) where
-  bytes-short : (size offset : ℕ) (b : Bool) → length (take size (drop offset eds) ++ cond b (le_bytes 2 (checksum eds)) []) ≤ size + 2
+  bytes_short : (size offset : ℕ) (b : Bool) → length (take size (drop offset eds) ++ cond b (le_bytes 2 (checksum eds)) []) ≤ size + 2
   unfolding le_bytes
-  bytes-short size offset true = simp (length-append, length-take) (omega arith)
-  bytes-short size offset false = simp (length-append, length-take) (omega arith)
+  bytes_short size offset true = simp (length-append, length-take) (omega arith)
+  bytes_short size offset false = simp (length-append, length-take) (omega arith)
 
-  reply-short : (size number offset : ℕ) → length (transfer_reply eds size number offset) ≤ size + 4
+  reply_short : (size number offset : ℕ) → length (transfer_reply eds size number offset) ≤ size + 4
   unfolding transfer_reply transfer_bytes
-  reply-short size number offset = let h = bytes-short size offset (reaches_end eds size offset) in omega arith
+  reply_short size number offset = let h = bytes_short size offset (reaches_end eds size offset) in omega arith
 
-  turn-short : (p : Position) (number : ℕ) (t : Turn) → data_length (transfer_for eds p number t).0 ≤ p.size + 4
-  turn-short p number (Repeat offset) = reply-short p.size number offset
-  turn-short p number InTurn = reply-short p.size number p.offset
-  turn-short p number OutOfTurn = omega arith
+  turn_short : (p : Position) (number : ℕ) (t : Turn) → data_length (transfer_for eds p number t).0 ≤ p.size + 4
+  turn_short p number (Repeat offset) = reply_short p.size number offset
+  turn_short p number InTurn = reply_short p.size number p.offset
+  turn_short p number OutOfTurn = omega arith
 
   -- an upload's data: at most the size, a number, a type and the checksum
-  pub transfer-short : (up : Upload) (bytes : List ℕ) (limit : ℕ) → ((p : Position) → up ≡ Under p → p.size ≤ limit)
+  pub transfer_short : (up : Upload) (bytes : List ℕ) (limit : ℕ) → ((p : Position) → up ≡ Under p → p.size ≤ limit)
       → data_length (transfer eds up bytes).0 ≤ limit + 4
   unfolding transfer
-  transfer-short up [] limit h = omega arith
-  transfer-short NoUpload (number ∷ rest) limit h = omega arith
-  transfer-short (Under p) (number ∷ rest) limit h = let g = h p refl in let l = turn-short p number (turn_of p number) in omega arith
+  transfer_short up [] limit h = omega arith
+  transfer_short NoUpload (number ∷ rest) limit h = omega arith
+  transfer_short (Under p) (number ∷ rest) limit h = let g = h p refl in let l = turn_short p number (turn_of p number) in omega arith
 
-  pub initiate-short : (limit : ℕ) (up : Upload) (bytes : List ℕ) → data_length (initiate limit eds up bytes).0 ≤ 5
+  pub initiate_short : (limit : ℕ) (up : Upload) (bytes : List ℕ) → data_length (initiate limit eds up bytes).0 ≤ 5
   unfolding initiate le_bytes
-  initiate-short limit up [] = omega arith
-  initiate-short limit up (wanted ∷ rest) = omega arith
+  initiate_short limit up [] = omega arith
+  initiate_short limit up (wanted ∷ rest) = omega arith
 
 -- ---- the position's test
 
@@ -132,81 +132,81 @@ module _ (u : Setup) (low : 1 ≤ u.transferLimit) (eds : List ℕ) (present : u
   unfolding upload_ok
   under p e = rw present e
 
-  initiate-ok : (up : Upload) (bytes : List ℕ) → upload_ok u up ≡ true → upload_ok u (initiate u.transferLimit eds up bytes).1 ≡ true
+  initiate_ok : (up : Upload) (bytes : List ℕ) → upload_ok u up ≡ true → upload_ok u (initiate u.transferLimit eds up bytes).1 ≡ true
   unfolding initiate clamped
-  initiate-ok up [] e = e
-  initiate-ok up (wanted ∷ rest) e =
+  initiate_ok up [] e = e
+  initiate_ok up (wanted ∷ rest) e =
       under _ (passes u.transferLimit (length eds) (started (max 1 (min wanted u.transferLimit))) (omega arith) (omega arith) (omega arith) refl)
 
-  of-under : (p : Position) → upload_ok u (Under p) ≡ true → all (position_tests u.transferLimit (length eds) p) ≡ true
+  of_under : (p : Position) → upload_ok u (Under p) ≡ true → all (position_tests u.transferLimit (length eds) p) ≡ true
   unfolding upload_ok
-  of-under p e = rw present at e
+  of_under p e = rw present at e
 
-  advanced-ok : (p : Position) → upload_ok u (Under p) ≡ true → upload_ok u (Under (advanced eds p)) ≡ true
+  advanced_ok : (p : Position) → upload_ok u (Under p) ≡ true → upload_ok u (Under (advanced eds p)) ≡ true
   unfolding advanced
-  advanced-ok p e =
-      let h = tested u.transferLimit (length eds) p (of-under p e) in
+  advanced_ok p e =
+      let h = tested u.transferLimit (length eds) p (of_under p e) in
       under _ (passes u.transferLimit (length eds) (advanced eds p) h.0 h.1 (omega arith) (le-leb _ _ h.2))
 
-  turn-ok : (p : Position) (number : ℕ) (t : Turn) → upload_ok u (Under p) ≡ true → upload_ok u (transfer_for eds p number t).1 ≡ true
-  turn-ok p number (Repeat offset) e = e
-  turn-ok p number InTurn e = advanced-ok p e
-  turn-ok p number OutOfTurn e = e
+  turn_ok : (p : Position) (number : ℕ) (t : Turn) → upload_ok u (Under p) ≡ true → upload_ok u (transfer_for eds p number t).1 ≡ true
+  turn_ok p number (Repeat offset) e = e
+  turn_ok p number InTurn e = advanced_ok p e
+  turn_ok p number OutOfTurn e = e
 
-  transfer-ok : (up : Upload) (bytes : List ℕ) → upload_ok u up ≡ true → upload_ok u (transfer eds up bytes).1 ≡ true
+  transfer_ok_lem : (up : Upload) (bytes : List ℕ) → upload_ok u up ≡ true → upload_ok u (transfer eds up bytes).1 ≡ true
   unfolding transfer
-  transfer-ok up [] e = e
-  transfer-ok NoUpload (number ∷ rest) e = e
-  transfer-ok (Under p) (number ∷ rest) e = turn-ok p number (turn_of p number) e
+  transfer_ok_lem up [] e = e
+  transfer_ok_lem NoUpload (number ∷ rest) e = e
+  transfer_ok_lem (Under p) (number ∷ rest) e = turn_ok p number (turn_of p number) e
 
   one_ok : (b : Bool) (x y : Outcome × Upload) → upload_ok u x.1 ≡ true → upload_ok u y.1 ≡ true → upload_ok u (cond b x y).1 ≡ true
   one_ok true x y h g = h
   one_ok false x y h g = g
 
-  file-ok : (service instance : ℕ) (a : FirstAttribute) (bytes : List ℕ) (up : Upload) → upload_ok u up ≡ true
+  file_ok : (service instance : ℕ) (a : FirstAttribute) (bytes : List ℕ) (up : Upload) → upload_ok u up ≡ true
       → upload_ok u (file u eds service instance a bytes up).1 ≡ true
   unfolding file eds_file
-  file-ok service instance a bytes up e =
+  file_ok service instance a bytes up e =
       one_ok (eqb instance 0) _ _ e
       (one_ok (eqb instance eds_instance) _ _
-      (one_ok (eqb service initiate_upload) _ _ (initiate-ok up bytes e) (one_ok (eqb service upload_transfer) _ _ (transfer-ok up bytes e) e))
+      (one_ok (eqb service initiate_upload) _ _ (initiate_ok up bytes e) (one_ok (eqb service upload_transfer) _ _ (transfer_ok_lem up bytes e) e))
       e)
 
 -- ---- a message
 
 module _ (st : State) (local mask : ℕ) (sized : Sized st) where
-  identity-short : (service instance : ℕ) (a : FirstAttribute) → data_length (identity st service instance a) ≤ 512
+  identity_short : (service instance : ℕ) (a : FirstAttribute) → data_length (identity st service instance a) ≤ 512
   unfolding identity identity_attributes short_string le_bytes
-  identity-short service instance a =
+  identity_short service instance a =
       among_short 1 service instance a (identity_attributes st)
       (omega arith, (omega arith, (omega arith, (omega arith, (omega arith, (omega arith, (omega arith, (omega arith, tt))))))))
 
-  assembly-object-short : (service : ℕ) (a : FirstAttribute) (i : Option ℕ) → data_length (assembly_object st service a i) ≤ 512
+  assembly_object_short : (service : ℕ) (a : FirstAttribute) (i : Option ℕ) → data_length (assembly_object st service a i) ≤ 512
   unfolding assembly_attributes le_bytes
-  assembly-object-short service a none = omega arith
-  assembly-object-short service a (some i) =
-      single-short 512 service a (assembly_attributes (content_at st i)) (sized.contents i, (omega arith, tt))
+  assembly_object_short service a none = omega arith
+  assembly_object_short service a (some i) =
+      single_short 512 service a (assembly_attributes (content_at st i)) (sized.contents i, (omega arith, tt))
 
-  assembly-short : (service instance : ℕ) (a : FirstAttribute) → data_length (assembly st service instance a) ≤ 512
+  assembly_short : (service instance : ℕ) (a : FirstAttribute) → data_length (assembly st service instance a) ≤ 512
   unfolding assembly assembly_class le_bytes
-  assembly-short service instance a =
-      one_of 512 (eqb instance 0) _ _ (single-short 512 service a (assembly_class st.setup) (omega arith, (omega arith, tt)))
-      (assembly-object-short service a (assembly_place st.setup instance))
+  assembly_short service instance a =
+      one_of 512 (eqb instance 0) _ _ (single_short 512 service a (assembly_class st.setup) (omega arith, (omega arith, tt)))
+      (assembly_object_short service a (assembly_place st.setup instance))
 
-  tcp-short : (service instance : ℕ) (a : FirstAttribute) → data_length (tcp_ip local mask service instance a) ≤ 512
+  tcp_short : (service instance : ℕ) (a : FirstAttribute) → data_length (tcp_ip local mask service instance a) ≤ 512
   unfolding tcp_ip tcp_ip_attributes interface enc_fields le_bytes
-  tcp-short service instance a =
+  tcp_short service instance a =
       among_short 1 service instance a (tcp_ip_attributes local mask)
       (omega arith, (omega arith, (omega arith, (omega arith, (omega arith, (omega arith, tt))))))
 
-  ethernet-short : (service instance : ℕ) (a : FirstAttribute) → data_length (ethernet_link st.setup service instance a) ≤ 512
+  ethernet_short : (service instance : ℕ) (a : FirstAttribute) → data_length (ethernet_link st.setup service instance a) ≤ 512
   unfolding ethernet_link ethernet_attributes le_bytes
-  ethernet-short service instance a =
+  ethernet_short service instance a =
       among_short 1 service instance a (ethernet_attributes st.setup) (omega arith, (omega arith, (omega (arith, sized.mac), tt)))
 
-  file-attributes-short : (eds : List ℕ) → Short 512 (file_attributes st.setup eds)
+  file_attributes_short : (eds : List ℕ) → Short 512 (file_attributes st.setup eds)
   unfolding file_attributes tagged_text short_string le_bytes
-  file-attributes-short eds = (
+  file_attributes_short eds = (
     omega arith,
     (
       omega arith,
@@ -247,12 +247,12 @@ module _ (st : State) (local mask : ℕ) (sized : Sized st) where
         → data_length (file st.setup eds service instance a bytes up).0 ≤ 512
     unfolding file eds_file
     file-short eds service instance a bytes =
-        let t = transfer-short eds up bytes 255 size-held in
-        let i = initiate-short eds st.setup.transferLimit up bytes in
-        one-step 512 (eqb instance 0) _ _ (single-short 512 service a class_attributes class_short)
-        (one-step 512 (eqb instance eds_instance) _ _
-        (one-step 512 (eqb service initiate_upload) _ _ (omega arith)
-        (one-step 512 (eqb service upload_transfer) _ _ (omega arith) (single-short 512 service a (file_attributes st.setup eds) (file-attributes-short eds))))
+        let t = transfer_short eds up bytes 255 size-held in
+        let i = initiate_short eds st.setup.transferLimit up bytes in
+        one_step 512 (eqb instance 0) _ _ (single_short 512 service a class_attributes class_short)
+        (one_step 512 (eqb instance eds_instance) _ _
+        (one_step 512 (eqb service initiate_upload) _ _ (omega arith)
+        (one_step 512 (eqb service upload_transfer) _ _ (omega arith) (single_short 512 service a (file_attributes st.setup eds) (file_attributes_short eds))))
         (omega arith))
 
     file-in-short : (service instance : ℕ) (a : FirstAttribute) (bytes : List ℕ) (eds : Option (List ℕ))
@@ -265,12 +265,12 @@ module _ (st : State) (local mask : ℕ) (sized : Sized st) where
     unfolding of_class
     object-short service a bytes NoObject = omega arith
     object-short service a bytes (Named class instance) =
-        one-step 512 (eqb class 0x01) _ _ (identity-short service instance a)
-        (one-step 512 (eqb class 0x04) _ _ (assembly-short service instance a)
-        (one-step 512 (eqb class 0xF5) _ _ (tcp-short service instance a)
-        (one-step 512 (eqb class 0xF6) _ _ (ethernet-short service instance a)
-        (one-step 512 (eqb class 0x37) _ _ (file-in-short service instance a bytes st.setup.eds)
-        (one-step 512 (eqb class 0x02) _ _ (omega arith) (omega arith))))))
+        one_step 512 (eqb class 0x01) _ _ (identity_short service instance a)
+        (one_step 512 (eqb class 0x04) _ _ (assembly_short service instance a)
+        (one_step 512 (eqb class 0xF5) _ _ (tcp_short service instance a)
+        (one_step 512 (eqb class 0xF6) _ _ (ethernet_short service instance a)
+        (one_step 512 (eqb class 0x37) _ _ (file-in-short service instance a bytes st.setup.eds)
+        (one_step 512 (eqb class 0x02) _ _ (omega arith) (omega arith))))))
 
     request-short : (message : List ℕ) (r : RequestAnswer) → data_length (of_request st local mask message up r).0 ≤ 512
     request-short message (Unparsed service) = omega arith
@@ -291,18 +291,18 @@ module _ (st : State) (local mask : ℕ) (sized : Sized st) where
     -- an upload's are at most 263
     pub transfer-fits : (eds bytes : List ℕ) → length (reply_to upload_transfer (transfer eds up bytes).0) ≤ 263
     transfer-fits eds bytes =
-        let h = transfer-short eds up bytes 255 size-held in
+        let h = transfer_short eds up bytes 255 size-held in
         rw (reply-length upload_transfer (transfer eds up bytes).0) (omega arith)
 
     pub initiate-fits : (eds bytes : List ℕ) → length (reply_to initiate_upload (initiate st.setup.transferLimit eds up bytes).0) ≤ 263
     initiate-fits eds bytes =
-        let h = initiate-short eds st.setup.transferLimit up bytes in
+        let h = initiate_short eds st.setup.transferLimit up bytes in
         rw (reply-length initiate_upload (initiate st.setup.transferLimit eds up bytes).0) (omega arith)
 
     file-in-ok : (service instance : ℕ) (a : FirstAttribute) (bytes : List ℕ) (eds : Option (List ℕ)) → st.setup.eds ≡ eds
         → upload_ok st.setup (file_in st.setup service instance a bytes up eds).1 ≡ true
     file-in-ok service instance a bytes none e = ok
-    file-in-ok service instance a bytes (some eds) e = file-ok st.setup sized.limitLow eds e service instance a bytes up ok
+    file-in-ok service instance a bytes (some eds) e = file_ok st.setup sized.limitLow eds e service instance a bytes up ok
 
     any-ok : (b : Bool) (x y : Outcome × Upload) → upload_ok st.setup x.1 ≡ true → upload_ok st.setup y.1 ≡ true
         → upload_ok st.setup (cond b x y).1 ≡ true
@@ -339,10 +339,10 @@ module _ (st : State) (local mask : ℕ) (message : List ℕ) (room : ℕ) (up :
   no_room h = rw (lt-leb reply_room room h)
 
   -- otherwise every message gets its reply
-  pub always-replied : reply_room ≤ room
+  pub always_replied : reply_room ≤ room
       → message_call local mask message room st up ≡ (Wrote (message_reply st local mask message up), (message_outcome st local mask message up).1)
   unfolding message_call message_answer
-  always-replied h = rw (le-leb reply_room room h)
+  always_replied h = rw (le-leb reply_room room h)
 
 -- a message that is no upload service leaves the position as it was
 module _ (up : Upload) where
@@ -369,11 +369,11 @@ module _ (up : Upload) where
         (either_stays (eqb class 0x37) _ _ (file-stays st.setup.eds instance)
         (either_stays (eqb class 0x02) _ _ refl refl)))))
 
-  pub position-stays : (st : State) (local mask : ℕ) (message : List ℕ)
+  pub position_stays : (st : State) (local mask : ℕ) (message : List ℕ)
       → eqb (service_of (request_of message)) initiate_upload ≡ false → eqb (service_of (request_of message)) upload_transfer ≡ false
       → (message_outcome st local mask message up).1 ≡ up
   unfolding message_outcome
-  position-stays st local mask message = by (request_of message)
+  position_stays st local mask message = by (request_of message)
     where
       by : (r : RequestAnswer) → eqb (service_of r) initiate_upload ≡ false → eqb (service_of r) upload_transfer ≡ false
           → (of_request st local mask message up r).1 ≡ up

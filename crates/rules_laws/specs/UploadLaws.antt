@@ -43,21 +43,21 @@ no_bytes e = absurd (let z : ◌≡◌ {A = ℕ} 0 1 = cc in omega arith)
 
 -- what was answered with bytes is answered with the same bytes when it is asked for again, and the position stays where it is
 module _ (eds : List ℕ) where
-  asked-turn : (p : Position) (number : ℕ) (t : Turn) → turn_of p number ≡ t → (bytes : List ℕ) (up : Upload)
+  asked_turn : (p : Position) (number : ℕ) (t : Turn) → turn_of p number ≡ t → (bytes : List ℕ) (up : Upload)
       → transfer_for eds p number t ≡ (Gives bytes, up) → transfer eds up (number ∷ []) ≡ (Gives bytes, up)
   unfolding transfer turn_of advanced
-  asked-turn p number (Repeat offset) h bytes up e =
+  asked_turn p number (Repeat offset) h bytes up e =
       ap (λ (u : Upload). transfer eds u (number ∷ [])) (sym (ap (λ (r : Outcome × Upload). r.1) e)) ∙ ap (transfer_for eds p number) h ∙ e
-  asked-turn p number InTurn h bytes up e =
+  asked_turn p number InTurn h bytes up e =
       let n : eqb p.next number ≡ true = eq-eqb p.next number (sym (turn_number p.last p.next number h)) in
       ap (λ (u : Upload). transfer eds u (number ∷ [])) (sym (ap (λ (r : Outcome × Upload). r.1) e)) ∙ rw n e
-  asked-turn p number OutOfTurn h bytes up e = no_bytes (ap (λ (r : Outcome × Upload). r.0) e)
+  asked_turn p number OutOfTurn h bytes up e = no_bytes (ap (λ (r : Outcome × Upload). r.0) e)
 
-  pub asked-again : (before up : Upload) (number : ℕ) (bytes : List ℕ)
+  pub asked_again : (before up : Upload) (number : ℕ) (bytes : List ℕ)
       → transfer eds before (number ∷ []) ≡ (Gives bytes, up) → transfer eds up (number ∷ []) ≡ (Gives bytes, up)
   unfolding transfer
-  asked-again NoUpload up number bytes e = no_bytes (ap (λ (r : Outcome × Upload). r.0) e)
-  asked-again (Under p) up number bytes e = asked-turn p number (turn_of p number) refl bytes up e
+  asked_again NoUpload up number bytes e = no_bytes (ap (λ (r : Outcome × Upload). r.0) e)
+  asked_again (Under p) up number bytes e = asked_turn p number (turn_of p number) refl bytes up e
 
 -- ---- the client
 
@@ -148,31 +148,31 @@ module _ (eds : List ℕ) (size : ℕ) where
       client (held size (suc k % 256) (min (k * size + size) (length eds)) (k % 256) (k * size)) (suc k) (take (k * size) eds)
       (transfer_reply eds size (k % 256) (k * size))
 
-  ended-after : (k : ℕ) → ended (after (suc k)) ≡ leb (length eds) (k * size + size)
+  ended_after : (k : ℕ) → ended (after (suc k)) ≡ leb (length eds) (k * size + size)
   unfolding transfer_reply
-  ended-after k = last_type (eqb (k * size) 0) (reaches_end eds size (k * size))
+  ended_after k = last_type (eqb (k * size) 0) (reaches_end eds size (k * size))
 
   -- a repeat gives the same reply, and leaves the position
-  repeat-turn : (next offset number before : ℕ)
+  repeat_turn : (next offset number before : ℕ)
       → step eds number (held size next offset number before) ≡ (transfer_reply eds size number before, held size next offset number before)
   unfolding transfer turn_of
-  repeat-turn next offset number before = simp (eq-eqb number number refl)
+  repeat_turn next offset number before = simp (eq-eqb number number refl)
 
   -- a transfer in turn
-  in-turn : (next offset number before : ℕ) → (number ≡ next → ⊥)
+  in_turn : (next offset number before : ℕ) → (number ≡ next → ⊥)
       → step eds next (held size next offset number before)
       ≡ (transfer_reply eds size next offset, held size ((next + 1) % 256) (min (offset + size) (length eds)) next offset)
   unfolding transfer turn_of advanced
-  in-turn next offset number before h = simp (ne_eqb number next h, eq-eqb next next refl)
+  in_turn next offset number before h = simp (ne_eqb number next h, eq-eqb next next refl)
 
-  first-turn : step eds 0 (Under (started size)) ≡ (transfer_reply eds size 0 0, held size 1 (min (0 + size) (length eds)) 0 0)
+  first_turn : step eds 0 (Under (started size)) ≡ (transfer_reply eds size 0 0, held size 1 (min (0 + size) (length eds)) 0 0)
   unfolding transfer turn_of advanced
-  first-turn = refl
+  first_turn = refl
 
-  again-after : (n : ℕ) → move (step eds) Again (after n) ≡ after n
-  again-after zero = refl
-  again-after (suc k) =
-      let e = repeat-turn (suc k % 256) (min (k * size + size) (length eds)) (k % 256) (k * size) in
+  again_after : (n : ℕ) → move (step eds) Again (after n) ≡ after n
+  again_after zero = refl
+  again_after (suc k) =
+      let e = repeat_turn (suc k % 256) (min (k * size + size) (length eds)) (k % 256) (k * size) in
       ap (λ (r : List ℕ × Upload). client r.1 (suc k) (take (k * size) eds) r.0) e
 
   -- the bytes of the transfers so far
@@ -180,22 +180,22 @@ module _ (eds : List ℕ) (size : ℕ) where
   unfolding transfer_bytes
   so_far at e = rw e (rw append-nil (sym (take-add at size eds)))
 
-  before-next : (k : ℕ) → leb (length eds) (k * size + size) ≡ false → got (after (suc k)) ≡ take (suc k * size) eds
+  before_next : (k : ℕ) → leb (length eds) (k * size + size) ≡ false → got (after (suc k)) ≡ take (suc k * size) eds
   unfolding transfer_reply
-  before-next k f = let e : suc k * size ≡ k * size + size = omega arith in rw e (so_far (k * size) f)
+  before_next k f = let e : suc k * size ≡ k * size + size = omega arith in rw e (so_far (k * size) f)
 
-  next-after : (n : ℕ) → ended (after n) ≡ false → asks_next (step eds) (after n) ≡ after (suc n)
-  next-after zero e =
+  next_after : (n : ℕ) → ended (after n) ≡ false → asks_next (step eds) (after n) ≡ after (suc n)
+  next_after zero e =
       let z : 0 * size ≡ 0 = omega arith in
-      ap (λ (r : List ℕ × Upload). client r.1 1 [] r.0) first-turn ∙ rw z
-  next-after (suc k) e =
-      let f : leb (length eds) (k * size + size) ≡ false = sym (ended-after k) ∙ e in
+      ap (λ (r : List ℕ × Upload). client r.1 1 [] r.0) first_turn ∙ rw z
+  next_after (suc k) e =
+      let f : leb (length eds) (k * size + size) ≡ false = sym (ended_after k) ∙ e in
       let l : k * size + size < length eds = leb-false _ _ f in
       let at : min (k * size + size) (length eds) ≡ suc k * size = omega arith in
       let wrap : (suc k % 256 + 1) % 256 ≡ suc (suc k) % 256 = omega arith in
-      let b : got (after (suc k)) ≡ take (suc k * size) eds = before-next k f in
+      let b : got (after (suc k)) ≡ take (suc k * size) eds = before_next k f in
       ap (λ (r : List ℕ × Upload). client r.1 (suc (suc k)) (got (after (suc k))) r.0)
-      (in-turn (suc k % 256) (min (k * size + size) (length eds)) (k % 256) (k * size) (λ q. omega arith))
+      (in_turn (suc k % 256) (min (k * size + size) (length eds)) (k % 256) (k * size) (λ q. omega arith))
       ∙ rw (at, wrap, b)
 
   -- at the end it has the EDS and the checksum
@@ -204,17 +204,17 @@ module _ (eds : List ℕ) (size : ℕ) where
   whole at e =
       rw e (rw (← append_assoc, ← take-add, take_all (at + size) eds (leb-true _ _ e)))
 
-  ended-whole : (n : ℕ) → ended (after n) ≡ true → got (after n) ≡ eds ++ le_bytes 2 (checksum eds)
+  ended_whole : (n : ℕ) → ended (after n) ≡ true → got (after n) ≡ eds ++ le_bytes 2 (checksum eds)
   unfolding transfer_reply
-  ended-whole zero e = false_is_true e
-  ended-whole (suc k) e = whole (k * size) (sym (ended-after k) ∙ e)
+  ended_whole zero e = false_is_true e
+  ended_whole (suc k) e = whole (k * size) (sym (ended_after k) ∙ e)
 
   -- ---- every run of moves
 
   stays : (ms : List Move) (n : ℕ) → ended (after n) ≡ true → moves (step eds) ms (after n) ≡ after n
   stays [] n e = refl
   stays (Next ∷ ms) n e = rw e (stays ms n e)
-  stays (Again ∷ ms) n e = rw (again-after n) (stays ms n e)
+  stays (Again ∷ ms) n e = rw (again_after n) (stays ms n e)
 
   record Reached (c : Client) (willing : ℕ) : Type 0 where
     turns : ℕ
@@ -223,13 +223,13 @@ module _ (eds : List ℕ) (size : ℕ) where
 
   reached : (ms : List Move) (n : ℕ) → Reached (moves (step eds) ms (after n)) (n + nexts ms)
   reached [] n = record { turns = n; is = refl; all = λ e. omega arith }
-  reached (Again ∷ ms) n = rw (again-after n) (reached ms n)
+  reached (Again ∷ ms) n = rw (again_after n) (reached ms n)
   reached (Next ∷ ms) n = go (ended (after n)) refl (reached ms (suc n))
     where
       go : (b : Bool) → ended (after n) ≡ b → Reached (moves (step eds) ms (after (suc n))) (suc n + nexts ms)
           → Reached (moves (step eds) ms (cond b (after n) (asks_next (step eds) (after n)))) (n + suc (nexts ms))
       go true e r = record { turns = n; is = stays ms n e; all = λ f. false_is_true (sym f ∙ e) }
-      go false e r = rw (next-after n e) (record { turns = r.turns; is = r.is; all = λ f. let h = r.all f in omega arith })
+      go false e r = rw (next_after n e) (record { turns = r.turns; is = r.is; all = λ f. let h = r.all f in omega arith })
 
 -- THE UPLOAD: with any repeats, a client that is willing to ask for as many transfers as the EDS needs gets the EDS and its
 -- checksum, and its last reply says that it is the last
@@ -238,21 +238,21 @@ module _ (eds : List ℕ) (limit wanted : ℕ) (ms : List Move) where
   uploads = moves (step eds) ms (begins (clamped limit wanted))
 
   -- whenever the client sees the end, it has all
-  pub uploaded-whole : ended uploads ≡ true → got uploads ≡ eds ++ le_bytes 2 (checksum eds)
-  uploaded-whole e =
+  pub uploaded_whole : ended uploads ≡ true → got uploads ≡ eds ++ le_bytes 2 (checksum eds)
+  uploaded_whole e =
       let r = reached eds (clamped limit wanted) ms 0 in
-      ap got r.is ∙ ended-whole eds (clamped limit wanted) r.turns (sym (ap ended r.is) ∙ e)
+      ap got r.is ∙ ended_whole eds (clamped limit wanted) r.turns (sym (ap ended r.is) ∙ e)
 
   -- and it sees the end once it has asked often enough: at least once, and for the EDS's length in all
-  pub uploaded-ends : 1 ≤ nexts ms → length eds ≤ nexts ms * clamped limit wanted → ended uploads ≡ true
-  uploaded-ends h g = go (reached eds (clamped limit wanted) ms 0)
+  pub uploaded_ends : 1 ≤ nexts ms → length eds ≤ nexts ms * clamped limit wanted → ended uploads ≡ true
+  uploaded_ends h g = go (reached eds (clamped limit wanted) ms 0)
     where
       by : (n : ℕ) (b : Bool) → ended (after eds (clamped limit wanted) n) ≡ b → (b ≡ false → n ≡ 0 + nexts ms) → b ≡ true
       by n true e f = refl
       by zero false e f = absurd (let q = f refl in omega arith)
       by (suc k) false e f =
           let q : suc k ≡ 0 + nexts ms = f refl in
-          let l : k * clamped limit wanted + clamped limit wanted < length eds = leb-false _ _ (sym (ended-after eds (clamped limit wanted) k) ∙ e) in
+          let l : k * clamped limit wanted + clamped limit wanted < length eds = leb-false _ _ (sym (ended_after eds (clamped limit wanted) k) ∙ e) in
           let m : nexts ms ≡ suc k = omega arith in
           absurd (let w : length eds ≤ suc k * clamped limit wanted = rw m at g in omega arith)
 

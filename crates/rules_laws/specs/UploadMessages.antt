@@ -14,7 +14,7 @@ use Rattle.rules.specs.declared.objects.Upload.{Upload}
 use Rattle.rules.specs.Upload.{checksum, clamped, initiate_reply, initiate, transfer}
 use Rattle.rules.specs.Objects.{eds_file, file}
 use Rattle.rules.specs.Message.{reply_head, reply_to, of_class, message_outcome, message_reply}
-use Rattle.rules_laws.specs.UploadLaws.{Move, Next, Again, Client, client, got, ended, Ask, asks_again, move, moves, nexts, reply_in, step, begins, uploaded-whole, uploaded-ends}
+use Rattle.rules_laws.specs.UploadLaws.{Move, Next, Again, Client, client, got, ended, Ask, asks_again, move, moves, nexts, reply_in, step, begins, uploaded_whole, uploaded_ends}
 
 -- a message of a service to File, instance 0xC8, with one byte of data
 abbrev pub to_file : ℕ → ℕ → List ℕ
@@ -43,31 +43,31 @@ behind_head service (Fails f) = refl
 
 -- moves are the same where the answers are
 module _ (ask ask' : Ask) (same : (number : ℕ) (up : Upload) → ask number up ≡ ask' number up) where
-  again-same : (c : Client) (n : ℕ) → asks_again ask c n ≡ asks_again ask' c n
-  again-same c zero = refl
-  again-same c (suc k) = rw same
+  again_same : (c : Client) (n : ℕ) → asks_again ask c n ≡ asks_again ask' c n
+  again_same c zero = refl
+  again_same c (suc k) = rw same
 
   move_same : (m : Move) (c : Client) → move ask m c ≡ move ask' m c
   move_same Next c = rw same
-  move_same Again c = again-same c c.turns
+  move_same Again c = again_same c c.turns
 
-  moves-same : (ms : List Move) (c : Client) → moves ask ms c ≡ moves ask' ms c
-  moves-same [] c = refl
-  moves-same (m ∷ ms) c = rw (move_same m c) (moves-same ms (move ask' m c))
+  moves_same : (ms : List Move) (c : Client) → moves ask ms c ≡ moves ask' ms c
+  moves_same [] c = refl
+  moves_same (m ∷ ms) c = rw (move_same m c) (moves_same ms (move ask' m c))
 
 module _ (st : State) (local mask : ℕ) (eds : List ℕ) (present : st.setup.eds ≡ some eds) where
-  transfer-message : (number : ℕ) (up : Upload) → message_outcome st local mask (transfer_message number) up ≡ transfer eds up (number ∷ [])
+  transfer_message_lem : (number : ℕ) (up : Upload) → message_outcome st local mask (transfer_message number) up ≡ transfer eds up (number ∷ [])
   unfolding message_outcome of_class file eds_file
-  transfer-message number up = rw (file_request 0x4F number, present)
+  transfer_message_lem number up = rw (file_request 0x4F number, present)
 
-  initiate-message : (wanted : ℕ) (up : Upload)
+  initiate_message_lem : (wanted : ℕ) (up : Upload)
       → message_outcome st local mask (initiate_message wanted) up ≡ initiate st.setup.transferLimit eds up (wanted ∷ [])
   unfolding message_outcome of_class file eds_file
-  initiate-message wanted up = rw (file_request 0x4B wanted, present)
+  initiate_message_lem wanted up = rw (file_request 0x4B wanted, present)
 
-  by-step : (number : ℕ) (up : Upload) → by_message st local mask number up ≡ step eds number up
+  by_step : (number : ℕ) (up : Upload) → by_message st local mask number up ≡ step eds number up
   unfolding message_reply
-  by-step number up = rw (behind_head, transfer-message number up)
+  by_step number up = rw (behind_head, transfer_message_lem number up)
 
   module _ (wanted : ℕ) (earlier : Upload) (ms : List Move) where
     -- a session: Initiate_Upload, whatever position an earlier upload left, then transfers as the client moves
@@ -76,19 +76,19 @@ module _ (st : State) (local mask : ℕ) (eds : List ℕ) (present : st.setup.ed
 
     as-steps : session ≡ moves (step eds) ms (begins (clamped st.setup.transferLimit wanted))
     unfolding initiate
-    as-steps = rw (initiate-message wanted earlier) (moves-same (by_message st local mask) (step eds) by-step ms _)
+    as-steps = rw (initiate_message_lem wanted earlier) (moves_same (by_message st local mask) (step eds) by_step ms _)
 
     -- initiate's reply says the EDS's length and the size of a transfer
     pub session-begins : message_reply st local mask (initiate_message wanted) earlier
         ≡ reply_head 0x4B 0 ++ initiate_reply eds (clamped st.setup.transferLimit wanted)
     unfolding message_reply reply_to initiate
-    session-begins = rw (file_request 0x4B wanted, initiate-message wanted earlier)
+    session-begins = rw (file_request 0x4B wanted, initiate_message_lem wanted earlier)
 
     -- whenever the client sees the end, it has the EDS and its checksum
     pub session-whole : ended session ≡ true → got session ≡ eds ++ le_bytes 2 (checksum eds)
     session-whole e =
-        ap got as-steps ∙ uploaded-whole eds st.setup.transferLimit wanted ms (sym (ap ended as-steps) ∙ e)
+        ap got as-steps ∙ uploaded_whole eds st.setup.transferLimit wanted ms (sym (ap ended as-steps) ∙ e)
 
     -- and it sees the end once it has asked for as many transfers as the EDS's length needs, and for one at least
     pub session-ends : 1 ≤ nexts ms → length eds ≤ nexts ms * clamped st.setup.transferLimit wanted → ended session ≡ true
-    session-ends h g = ap ended as-steps ∙ uploaded-ends eds st.setup.transferLimit wanted ms h g
+    session-ends h g = ap ended as-steps ∙ uploaded_ends eds st.setup.transferLimit wanted ms h g

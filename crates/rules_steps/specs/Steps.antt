@@ -13,7 +13,7 @@ use Rattle.wire_rules.specs.declared.OpenAnswer.TheVariants.{Open, NoOpen}
 use Rattle.wire_rules.specs.declared.CloseAnswer.TheVariants.{Close, NoClose}
 use Rattle.rules.specs.declared.Verdict.TheVariants.{Stopped, Planned}
 use Rattle.rules.specs.declared.Event.TheVariants.{Closed, TimedOut}
-use Rattle.rules.specs.Lists.{find, any, withoutFirst, changeAt, maybe, repeat}
+use Rattle.rules.specs.Lists.{find, any, without_first, change_at, maybe, repeat}
 use Rattle.rules_laws.specs.ListLaws
 use Rattle.rules_laws.specs.ListLaws.{by_cases, either_way}
 use Rattle.rules.specs.State.{State, shape_at, with_contents, is_input, is_output}
@@ -97,10 +97,10 @@ module _ {G : Type 0} (r : Reading G) where
   history (x ∷ l) w = history l (learnt (news x.0 x.1) w)
 
   -- after one call more
-  pub history-next : (cs : List Call) (c : Call) (s : State) (w : G) →
+  pub history_next : (cs : List Call) (c : Call) (s : State) (w : G) →
       history (log (cs ++ (c ∷ [])) s) w ≡ learnt (news c (answer c (run cs s))) (history (log cs s) w)
-  history-next [] c s w = refl
-  history-next (b ∷ cs) c s w = history-next cs c (next b s) (learnt (news b (answer b s)) w)
+  history_next [] c s w = refl
+  history_next (b ∷ cs) c s w = history_next cs c (next b s) (learnt (news b (answer b s)) w)
 
 -- two readings at once
 abbrev pub both : {G H : Type 0} → Reading G → Reading H → Reading (G × H)
@@ -133,15 +133,15 @@ run_next (b ∷ cs) c s = run_next cs c (next b s)
 pub record Quiet (P : State → Type 0) : Type 0 where
   pub producing : (t : ℕ) (s : State) → P s → P (produce_effect t s)
   pub setting : (n i : ℕ) (bytes : List ℕ) (s : State) → place_of is_input s.setup n ≡ some i → P s →
-      P (with_contents (changeAt i (filled (shape_at s.setup i).size bytes) s.contents) s)
-  pub reading : (n i : ℕ) (s : State) → place_of is_output s.setup n ≡ some i → P s → P (with_contents (changeAt i read s.contents) s)
+      P (with_contents (change_at i (filled (shape_at s.setup i).size bytes) s.contents) s)
+  pub reading : (n i : ℕ) (s : State) → place_of is_output s.setup n ≡ some i → P s → P (with_contents (change_at i read s.contents) s)
   pub noting : (s : State) → P s → P (next_event_effect s)
 
 -- the removal of a connection that was found
 abbrev pub Removing : (State → Type 0) → Type 0
 Removing P =
     (fault : Bool) (why : Info → Event) (p : Conn → Bool) (c : Conn) (s : State) → find p s.table ≡ some c → P s →
-    P (removed fault why c (withoutFirst p s.table) s)
+    P (removed fault why c (without_first p s.table) s)
 
 -- AN INVARIANT: seven obligations
 pub record Kept (P : State → Type 0) : Type 0 where
@@ -161,7 +161,7 @@ pub record Follows {G : Type 0} (r : Reading G) (P : G → State → Type 0) : T
   pub opening : (t : ℕ) (request : List ℕ) (q : ForwardOpen) (g : Origin) (p : Plan) (s : State) (w : G) → verdict_of request q s ≡ Planned p → P w s →
       P (r.onOpen t request q g (acceptance q g p s.nextId) w) (opened t q g (config_bytes request q) p s)
   pub closing : (k : Triad) (c : Conn) (s : State) (w : G) → find (conn_triad k) s.table ≡ some c → P w s →
-      P (r.onClose k w) (removed false Closed c (withoutFirst (conn_triad k) s.table) s)
+      P (r.onClose k w) (removed false Closed c (without_first (conn_triad k) s.table) s)
   pub expiring : (t : ℕ) (s : State) (w : G) → P w s → P (r.onExpire t w) (expire_effect t s)
   pub hearing : (t from : ℕ) (f : Frame) (s : State) (w : G) → P w s → P (r.onFrame t from f w) (received t from f s)
 
@@ -178,99 +178,99 @@ module _ {G : Type 0} (r : Reading G) (P : G → State → Type 0) (k : Follows 
   Step s w a n s' = P (learnt r (cond (is_yes a) n Nothing) w) (cond (is_yes a) s' s)
 
   -- OPEN
-  plan-follows : (t : ℕ) (request : List ℕ) (q : ForwardOpen) (g : Origin) (room : ℕ) (s : State) (w : G) → P w s → (v : Verdict) → verdict_of request q s ≡ v →
+  plan_follows : (t : ℕ) (request : List ℕ) (q : ForwardOpen) (g : Origin) (room : ℕ) (s : State) (w : G) → P w s → (v : Verdict) → verdict_of request q s ≡ v →
       let a = plan_answer q g s.nextId room v in
       Step s w a (Opening t request q g a) (plan_effect t q g (config_bytes request q) s v)
-  plan-follows t request q g room s w h (Stopped x) e = h
-  plan-follows t request q g room s w h (Planned p) e =
+  plan_follows t request q g room s w h (Stopped x) e = h
+  plan_follows t request q g room s w h (Planned p) e =
       either_way (λ a. Step s w a (Opening t request q g a) (opened t q g (config_bytes request q) p s)) (leb (length (reply_of q g p s.nextId)) room)
       (k.opening t request q g p s w e h) h
 
-  asked-follows : (t : ℕ) (request : List ℕ) (g : Origin) (room : ℕ) (s : State) (w : G) → P w s → (x : OpenAnswer) →
+  asked_follows : (t : ℕ) (request : List ℕ) (g : Origin) (room : ℕ) (s : State) (w : G) → P w s → (x : OpenAnswer) →
       let a = asked_answer g request room s x in
       Step s w a (asked_news t request g a x) (asked_effect t g request s x)
-  asked-follows t request g room s w h NoOpen = h
-  asked-follows t request g room s w h (Open q) = plan-follows t request q g room s w h (verdict_of request q s) refl
+  asked_follows t request g room s w h NoOpen = h
+  asked_follows t request g room s w h (Open q) = plan_follows t request q g room s w h (verdict_of request q s) refl
 
-  open-follows : (t service : ℕ) (request : List ℕ) (g : Origin) (room : ℕ) (s : State) (w : G) → P w s →
+  open_follows : (t service : ℕ) (request : List ℕ) (g : Origin) (room : ℕ) (s : State) (w : G) → P w s →
       let c = Calls.Open t service request g room in P (learnt r (news c (answer c s)) w) (next c s)
   unfolding open_call open_effect open_answer
-  open-follows t service request g room s w h =
-      by_cases (timely t) (λ y. rw y (asked-follows t request g room s w h (open_asked service request))) (λ n. rw n h)
+  open_follows t service request g room s w h =
+      by_cases (timely t) (λ y. rw y (asked_follows t request g room s w h (open_asked service request))) (λ n. rw n h)
 
   -- CLOSE
-  close-for-follows : (room : ℕ) (s : State) (w : G) → P w s → (x : CloseAnswer) → Step s w (close_for room s x) (close_news x) (close_by s x)
+  close_for_follows : (room : ℕ) (s : State) (w : G) → P w s → (x : CloseAnswer) → Step s w (close_for room s x) (close_news x) (close_by s x)
   unfolding closed
-  close-for-follows room s w h NoClose = h
-  close-for-follows room s w h (Close d) =
+  close_for_follows room s w h NoClose = h
+  close_for_follows room s w h (Close d) =
       by_cases (any (conn_triad d) s.table)
       (λ y. found (conn_triad d) s.table y
-      (λ c e. rw (y, e) (either_way (λ a. Step s w a (Closing d) (removed false Closed c (withoutFirst (conn_triad d) s.table) s)) (leb (length (close_reply d)) room)
+      (λ c e. rw (y, e) (either_way (λ a. Step s w a (Closing d) (removed false Closed c (without_first (conn_triad d) s.table) s)) (leb (length (close_reply d)) room)
       (k.closing d c s w e h) h)))
       (λ n. rw n h)
 
   close_follows : (request : List ℕ) (room : ℕ) (s : State) (w : G) → P w s →
       let c = Calls.Close request room in P (learnt r (news c (answer c s)) w) (next c s)
   unfolding close_call close_effect close_answer
-  close_follows request room s w h = close-for-follows room s w h (close_of request)
+  close_follows request room s w h = close_for_follows room s w h (close_of request)
 
   -- RECEIVE
-  frame-follows : (t from : ℕ) (s : State) (w : G) → P w s → (x : Option Frame) → P (learnt r (frame_news t from x) w) (maybe s (λ f. received t from f s) x)
-  frame-follows t from s w h none = h
-  frame-follows t from s w h (some f) = k.hearing t from f s w h
+  frame_follows : (t from : ℕ) (s : State) (w : G) → P w s → (x : Option Frame) → P (learnt r (frame_news t from x) w) (maybe s (λ f. received t from f s) x)
+  frame_follows t from s w h none = h
+  frame_follows t from s w h (some f) = k.hearing t from f s w h
 
-  receive-follows : (t from : ℕ) (frame : List ℕ) (s : State) (w : G) → P w s →
+  receive_follows : (t from : ℕ) (frame : List ℕ) (s : State) (w : G) → P w s →
       let c = Calls.Receive t from frame in P (learnt r (news c (answer c s)) w) (next c s)
   unfolding receive_call receive_effect receive_answer
-  receive-follows t from frame s w h = by_cases (timely t) (λ y. rw y (frame-follows t from s w h (frame_of frame (io_of frame)))) (λ n. rw n h)
+  receive_follows t from frame s w h = by_cases (timely t) (λ y. rw y (frame_follows t from s w h (frame_of frame (io_of frame)))) (λ n. rw n h)
 
   -- EXPIRE
-  expire-follows : (t : ℕ) (s : State) (w : G) → P w s → let c = Calls.Expire t in P (learnt r (news c (answer c s)) w) (next c s)
+  expire_follows : (t : ℕ) (s : State) (w : G) → P w s → let c = Calls.Expire t in P (learnt r (news c (answer c s)) w) (next c s)
   unfolding expire_call expire_answer
-  expire-follows t s w h = by_cases (timely t) (λ y. rw y (k.expiring t s w h)) (λ n. rw n h)
+  expire_follows t s w h = by_cases (timely t) (λ y. rw y (k.expiring t s w h)) (λ n. rw n h)
 
   -- no news
-  no-news : (b : Bool) (w : G) (s : State) → P w s → P (learnt r (cond b Nothing Nothing) w) s
-  no-news true w s h = h
-  no-news false w s h = h
+  no_news : (b : Bool) (w : G) (s : State) → P w s → P (learnt r (cond b Nothing Nothing) w) s
+  no_news true w s h = h
+  no_news false w s h = h
 
   quiet_step : (b : Bool) (w : G) (s s' : State) → P w s' → P w s → P (learnt r (cond b Nothing Nothing) w) (cond b s' s)
   quiet_step true w s s' k h = k
   quiet_step false w s s' k h = h
 
   -- the host's
-  input-follows : (n : ℕ) (bytes : List ℕ) (s : State) (w : G) → P w s → (x : Option ℕ) → place_of is_input s.setup n ≡ x → P w (input_set bytes s x)
-  input-follows n bytes s w h none e = h
-  input-follows n bytes s w h (some i) e = (k.quiet w).setting n i bytes s e h
+  input_follows : (n : ℕ) (bytes : List ℕ) (s : State) (w : G) → P w s → (x : Option ℕ) → place_of is_input s.setup n ≡ x → P w (input_set bytes s x)
+  input_follows n bytes s w h none e = h
+  input_follows n bytes s w h (some i) e = (k.quiet w).setting n i bytes s e h
 
-  output-follows : (n : ℕ) (s : State) (w : G) → P w s → (x : Option ℕ) → place_of is_output s.setup n ≡ x → P w (output_read s x)
-  output-follows n s w h none e = h
-  output-follows n s w h (some i) e = (k.quiet w).reading n i s e h
+  output_follows : (n : ℕ) (s : State) (w : G) → P w s → (x : Option ℕ) → place_of is_output s.setup n ≡ x → P w (output_read s x)
+  output_follows n s w h none e = h
+  output_follows n s w h (some i) e = (k.quiet w).reading n i s e h
 
   -- EVERY CALL
   pub follows : (c : Call) (s : State) (w : G) → P w s → P (learnt r (news c (answer c s)) w) (next c s)
   unfolding produce_call set_input_call set_input_effect output_call output_effect next_event_call
-  follows (Calls.Open t service request g room) s w h = open-follows t service request g room s w h
-  follows (Calls.OpenRefusal service request room) s w h = no-news (is_yes (answer (Calls.OpenRefusal service request room) s)) w s h
+  follows (Calls.Open t service request g room) s w h = open_follows t service request g room s w h
+  follows (Calls.OpenRefusal service request room) s w h = no_news (is_yes (answer (Calls.OpenRefusal service request room) s)) w s h
   follows (Calls.Close request room) s w h = close_follows request room s w h
-  follows (Calls.Receive t from frame) s w h = receive-follows t from frame s w h
+  follows (Calls.Receive t from frame) s w h = receive_follows t from frame s w h
   follows (Calls.Produce t room) s w h = quiet_step (is_yes (produce_answer t room s)) w s (produce_effect t s) ((k.quiet w).producing t s h) h
-  follows (Calls.Expire t) s w h = expire-follows t s w h
-  follows (Calls.Deadline room) s w h = no-news (is_yes (answer (Calls.Deadline room) s)) w s h
+  follows (Calls.Expire t) s w h = expire_follows t s w h
+  follows (Calls.Deadline room) s w h = no_news (is_yes (answer (Calls.Deadline room) s)) w s h
   follows (Calls.SetInput n bytes) s w h =
-      quiet_step (is_yes (set_input_answer n bytes s.setup)) w s (set_input_effect n bytes s) (input-follows n bytes s w h (place_of is_input s.setup n) refl) h
+      quiet_step (is_yes (set_input_answer n bytes s.setup)) w s (set_input_effect n bytes s) (input_follows n bytes s w h (place_of is_input s.setup n) refl) h
   follows (Calls.ReadOutput n room) s w h =
-      quiet_step (is_yes (output_answer n room s)) w s (output_effect n s) (output-follows n s w h (place_of is_output s.setup n) refl) h
-  follows (Calls.ReadAssembly kind n room) s w h = no-news (is_yes (answer (Calls.ReadAssembly kind n room) s)) w s h
+      quiet_step (is_yes (output_answer n room s)) w s (output_effect n s) (output_follows n s w h (place_of is_output s.setup n) refl) h
+  follows (Calls.ReadAssembly kind n room) s w h = no_news (is_yes (answer (Calls.ReadAssembly kind n room) s)) w s h
   follows (Calls.NextEvent room) s w h = quiet_step (is_yes (next_event_answer room s)) w s (next_event_effect s) ((k.quiet w).noting s h) h
-  follows (Calls.Connections room) s w h = no-news (is_yes (answer (Calls.Connections room) s)) w s h
-  follows (Calls.Stats room) s w h = no-news (is_yes (answer (Calls.Stats room) s)) w s h
-  follows (Calls.Message local mask message room position) s w h = no-news (is_yes (answer (Calls.Message local mask message room position) s)) w s h
+  follows (Calls.Connections room) s w h = no_news (is_yes (answer (Calls.Connections room) s)) w s h
+  follows (Calls.Stats room) s w h = no_news (is_yes (answer (Calls.Stats room) s)) w s h
+  follows (Calls.Message local mask message room position) s w h = no_news (is_yes (answer (Calls.Message local mask message room position) s)) w s h
 
   -- EVERY RUN
-  pub run-follows : (cs : List Call) (s : State) (w : G) → P w s → P (history r (log cs s) w) (run cs s)
-  run-follows [] s w h = h
-  run-follows (c ∷ cs) s w h = run-follows cs (next c s) (learnt r (news c (answer c s)) w) (follows c s w h)
+  pub run_follows : (cs : List Call) (s : State) (w : G) → P w s → P (history r (log cs s) w) (run cs s)
+  run_follows [] s w h = h
+  run_follows (c ∷ cs) s w h = run_follows cs (next c s) (learnt r (news c (answer c s)) w) (follows c s w h)
 
 -- a reading that learns nothing
 abbrev unlearnt : Reading (Unit {0})
@@ -282,14 +282,14 @@ module _ (P : State → Type 0) (removing : Removing P) where
   gone fault why p s none e h = h
   gone fault why p s (some c) e h = removing fault why p c s e h
 
-  expired-kept : (t n : ℕ) (s : State) → P s → P (repeat n (expired_first t) s)
+  expired_kept : (t n : ℕ) (s : State) → P s → P (repeat n (expired_first t) s)
   unfolding expired_first
-  expired-kept t zero s h = h
-  expired-kept t (suc n) s h = expired-kept t n (expired_first t s) (gone true TimedOut (expired t) s (find (expired t) s.table) refl h)
+  expired_kept t zero s h = h
+  expired_kept t (suc n) s h = expired_kept t n (expired_first t s) (gone true TimedOut (expired t) s (find (expired t) s.table) refl h)
 
-  pub expiry-keeps : (t : ℕ) (s : State) → P s → P (expire_effect t s)
+  pub expiry_keeps : (t : ℕ) (s : State) → P s → P (expire_effect t s)
   unfolding expire_effect
-  expiry-keeps t s h = expired-kept t (length s.table) s h
+  expiry_keeps t s h = expired_kept t (length s.table) s h
 
 module _ (P : State → Type 0) (k : Kept P) where
   plain : Follows unlearnt (λ w. P)
@@ -298,7 +298,7 @@ module _ (P : State → Type 0) (k : Kept P) where
         quiet = λ w. k.quiet;
         opening = λ t request q g p s w e h. k.opening t request q g p s e h;
         closing = λ d c s w e h. k.removing false Closed (conn_triad d) c s e h;
-        expiring = λ t s w h. expiry-keeps P k.removing t s h;
+        expiring = λ t s w h. expiry_keeps P k.removing t s h;
         hearing = λ t from f s w h. k.hearing t from f s h;
       }
 
@@ -306,6 +306,6 @@ module _ (P : State → Type 0) (k : Kept P) where
   pub kept : (c : Call) (s : State) → P s → P (next c s)
   kept c s h = follows unlearnt (λ w. P) plain c s tt h
 
-  pub run-kept : (cs : List Call) (s : State) → P s → P (run cs s)
-  run-kept [] s h = h
-  run-kept (c ∷ cs) s h = run-kept cs (next c s) (kept c s h)
+  pub run_kept : (cs : List Call) (s : State) → P s → P (run cs s)
+  run_kept [] s h = h
+  run_kept (c ∷ cs) s h = run_kept cs (next c s) (kept c s h)

@@ -9,7 +9,7 @@ use Rattle.wire_rules.specs.declared.OpenAnswer.TheVariants.{Open, NoOpen}
 use Rattle.wire_rules.specs.declared.CloseAnswer.TheVariants.{Close, NoClose}
 use Rattle.rules.specs.declared.Verdict.TheVariants.{Stopped, Planned}
 use Rattle.rules.specs.declared.Event.TheVariants.{Opened, Closed, TimedOut}
-use Rattle.rules.specs.Lists.{find, withoutFirst, maybe, repeat}
+use Rattle.rules.specs.Lists.{find, without_first, maybe, repeat}
 use Rattle.rules_laws.specs.ListLaws.{by_cases}
 use Rattle.rules.specs.State.{Setup, Events, State, is_input, is_output}
 use Rattle.rules.specs.Answers.{is_yes}
@@ -39,7 +39,7 @@ abbrev pub removal_told : (Info → Event) → Conn → List Conn → Setup → 
 removal_told why c rest u = closed_events u (listeners_of c (handed_over c rest)) ++ (why (info_of u c.fixed) ∷ [])
 
 abbrev gone_told : (Info → Event) → (Conn → Bool) → State → Option Conn → List Event
-gone_told why p s x = maybe [] (λ c. removal_told why c (withoutFirst p s.table) s.setup) x
+gone_told why p s x = maybe [] (λ c. removal_told why c (without_first p s.table) s.setup) x
 
 abbrev close_told : State → CloseAnswer → List Event
 close_told s NoClose = []
@@ -106,7 +106,7 @@ removal_tells fault why c rest s = sym (pushed_append (closed_events s.setup (li
 gone_tells : (fault : Bool) (why : Info → Event) (p : Conn → Bool) (s : State) (x : Option Conn) → (removed_if fault why p s x).events ≡ pushed_all (gone_told why p s x) s.events
 unfolding pushed_all
 gone_tells fault why p s none = refl
-gone_tells fault why p s (some c) = removal_tells fault why c (withoutFirst p s.table) s
+gone_tells fault why p s (some c) = removal_tells fault why c (without_first p s.table) s
 
 expiry_tells : (t n : ℕ) (s : State) → (repeat n (expired_first t) s).events ≡ pushed_all (expire_told t n s) s.events
 unfolding expired_first pushed_all

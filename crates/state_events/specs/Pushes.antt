@@ -11,7 +11,7 @@ use Rattle.state_rules.specs.Places.{setup_in}
 use Rattle.state_rules.specs.Setups.{setup_from}
 use Rattle.state_rules.specs.Image.{store}
 use Rattle.state_image.specs.Fits.{Suits}
-use Rattle.state_image.specs.Holds.{Becomes, setup-held}
+use Rattle.state_image.specs.Holds.{Becomes, setup_held}
 use Rattle.state_image.specs.Changes.{event_pushed, suits_pushed}
 use Rattle.state_records.specs.Fields.{length_info}
 use Rattle.state_records.specs.Shapes.{info_in}
@@ -37,7 +37,7 @@ tells s s' e what f q b st l h =
     b st l h
     ∙ ap (λ (z : List ℕ). store (event_pushed z st) l)
     (q ∙ sets_whole (replicate 32 0) (info_record what (info_of (setup_from (setup_in s) []) f)) (sym (length_info what (info_of (setup_from (setup_in s) []) f)))
-    ∙ ap (info_record what) (info_in s f ∙ ap (λ (u : Setup). info_of u f) (setup-held s st l h)))
+    ∙ ap (info_record what) (info_in s f ∙ ap (λ (u : Setup). info_of u f) (setup_held s st l h)))
 
 -- ---- of an assembly
 

@@ -4,7 +4,7 @@ use Rattle.std.proofs.Common.{ap, ap₂, ◌∙◌, arith, length-append, length
 use Rattle.std.proofs.lemmas.List.{length-replicate}
 use Rattle.base_tables.specs.Slots.{store_slots, fill_own, length_fill}
 use Rattle.rules.specs.State.{Shape, Content, no_shape, no_content}
-use Rattle.state_rules.specs.Bits.{run_in, notified_in, mark_own, mark_twice, run-of-mark, notified-of-mark}
+use Rattle.state_rules.specs.Bits.{run_in, notified_in, mark_own, mark_twice, run_of_mark, notified_of_mark}
 use Rattle.state_rules.specs.Image.{contents_of, record32, mark_on, marks_over, bytes_of}
 use Rattle.state_image.specs.Fits.{Records32, none, one}
 
@@ -20,13 +20,13 @@ length_marks_over (c ∷ cs) (x ∷ m) h = ap suc (length_marks_over cs m (omega
 pub run_over : (cs : List Content) (m : List ℕ) (i : ℕ) → i < length cs → run_in (get_or (marks_over cs m) i 0) ≡ (get_or cs i no_content).run
 unfolding marks_over
 run_over [] m i p = absurd (omega arith)
-run_over (c ∷ cs) m zero p = run-of-mark c.run c.notified (get_or m 0 0)
+run_over (c ∷ cs) m zero p = run_of_mark c.run c.notified (get_or m 0 0)
 run_over (c ∷ cs) m (suc i) p = run_over cs (drop 1 m) i (omega arith)
 
 pub notified_over : (cs : List Content) (m : List ℕ) (i : ℕ) → i < length cs → notified_in (get_or (marks_over cs m) i 0) ≡ (get_or cs i no_content).notified
 unfolding marks_over
 notified_over [] m i p = absurd (omega arith)
-notified_over (c ∷ cs) m zero p = notified-of-mark c.run c.notified (get_or m 0 0)
+notified_over (c ∷ cs) m zero p = notified_of_mark c.run c.notified (get_or m 0 0)
 notified_over (c ∷ cs) m (suc i) p = notified_over cs (drop 1 m) i (omega arith)
 
 -- a mark over another: the bits that stand for nothing are the first one's
@@ -89,7 +89,7 @@ contents_back (a ∷ ss) (c ∷ cs) m d e z h g =
     ap (take a.size) (take_at (x ++ s) rest 512 n) ∙ take_at x s a.size z0 in
     let l' : length (drop 512 d) ≡ length d - 512 = length-drop 512 d in
     let old : ℕ = get_or m 0 0 in
-    ap₂ ◌∷◌ (λ i. record { bytes = b i; run = run-of-mark c.run c.notified old i; notified = notified-of-mark c.run c.notified old i })
+    ap₂ ◌∷◌ (λ i. record { bytes = b i; run = run_of_mark c.run c.notified old i; notified = notified_of_mark c.run c.notified old i })
     (ap (contents_of ss (marks_over cs (drop 1 m))) (drop_at (x ++ s) rest 512 n)
     ∙ contents_back ss cs (drop 1 m) (drop 512 d) (omega arith) (λ i. z (suc i)) (λ i. h (suc i)) (omega arith))
 

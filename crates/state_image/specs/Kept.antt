@@ -49,8 +49,8 @@ module _ (st : State) (l : List ℕ) (w : Suits st l) where
   abbrev f : Fits st
   f = w.fits
 
-  pub suits-table : (cs : List Conn) → length cs ≤ 32 → RowsFit cs → Suits (with_table cs st) l
-  suits-table cs p q =
+  pub suits_table : (cs : List Conn) → length cs ≤ 32 → RowsFit cs → Suits (with_table cs st) l
+  suits_table cs p q =
       record {
         fits = record { contents = f.contents; sized = f.sized; table = p; rows = q; gone = f.gone; waiting = f.waiting; records = f.records; id = f.id };
         lent = w.lent;
@@ -58,57 +58,57 @@ module _ (st : State) (l : List ℕ) (w : Suits st l) where
       }
 
   -- a row of which nothing changes that never does
-  pub suits-row : (i : ℕ) (c : Conn) → c.fixed ≡ (get_or st.table i no_conn).fixed → Suits (with_table (set st.table i c) st) l
-  suits-row i c e =
-      suits-table (set st.table i c) (let n = length-set st.table i c in let t = f.table in omega arith)
+  pub suits_row : (i : ℕ) (c : Conn) → c.fixed ≡ (get_or st.table i no_conn).fixed → Suits (with_table (set st.table i c) st) l
+  suits_row i c e =
+      suits_table (set st.table i c) (let n = length-set st.table i c in let t = f.table in omega arith)
       (fits_set st.table i c (fits_same (get_or st.table i no_conn) c e (fits_at st.table f.rows i)) f.rows)
 
-  pub suits-appended : (c : Conn) → RowFits c → length st.table < 32 → Suits (with_table (st.table ++ (c ∷ [])) st) l
-  suits-appended c q p =
-      suits-table (st.table ++ (c ∷ [])) (let e = length-append st.table (c ∷ []) in omega arith) (fits_append st.table c q f.rows)
+  pub suits_appended : (c : Conn) → RowFits c → length st.table < 32 → Suits (with_table (st.table ++ (c ∷ [])) st) l
+  suits_appended c q p =
+      suits_table (st.table ++ (c ∷ [])) (let e = length-append st.table (c ∷ []) in omega arith) (fits_append st.table c q f.rows)
 
-  pub suits-removed : (i : ℕ) → Suits (with_table (without st.table i) st) l
-  suits-removed i =
-      suits-table (without st.table i) (let e = length_without st.table i in let t = f.table in omega arith) (fits_without st.table i f.rows)
+  pub suits_removed : (i : ℕ) → Suits (with_table (without st.table i) st) l
+  suits_removed i =
+      suits_table (without st.table i) (let e = length_without st.table i in let t = f.table in omega arith) (fits_without st.table i f.rows)
 
-  pub suits-contents : (cs : List Content) → length cs ≡ length st.contents
+  pub suits_contents : (cs : List Content) → length cs ≡ length st.contents
       → ((i : ℕ) → length (get_or cs i no_content).bytes ≡ length (content_at st i).bytes) → Suits (with_contents cs st) l
-  suits-contents cs n e =
+  suits_contents cs n e =
       record {
         fits = record { contents = n ∙ f.contents; sized = λ i. e i ∙ f.sized i; table = f.table; rows = f.rows; gone = f.gone; waiting = f.waiting; records = f.records; id = f.id };
         lent = w.lent;
         setup = w.setup;
       }
 
-  pub suits-content : (i : ℕ) (c : Content) → length c.bytes ≡ length (content_at st i).bytes → Suits (with_contents (set st.contents i c) st) l
-  suits-content i c e = suits-contents (set st.contents i c) (length-set st.contents i c) (content_set st.contents i c e)
+  pub suits_content : (i : ℕ) (c : Content) → length c.bytes ≡ length (content_at st i).bytes → Suits (with_contents (set st.contents i c) st) l
+  suits_content i c e = suits_contents (set st.contents i c) (length-set st.contents i c) (content_set st.contents i c e)
 
-  pub suits-events : (es : Events) → es.gone < 1024 → length es.waiting ≤ 1024 → Records32 es.waiting → Suits (with_events es st) l
-  suits-events es g n r =
+  pub suits_events : (es : Events) → es.gone < 1024 → length es.waiting ≤ 1024 → Records32 es.waiting → Suits (with_events es st) l
+  suits_events es g n r =
       record {
         fits = record { contents = f.contents; sized = f.sized; table = f.table; rows = f.rows; gone = g; waiting = n; records = r; id = f.id };
         lent = w.lent;
         setup = w.setup;
       }
 
-  pub suits-fault : (b : Bool) → Suits (with_fault b st) l
-  suits-fault b =
+  pub suits_fault : (b : Bool) → Suits (with_fault b st) l
+  suits_fault b =
       record {
         fits = record { contents = f.contents; sized = f.sized; table = f.table; rows = f.rows; gone = f.gone; waiting = f.waiting; records = f.records; id = f.id };
         lent = w.lent;
         setup = w.setup;
       }
 
-  pub suits-nextId : (v : ℕ) → 0 < v → Suits (with_next_id v st) l
-  suits-nextId v p =
+  pub suits_next_id : (v : ℕ) → 0 < v → Suits (with_next_id v st) l
+  suits_next_id v p =
       record {
         fits = record { contents = f.contents; sized = f.sized; table = f.table; rows = f.rows; gone = f.gone; waiting = f.waiting; records = f.records; id = p };
         lent = w.lent;
         setup = w.setup;
       }
 
-  pub suits-counters : (n : Counters) → Suits (with_counters n st) l
-  suits-counters n =
+  pub suits_counters : (n : Counters) → Suits (with_counters n st) l
+  suits_counters n =
       record {
         fits = record { contents = f.contents; sized = f.sized; table = f.table; rows = f.rows; gone = f.gone; waiting = f.waiting; records = f.records; id = f.id };
         lent = w.lent;
@@ -119,8 +119,8 @@ module _ (st : State) (l : List ℕ) (w : Suits st l) where
 
 -- the same bytes before the marks: the same bounds
 module _ (s s' : List ℕ) (len : length s' ≡ length s) (same : take marks_at s' ≡ take marks_at s) where
-  pub ready-same : Ready s → Ready s'
-  ready-same r =
+  pub ready_same : Ready s → Ready s'
+  ready_same r =
       record {
         long = len ∙ r.long;
         assemblies = rw (le_same 1 s' s 0 marks_at (omega arith) same) r.assemblies;
@@ -128,8 +128,8 @@ module _ (s s' : List ℕ) (len : length s' ≡ length s) (same : take marks_at 
         conns = rw (le_same 2 s' s connections_at marks_at (omega arith) same) r.conns;
       }
 
-  pub conns-same : connections_of s' ≡ connections_of s
-  conns-same = le_same 2 s' s connections_at marks_at (omega arith) same
+  pub conns_same : connections_of s' ≡ connections_of s
+  conns_same = le_same 2 s' s connections_at marks_at (omega arith) same
 
 -- the same setup: the same shapes
 pub slotted_same : (s s' : List ℕ) → take 192 s' ≡ take 192 s → assemblies_of s ≤ 16 → Slotted s → Slotted s'
@@ -141,18 +141,18 @@ slotted_same s s' same b t i h =
 
 -- stores behind the head, and a region put back behind it
 pub ready_sets : (s : List ℕ) (at : ℕ) (bs : List ℕ) → marks_at ≤ at → Ready s → Ready (sets s at bs)
-ready_sets s at bs h = ready-same s (sets s at bs) (length-sets s at bs) (take_sets marks_at s at bs h)
+ready_sets s at bs h = ready_same s (sets s at bs) (length-sets s at bs) (take_sets marks_at s at bs h)
 
 pub ready_mid : (s : List ℕ) (a k : ℕ) (x : List ℕ) → marks_at ≤ a → a ≤ state_size → length x ≡ length (mid_of a k s) → Ready s → Ready (put_mid a k s x)
 ready_mid s a k x h g n r =
     let long = r.long in
-    ready-same s (put_mid a k s x) (same_len_mid a k s x n)
+    ready_same s (put_mid a k s x) (same_len_mid a k s x n)
     (sym (take-take marks_at a (put_mid a k s x) h) ∙ ap (take marks_at) (take_put a k s x (omega arith)) ∙ take-take marks_at a s h) r
 
 -- the head's numbers
 module _ (s : List ℕ) (r : Ready s) where
-  pub ready-conns : (n : ℕ) → n ≤ 32 → Ready (put 2 s connections_at n)
-  ready-conns n h =
+  pub ready_conns : (n : ℕ) → n ≤ 32 → Ready (put 2 s connections_at n)
+  ready_conns n h =
       let long = r.long in
       record {
         long = length_put 2 s connections_at n ∙ r.long;
@@ -161,8 +161,8 @@ module _ (s : List ℕ) (r : Ready s) where
         conns = rw (le_put_same 1 s connections_at n (omega arith)) h;
       }
 
-  pub ready-ring : (v : ℕ) → v < ring_bound → Ready (put 4 s ring_at v)
-  ready-ring v h =
+  pub ready_ring : (v : ℕ) → v < ring_bound → Ready (put 4 s ring_at v)
+  ready_ring v h =
       let long = r.long in
       record {
         long = length_put 4 s ring_at v ∙ r.long;
@@ -172,8 +172,8 @@ module _ (s : List ℕ) (r : Ready s) where
       }
 
   -- a number that bounds nothing: a counter, the next id
-  pub ready-low : (k at v : ℕ) → 192 ≤ at → at + k ≤ ring_at → Ready (put k s at v)
-  ready-low k at v h g =
+  pub ready_low : (k at v : ℕ) → 192 ≤ at → at + k ≤ ring_at → Ready (put k s at v)
+  ready_low k at v h g =
       record {
         long = length_put k s at v ∙ r.long;
         assemblies = rw (le_put_before 1 k s 0 at v (omega arith)) r.assemblies;
@@ -205,7 +205,7 @@ module _ (s : List ℕ) (r : Ready s) where
       record {
         ready = ready_sets s at bs h r;
         setup = take_sets 192 s at bs (omega arith);
-        conns = conns-same s (sets s at bs) (length-sets s at bs) (take_sets marks_at s at bs h);
+        conns = conns_same s (sets s at bs) (length-sets s at bs) (take_sets marks_at s at bs h);
       }
 
   -- the table's region put back, and put back with another count
@@ -220,7 +220,7 @@ module _ (s : List ℕ) (r : Ready s) where
         record {
           ready = ready_mid s table_at table_size x (omega arith) (omega arith) n r;
           setup = mid-same 192 (omega arith);
-          conns = conns-same s (put_mid table_at table_size s x) (same_len_mid table_at table_size s x n) (mid-same marks_at (omega arith));
+          conns = conns_same s (put_mid table_at table_size s x) (same_len_mid table_at table_size s x n) (mid-same marks_at (omega arith));
         }
 
     pub kept-counted : (m : ℕ) → m ≤ 32 → Kept m s (put 2 (put_mid table_at table_size s x) connections_at m)
@@ -228,7 +228,7 @@ module _ (s : List ℕ) (r : Ready s) where
         let s₁ : List ℕ = put_mid table_at table_size s x in
         let long = kept_table.ready.long in
         record {
-          ready = ready-conns s₁ kept_table.ready m h;
+          ready = ready_conns s₁ kept_table.ready m h;
           setup = take-put-le 2 s₁ connections_at m 192 (omega arith) ∙ kept_table.setup;
           conns = le_put_same 1 s₁ connections_at m (omega arith);
         }
@@ -236,18 +236,18 @@ module _ (s : List ℕ) (r : Ready s) where
   -- one of the head's other numbers
   pub kept_low : (k at v : ℕ) → 192 ≤ at → at + k ≤ ring_at → Kept (connections_of s) s (put k s at v)
   kept_low k at v h g =
-      record { ready = ready-low s r k at v h g; setup = take-put-le k s at v 192 h; conns = le_put_after 2 k s connections_at at v (omega arith) }
+      record { ready = ready_low s r k at v h g; setup = take-put-le k s at v 192 h; conns = le_put_after 2 k s connections_at at v (omega arith) }
 
   -- the ring's word, and an event's record before it
-  pub kept-ring : (v : ℕ) → v < ring_bound → Kept (connections_of s) s (put 4 s ring_at v)
-  kept-ring v h = record { ready = ready-ring s r v h; setup = take-put-le 4 s ring_at v 192 (omega arith); conns = le_put_after 2 4 s connections_at ring_at v (omega arith) }
+  pub kept_ring : (v : ℕ) → v < ring_bound → Kept (connections_of s) s (put 4 s ring_at v)
+  kept_ring v h = record { ready = ready_ring s r v h; setup = take-put-le 4 s ring_at v 192 (omega arith); conns = le_put_after 2 4 s connections_at ring_at v (omega arith) }
 
-  pub kept-pushed : (at : ℕ) (bs : List ℕ) (v : ℕ) → marks_at ≤ at → v < ring_bound → Kept (connections_of s) s (put 4 (sets s at bs) ring_at v)
-  kept-pushed at bs v h g =
+  pub kept_pushed : (at : ℕ) (bs : List ℕ) (v : ℕ) → marks_at ≤ at → v < ring_bound → Kept (connections_of s) s (put 4 (sets s at bs) ring_at v)
+  kept_pushed at bs v h g =
       let k = kept_sets at bs h in
       let s₁ : List ℕ = sets s at bs in
       record {
-        ready = ready-ring s₁ k.ready v g;
+        ready = ready_ring s₁ k.ready v g;
         setup = take-put-le 4 s₁ ring_at v 192 (omega arith) ∙ k.setup;
         conns = le_put_after 2 4 s₁ connections_at ring_at v (omega arith) ∙ k.conns;
       }
@@ -258,14 +258,14 @@ module _ (s : List ℕ) (r : Ready s) where
   kept_put k at v h = kept_sets at (le_bytes k v) h
 
   -- the three counters
-  pub kept-counters : (p q m : ℕ) → Kept (connections_of s) s (put 8 (put 8 (put 8 s 192 p) 200 q) 208 m)
-  kept-counters p q m =
+  pub kept_counters : (p q m : ℕ) → Kept (connections_of s) s (put 8 (put 8 (put 8 s 192 p) 200 q) 208 m)
+  kept_counters p q m =
       let k₁ = kept_low 8 192 p (omega arith) (omega arith) in
       let s₁ : List ℕ = put 8 s 192 p in
       let s₂ : List ℕ = put 8 s₁ 200 q in
-      let r₂ : Ready s₂ = ready-low s₁ k₁.ready 8 200 q (omega arith) (omega arith) in
+      let r₂ : Ready s₂ = ready_low s₁ k₁.ready 8 200 q (omega arith) (omega arith) in
       record {
-        ready = ready-low s₂ r₂ 8 208 m (omega arith) (omega arith);
+        ready = ready_low s₂ r₂ 8 208 m (omega arith) (omega arith);
         setup = take-put-le 8 s₂ 208 m 192 (omega arith) ∙ take-put-le 8 s₁ 200 q 192 (omega arith) ∙ k₁.setup;
         conns = le_put_after 2 8 s₂ connections_at 208 m (omega arith) ∙ le_put_after 2 8 s₁ connections_at 200 q (omega arith) ∙ k₁.conns;
       }

@@ -9,8 +9,8 @@ use Rattle.rules.specs.State.{State}
 use Rattle.rules.specs.Answers.{Answer, answerNumber, answerBytes}
 use Rattle.state_rules.specs.Image.{view, store, tested}
 use Rattle.state_image.specs.Fits.{Suits}
-use Rattle.state_image.specs.ViewLaws.{store_view, view-store}
-use Rattle.state_image.specs.Passes.{tested-store}
+use Rattle.state_image.specs.ViewLaws.{store_view, view_store}
+use Rattle.state_image.specs.Passes.{tested_store}
 
 -- a call that writes no output: the answer, and the state's bytes
 unfoldable pub lifted : (State → Answer × State) → List ℕ → ℕ × List ℕ
@@ -35,52 +35,52 @@ two_outcomes one other p q = p ∙ sym q
 -- ---- one law for each way out
 
 module _ (call : State → Answer × State) (l : List ℕ) where
-  pub lifted-fails : tested l ≡ false → (1, l) ≡ lifted call l
+  pub lifted_fails : tested l ≡ false → (1, l) ≡ lifted call l
   unfolding lifted
-  lifted-fails e = rw e
+  lifted_fails e = rw e
 
-  pub lifted-passes : tested l ≡ true → lifted call l ≡ (answerNumber (call (view l)).0, store (call (view l)).1 l)
+  pub lifted_passes : tested l ≡ true → lifted call l ≡ (answerNumber (call (view l)).0, store (call (view l)).1 l)
   unfolding lifted
-  lifted-passes e = rw e
+  lifted_passes e = rw e
 
   -- done: the bytes hold the state left
-  pub lifted-done : tested l ≡ true → (n : ℕ) (l' : List ℕ) → n ≡ answerNumber (call (view l)).0 → l' ≡ store (call (view l)).1 l → (n, l') ≡ lifted call l
-  lifted-done e n l' p q = (λ i. (p i, q i)) ∙ sym (lifted-passes e)
+  pub lifted_done : tested l ≡ true → (n : ℕ) (l' : List ℕ) → n ≡ answerNumber (call (view l)).0 → l' ≡ store (call (view l)).1 l → (n, l') ≡ lifted call l
+  lifted_done e n l' p q = (λ i. (p i, q i)) ∙ sym (lifted_passes e)
 
   -- refused: nothing is written
-  pub lifted-kept : tested l ≡ true → Bytes l → (n : ℕ) → n ≡ answerNumber (call (view l)).0 → (call (view l)).1 ≡ view l → (n, l) ≡ lifted call l
-  lifted-kept e b n p q = lifted-done e n l p (sym (store_view l e b) ∙ ap (λ (st : State). store st l) (sym q))
+  pub lifted_kept : tested l ≡ true → Bytes l → (n : ℕ) → n ≡ answerNumber (call (view l)).0 → (call (view l)).1 ≡ view l → (n, l) ≡ lifted call l
+  lifted_kept e b n p q = lifted_done e n l p (sym (store_view l e b) ∙ ap (λ (st : State). store st l) (sym q))
 
   -- afterwards the state test passes, and the bytes say what the rules say: a run of calls is a run of the rules
   module _ (e : tested l ≡ true) (w : Suits (call (view l)).1 l) where
     pub lifted-tested : tested (lifted call l).1 ≡ true
-    lifted-tested = ap (λ (z : ℕ × List ℕ). tested z.1) (lifted-passes e) ∙ tested-store (call (view l)).1 l w
+    lifted-tested = ap (λ (z : ℕ × List ℕ). tested z.1) (lifted_passes e) ∙ tested_store (call (view l)).1 l w
 
     pub lifted-view : view (lifted call l).1 ≡ (call (view l)).1
-    lifted-view = ap (λ (z : ℕ × List ℕ). view z.1) (lifted-passes e) ∙ view-store (call (view l)).1 l w
+    lifted-view = ap (λ (z : ℕ × List ℕ). view z.1) (lifted_passes e) ∙ view_store (call (view l)).1 l w
 
 module _ (call : ℕ → State → Answer × State) (l out : List ℕ) where
   abbrev after : Answer × State
   after = call (length out) (view l)
 
-  pub out-fails : tested l ≡ false → (1, (l, out)) ≡ lifted_out call l out
+  pub out_fails : tested l ≡ false → (1, (l, out)) ≡ lifted_out call l out
   unfolding lifted_out
-  out-fails e = rw e
+  out_fails e = rw e
 
-  pub out-done : tested l ≡ true → (n : ℕ) (l' out' : List ℕ) → n ≡ answerNumber after.0 → l' ≡ store after.1 l → out' ≡ sets out 0 (answerBytes after.0)
+  pub out_done : tested l ≡ true → (n : ℕ) (l' out' : List ℕ) → n ≡ answerNumber after.0 → l' ≡ store after.1 l → out' ≡ sets out 0 (answerBytes after.0)
       → (n, (l', out')) ≡ lifted_out call l out
   unfolding lifted_out
-  out-done e n l' out' p q r = (λ i. (p i, (q i, r i))) ∙ rw e
+  out_done e n l' out' p q r = (λ i. (p i, (q i, r i))) ∙ rw e
 
-  pub out-kept : tested l ≡ true → Bytes l → (n : ℕ) → n ≡ answerNumber after.0 → after.1 ≡ view l → answerBytes after.0 ≡ []
+  pub out_kept : tested l ≡ true → Bytes l → (n : ℕ) → n ≡ answerNumber after.0 → after.1 ≡ view l → answerBytes after.0 ≡ []
       → (n, (l, out)) ≡ lifted_out call l out
-  out-kept e b n p q r =
-      out-done e n l out p (sym (store_view l e b) ∙ ap (λ (st : State). store st l) (sym q)) (ap (sets out 0) (sym r))
+  out_kept e b n p q r =
+      out_done e n l out p (sym (store_view l e b) ∙ ap (λ (st : State). store st l) (sym q)) (ap (sets out 0) (sym r))
 
 module _ (call : ℕ → State → Answer) (l out : List ℕ) where
-  pub read-fails : tested l ≡ false → (1, out) ≡ lifted_read call l out
+  pub read_fails : tested l ≡ false → (1, out) ≡ lifted_read call l out
   unfolding lifted_read
-  read-fails e = rw e
+  read_fails e = rw e
 
   pub read_done : tested l ≡ true → (n : ℕ) (out' : List ℕ) → n ≡ answerNumber (call (length out) (view l)) → out' ≡ sets out 0 (answerBytes (call (length out) (view l)))
       → (n, out') ≡ lifted_read call l out

@@ -6,16 +6,16 @@ use Rattle.state_rules.specs.Setups.{good_setup, good_shapes}
 use Rattle.state_rules.specs.Bits.{word_small}
 use Rattle.state_rules.specs.Image.{good_head, tested, store}
 use Rattle.state_image.specs.Fits.{Suits}
-use Rattle.state_image.specs.StoreLaws.{length-store, setup-of-store, nextId-is, word-is, conns-is}
-use Rattle.state_image.specs.TestLaws.{head_passes, state-passes}
+use Rattle.state_image.specs.StoreLaws.{length_store, setup_of_store, next_id_is, word_is, conns_is}
+use Rattle.state_image.specs.TestLaws.{head_passes, state_passes}
 
 module _ (st : State) (l : List ℕ) (w : Suits st l) where
-  pub tested-store : tested (store st l) ≡ true
-  tested-store =
+  pub tested_store : tested (store st l) ≡ true
+  tested_store =
       let s : List ℕ = store st l in
       let h : good_head s ≡ true =
-      sym (head_passes s (rw (nextId-is st l w) w.fits.id)
-      (rw (word-is st l w) (word_small (length st.events.waiting) st.events.gone st.fault w.fits.waiting w.fits.gone))
-      (rw (conns-is st l w) w.fits.table)) in
-      sym (state-passes s (length-store st l w) (ap good_setup (setup-of-store st l w) ∙ w.lent.sound) h
-      (ap good_shapes (setup-of-store st l w) ∙ w.lent.shapes))
+      sym (head_passes s (rw (next_id_is st l w) w.fits.id)
+      (rw (word_is st l w) (word_small (length st.events.waiting) st.events.gone st.fault w.fits.waiting w.fits.gone))
+      (rw (conns_is st l w) w.fits.table)) in
+      sym (state_passes s (length_store st l w) (ap good_setup (setup_of_store st l w) ∙ w.lent.sound) h
+      (ap good_shapes (setup_of_store st l w) ∙ w.lent.shapes))

@@ -2,14 +2,14 @@
 use Rattle.std.specs.Prelude.{ℕ, zero, suc, Bool, true, false, List, [], ◌∷◌, ◌++◌, map, ◌≡◌, refl, length, get_or, take, drop, set}
 use Rattle.std.proofs.Common.{ap, ap₂, sym, subst, ◌∙◌, take_at, drop_at}
 use Rattle.base_tables.specs.Tables.{rows, without}
-use Rattle.base_tables.specs.Store.{storeRows, less}
+use Rattle.base_tables.specs.Store.{store_rows, less}
 use Rattle.base_tables.specs.Ring.{by_cases}
-use Rattle.rules.specs.Lists.{keep, changeFirst}
+use Rattle.rules.specs.Lists.{keep, change_first}
 use Rattle.rules.specs.declared.Conn.{Conn}
 use Rattle.rules.specs.declared.Fixed.{Fixed}
 use Rattle.state_rules.specs.Places.{row_size}
 use Rattle.state_rules.specs.Rows.{RoleFits, RowFits, enc_conn, dec_conn, conns_in}
-use Rattle.state_rules.specs.RowLaws.{length_enc_conn, dec-encConn, fits_dec_conn}
+use Rattle.state_rules.specs.RowLaws.{length_enc_conn, dec_enc_conn, fits_dec_conn}
 
 pub data RowsFit : List Conn → Type 0 where
   none : RowsFit []
@@ -22,12 +22,12 @@ unfolding rows
 rows_fit zero r = none
 rows_fit (suc n) r = one (fits_dec_conn (take row_size r)) (rows_fit n (drop row_size r))
 
-pub rows_read : (n : ℕ) (xs : List Conn) (r : List ℕ) → RowsFit xs → conns_in (length xs) (storeRows row_size enc_conn n xs r) ≡ xs
-unfolding storeRows rows
+pub rows_read : (n : ℕ) (xs : List Conn) (r : List ℕ) → RowsFit xs → conns_in (length xs) (store_rows row_size enc_conn n xs r) ≡ xs
+unfolding store_rows rows
 rows_read n [] r none = refl
 rows_read n (x ∷ xs) r (one p q) =
-    let s : List ℕ = storeRows row_size enc_conn (less n) xs (drop row_size r) in
-    ap₂ ◌∷◌ (ap dec_conn (take_at (enc_conn x) s row_size (length_enc_conn x)) ∙ dec-encConn x p)
+    let s : List ℕ = store_rows row_size enc_conn (less n) xs (drop row_size r) in
+    ap₂ ◌∷◌ (ap dec_conn (take_at (enc_conn x) s row_size (length_enc_conn x)) ∙ dec_enc_conn x p)
     (ap (λ (z : List ℕ). conns_in (length xs) z) (drop_at (enc_conn x) s row_size (length_enc_conn x)) ∙ rows_read (less n) xs (drop row_size r) q)
 
 -- the row at a place; past the last, that of no bytes
@@ -60,7 +60,7 @@ pub fits_map : (u : Conn → Conn) → ((c : Conn) → (u c).fixed ≡ c.fixed) 
 fits_map u e [] none = none
 fits_map u e (x ∷ cs) (one q r) = one (fits_same x (u x) (e x) q) (fits_map u e cs r)
 
-pub fits_change : (p : Conn → Bool) (u : Conn → Conn) → ((c : Conn) → (u c).fixed ≡ c.fixed) → (cs : List Conn) → RowsFit cs → RowsFit (changeFirst p u cs)
+pub fits_change : (p : Conn → Bool) (u : Conn → Conn) → ((c : Conn) → (u c).fixed ≡ c.fixed) → (cs : List Conn) → RowsFit cs → RowsFit (change_first p u cs)
 fits_change p u e [] none = none
 fits_change p u e (x ∷ cs) (one q r) =
     by_cases (p x) (λ t. rw t (one (fits_same x (u x) (e x) q) r)) (λ t. rw t (one q (fits_change p u e cs r)))

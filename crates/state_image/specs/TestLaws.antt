@@ -8,10 +8,10 @@ use Rattle.std.proofs.Math.ListN.{drop}
 use Rattle.std.proofs.lemmas.Bool.{lt-leb}
 use Rattle.base_cells.specs.Numbers.{le, le_take}
 use Rattle.base_cells.specs.Back.{all, all_fails}
-use Rattle.base_tables.specs.Tables.{rows, rows-rest, rows_end}
+use Rattle.base_tables.specs.Tables.{rows, rows_rest, rows_end}
 use Rattle.state_rules.specs.Places.{setup_in, state_size, next_id_of, ring_word_of, ring_bound, connections_of, assemblies_of}
 use Rattle.state_rules.specs.Setups.{shape_in, tests_setup, good_setup, tests_shapes, good_shapes}
-use Rattle.state_rules.specs.Listed.{listed-rest, listed-end}
+use Rattle.state_rules.specs.Listed.{listed_rest, listed_end}
 use Rattle.state_rules.specs.Image.{tests_head, good_head, tests_state, tested}
 
 -- ---- the setup, the head, the whole
@@ -65,29 +65,29 @@ all_one true = refl
 all_one false = refl
 
 module _ (l : List ℕ) where
-  pub state-fails0 : (length l ≡ state_size → ⊥) → false ≡ tested l
+  pub state_fails0 : (length l ≡ state_size → ⊥) → false ≡ tested l
   unfolding tested
-  state-fails0 h = sym (all_fails (tests_state l) 0 (ne_eqb (length l) state_size h))
+  state_fails0 h = sym (all_fails (tests_state l) 0 (ne_eqb (length l) state_size h))
 
-  pub state-fails1 : good_setup (setup_in l) ≡ false → false ≡ tested l
+  pub state_fails1 : good_setup (setup_in l) ≡ false → false ≡ tested l
   unfolding tested
-  state-fails1 h = sym (all_fails (tests_state l) 1 (h))
+  state_fails1 h = sym (all_fails (tests_state l) 1 (h))
 
-  pub state-fails2 : good_head l ≡ false → false ≡ tested l
+  pub state_fails2 : good_head l ≡ false → false ≡ tested l
   unfolding tested
-  state-fails2 h = sym (all_fails (tests_state l) 2 (h))
+  state_fails2 h = sym (all_fails (tests_state l) 2 (h))
 
-  pub state-passes : length l ≡ state_size → good_setup (setup_in l) ≡ true → good_head l ≡ true → good_shapes (setup_in l) ≡ true → true ≡ tested l
+  pub state_passes : length l ≡ state_size → good_setup (setup_in l) ≡ true → good_head l ≡ true → good_shapes (setup_in l) ≡ true → true ≡ tested l
   unfolding tested all
-  state-passes a b c d = simp (eq-eqb (length l) state_size a, b, c, d)
+  state_passes a b c d = simp (eq-eqb (length l) state_size a, b, c, d)
 
   -- the last test's answer is the whole test's, once the others passed
-  pub state-last : length l ≡ state_size → good_setup (setup_in l) ≡ true → good_head l ≡ true → (x : Bool) → x ≡ good_shapes (setup_in l) → x ≡ tested l
+  pub state_last : length l ≡ state_size → good_setup (setup_in l) ≡ true → good_head l ≡ true → (x : Bool) → x ≡ good_shapes (setup_in l) → x ≡ tested l
   unfolding tested all
-  state-last a b c x f = f ∙ simp (eq-eqb (length l) state_size a, b, c) (all_one (good_shapes (setup_in l)))
+  state_last a b c x f = f ∙ simp (eq-eqb (length l) state_size a, b, c) (all_one (good_shapes (setup_in l)))
 
-  pub assemblies-in : assemblies_of (setup_in l) ≡ assemblies_of l
-  assemblies-in = le_take 1 l 192 0 (omega arith)
+  pub assemblies_in : assemblies_of (setup_in l) ≡ assemblies_of l
+  assemblies_in = le_take 1 l 192 0 (omega arith)
 
 -- ---- a walk along the rows, with a test at each
 
@@ -97,13 +97,13 @@ all_and true bs = refl
 all_and false bs = refl
 
 module _ (size : ℕ) (good : List ℕ → Bool) (n : ℕ) (r : List ℕ) where
-  pub walk-stops : (i : ℕ) → i < n → good (take size (drop (i * size) r)) ≡ false → all (drop i (rows size good n r)) ≡ false
+  pub walk_stops : (i : ℕ) → i < n → good (take size (drop (i * size) r)) ≡ false → all (drop i (rows size good n r)) ≡ false
   unfolding all
-  walk-stops i h e = ap all (rows-rest size good n r i h) ∙ ap (λ (b : Bool). all (b ∷ drop (i + 1) (rows size good n r))) e
+  walk_stops i h e = ap all (rows_rest size good n r i h) ∙ ap (λ (b : Bool). all (b ∷ drop (i + 1) (rows size good n r))) e
 
-  pub walk-on : (i : ℕ) → i < n → good (take size (drop (i * size) r)) ≡ true → all (drop i (rows size good n r)) ≡ all (drop (i + 1) (rows size good n r))
+  pub walk_on : (i : ℕ) → i < n → good (take size (drop (i * size) r)) ≡ true → all (drop i (rows size good n r)) ≡ all (drop (i + 1) (rows size good n r))
   unfolding all
-  walk-on i h e = ap all (rows-rest size good n r i h) ∙ ap (λ (b : Bool). all (b ∷ drop (i + 1) (rows size good n r))) e
+  walk_on i h e = ap all (rows_rest size good n r i h) ∙ ap (λ (b : Bool). all (b ∷ drop (i + 1) (rows size good n r))) e
 
   pub walk_ends : (i : ℕ) → n ≤ i → all (drop i (rows size good n r)) ≡ true
   unfolding all
@@ -112,26 +112,26 @@ module _ (size : ℕ) (good : List ℕ → Bool) (n : ℕ) (r : List ℕ) where
 -- ---- a run along the sizes: what was seen to be good so far, and the rest
 
 module _ (r : List ℕ) where
-  sizes-on : (i : ℕ) (b : Bool) → i < 16 → (b && all (drop i (tests_shapes r))) ≡ ((b && leb (shape_in r i).size 512) && all (drop (i + 1) (tests_shapes r)))
-  sizes-on i true h =
-      ap all (listed-rest (λ j. leb (shape_in r j).size 512) 16 i h) ∙ all_and (leb (shape_in r i).size 512) (drop (i + 1) (tests_shapes r))
-  sizes-on i false h = refl
+  sizes_on : (i : ℕ) (b : Bool) → i < 16 → (b && all (drop i (tests_shapes r))) ≡ ((b && leb (shape_in r i).size 512) && all (drop (i + 1) (tests_shapes r)))
+  sizes_on i true h =
+      ap all (listed_rest (λ j. leb (shape_in r j).size 512) 16 i h) ∙ all_and (leb (shape_in r i).size 512) (drop (i + 1) (tests_shapes r))
+  sizes_on i false h = refl
 
-  sizes-end : (i : ℕ) (b : Bool) → 16 ≤ i → (b && all (drop i (tests_shapes r))) ≡ b
+  sizes_end : (i : ℕ) (b : Bool) → 16 ≤ i → (b && all (drop i (tests_shapes r))) ≡ b
   unfolding all
-  sizes-end i true h = ap all (listed-end (λ j. leb (shape_in r j).size 512) 16 i h)
-  sizes-end i false h = refl
+  sizes_end i true h = ap all (listed_end (λ j. leb (shape_in r j).size 512) 16 i h)
+  sizes_end i false h = refl
 
-  pub run-begins : good_shapes r ≡ (true && all (drop 0 (tests_shapes r)))
+  pub run_begins : good_shapes r ≡ (true && all (drop 0 (tests_shapes r)))
   unfolding good_shapes
-  run-begins = refl
+  run_begins = refl
 
   -- a turn, with the size that code read and what it then knows
   pub run_on : (i v : ℕ) (b x : Bool) → i < 16 → good_shapes r ≡ (b && all (drop i (tests_shapes r))) → v ≡ (shape_in r i).size → x ≡ (b && leb v 512)
       → good_shapes r ≡ (x && all (drop (i + 1) (tests_shapes r)))
   run_on i v b x h e ev ex =
-      e ∙ sizes-on i b h ∙ ap (λ (k : ℕ). (b && leb k 512) && all (drop (i + 1) (tests_shapes r))) (sym ev)
+      e ∙ sizes_on i b h ∙ ap (λ (k : ℕ). (b && leb k 512) && all (drop (i + 1) (tests_shapes r))) (sym ev)
       ∙ ap (λ (y : Bool). y && all (drop (i + 1) (tests_shapes r))) (sym ex)
 
   pub run_ends : (i : ℕ) (b : Bool) → 16 ≤ i → good_shapes r ≡ (b && all (drop i (tests_shapes r))) → b ≡ good_shapes r
-  run_ends i b h e = sym (e ∙ sizes-end i b h)
+  run_ends i b h e = sym (e ∙ sizes_end i b h)

@@ -11,7 +11,7 @@ use Rattle.base_cells.specs.Numbers.{le, put, le_bytes, length_le_bytes, sets_le
 use Rattle.base_cells.specs.Records.{enc_fields, sum, offset, Laid, length_enc_fields}
 use Rattle.base_tables.specs.Tables.{without}
 use Rattle.base_tables.specs.Store.{storeRows-set, row-stored}
-use Rattle.base_tables.specs.Grow.{storeRows-push, storeRows-cut}
+use Rattle.base_tables.specs.Grow.{store_rows_push, store_rows_cut}
 use Rattle.base_tables.specs.Slots.{enc_set}
 use Rattle.base_tables.specs.Regions.{joined, Sized, start, region_put, sized_set}
 use Rattle.base_tables.specs.RegionWrites.{region_sets}
@@ -21,12 +21,12 @@ use Rattle.rules.specs.declared.Heard.{Heard}
 use Rattle.rules.specs.declared.Sent.{Sent}
 use Rattle.state_rules.specs.Places.{widths, setup_in, head_in, w_head, table_in, eds_in, table_at, table_size, row_size, head_used, next_id_at, ring_at, connections_at, connections_of}
 use Rattle.state_rules.specs.Rows.{enc_conn, enc_heard, enc_sent, carried_of, flags_of, dec_conn}
-use Rattle.state_rules.specs.RowLaws.{length_enc_conn, length_enc_heard, length_enc_sent, enc_heard_lem, enc_sent_lem, flags-stored, in_row, bit_small}
+use Rattle.state_rules.specs.RowLaws.{length_enc_conn, length_enc_heard, length_enc_sent, enc_heard_lem, enc_sent_lem, flags_stored, in_row, bit_small}
 use Rattle.state_rules.specs.Cut.{cut, length_cut}
 use Rattle.state_rules.specs.Bits.{word_of}
 use Rattle.state_rules.specs.Image.{list_head, head_of, marks_of, table_of, events_of, data_of, regions_of, store}
 use Rattle.state_image.specs.Fits.{Suits}
-use Rattle.state_image.specs.StoreLaws.{sized, table-of-store, length-tableIn, length-tableOf}
+use Rattle.state_image.specs.StoreLaws.{sized, table_of_store, length_table_in, length_table_of}
 
 -- what is at a place past the table
 abbrev pub no_conn : Conn
@@ -65,83 +65,83 @@ head_put rs vs p z e t k v h b =
 module _ (st : State) (l : List ℕ) (w : Suits st l) where
   -- ---- the head
 
-  pub produced-stored : (v : ℕ) → put 8 (store st l) 192 v ≡ store (with_counters (record { produced = v; late = st.counters.late; maxLate = st.counters.maxLate }) st) l
+  pub produced_stored : (v : ℕ) → put 8 (store st l) 192 v ≡ store (with_counters (record { produced = v; late = st.counters.late; maxLate = st.counters.maxLate }) st) l
   unfolding store head_of marks_of table_of events_of data_of offset
-  produced-stored v = head_put (regions_of st l) (list_head st) (drop head_used (head_in l)) (sized st l w) refl tt 0 v (omega arith) (omega arith)
+  produced_stored v = head_put (regions_of st l) (list_head st) (drop head_used (head_in l)) (sized st l w) refl tt 0 v (omega arith) (omega arith)
 
-  pub late-stored : (v : ℕ) → put 8 (store st l) 200 v ≡ store (with_counters (record { produced = st.counters.produced; late = v; maxLate = st.counters.maxLate }) st) l
+  pub late_stored : (v : ℕ) → put 8 (store st l) 200 v ≡ store (with_counters (record { produced = st.counters.produced; late = v; maxLate = st.counters.maxLate }) st) l
   unfolding store head_of marks_of table_of events_of data_of offset
-  late-stored v = head_put (regions_of st l) (list_head st) (drop head_used (head_in l)) (sized st l w) refl tt 1 v (omega arith) (omega arith)
+  late_stored v = head_put (regions_of st l) (list_head st) (drop head_used (head_in l)) (sized st l w) refl tt 1 v (omega arith) (omega arith)
 
-  pub maxLate-stored : (v : ℕ) → put 8 (store st l) 208 v ≡ store (with_counters (record { produced = st.counters.produced; late = st.counters.late; maxLate = v }) st) l
+  pub max_late_stored : (v : ℕ) → put 8 (store st l) 208 v ≡ store (with_counters (record { produced = st.counters.produced; late = st.counters.late; maxLate = v }) st) l
   unfolding store head_of marks_of table_of events_of data_of offset
-  maxLate-stored v = head_put (regions_of st l) (list_head st) (drop head_used (head_in l)) (sized st l w) refl tt 2 v (omega arith) (omega arith)
+  max_late_stored v = head_put (regions_of st l) (list_head st) (drop head_used (head_in l)) (sized st l w) refl tt 2 v (omega arith) (omega arith)
 
-  pub nextId-stored : (v : ℕ) → put 4 (store st l) next_id_at v ≡ store (with_next_id v st) l
+  pub next_id_stored : (v : ℕ) → put 4 (store st l) next_id_at v ≡ store (with_next_id v st) l
   unfolding store head_of marks_of table_of events_of data_of offset
-  nextId-stored v = head_put (regions_of st l) (list_head st) (drop head_used (head_in l)) (sized st l w) refl tt 3 v (omega arith) (omega arith)
+  next_id_stored v = head_put (regions_of st l) (list_head st) (drop head_used (head_in l)) (sized st l w) refl tt 3 v (omega arith) (omega arith)
 
-  pub fault-stored : (b : Bool) → put 4 (store st l) ring_at (word_of (length st.events.waiting) st.events.gone b) ≡ store (with_fault b st) l
+  pub fault_stored : (b : Bool) → put 4 (store st l) ring_at (word_of (length st.events.waiting) st.events.gone b) ≡ store (with_fault b st) l
   unfolding store head_of marks_of table_of events_of data_of offset
-  fault-stored b =
+  fault_stored b =
       head_put (regions_of st l) (list_head st) (drop head_used (head_in l)) (sized st l w) refl tt 4 (word_of (length st.events.waiting) st.events.gone b) (omega arith) (omega arith)
 
   -- ---- a row of the table
 
   -- the table's region put back with other bytes, of as many rows
-  table-changed : (x : List ℕ) (cs : List Conn) → length cs ≡ length st.table → x ≡ table_of (with_table cs st) l
+  table_changed : (x : List ℕ) (cs : List Conn) → length cs ≡ length st.table → x ≡ table_of (with_table cs st) l
       → put_mid table_at table_size (store st l) x ≡ store (with_table cs st) l
   unfolding store head_of marks_of table_of events_of data_of start
-  table-changed x cs n e =
+  table_changed x cs n e =
       region_put 3 x (sized st l w) (omega arith)
       ∙ (λ j. joined (setup_in l ∷ (enc_fields w_head (set (list_head st) 5 (sym n j)) ++ drop head_used (head_in l)) ∷ marks_of st l ∷ e j ∷ events_of st l ∷ data_of st l ∷ eds_in l ∷ []))
 
   -- multicast and the input, which stand in a row's flags
-  pub carried-stored : (i : ℕ) → i < length st.table → le 1 (table_of st l) (i * row_size + 28) / 4 ≡ carried_of (get_or st.table i no_conn).fixed
+  pub carried_stored : (i : ℕ) → i < length st.table → le 1 (table_of st l) (i * row_size + 28) / 4 ≡ carried_of (get_or st.table i no_conn).fixed
   unfolding table_of
-  carried-stored i p =
+  carried_stored i p =
       let c : Conn = get_or st.table i no_conn in
       let a = bit_small c.heard.any in let b = bit_small c.heard.anycip in
       let e : le 1 (table_of st l) (i * row_size + 28) ≡ flags_of (carried_of c.fixed) c.heard =
       sym (in_row 1 row_size 28 (table_of st l) (i * row_size) (omega arith))
       ∙ ap (λ (z : List ℕ). le 1 z 28) (row-stored row_size enc_conn length_enc_conn (connections_of l) st.table (table_in l) i no_conn p)
-      ∙ flags-stored c in
+      ∙ flags_stored c in
       omega arith
 
-  heard-row : (i : ℕ) (h : Heard) → i < length st.table
+  heard_row : (i : ℕ) (h : Heard) → i < length st.table
       → sets (table_of st l) (i * row_size + 14) (enc_heard (carried_of (get_or st.table i no_conn).fixed) h)
       ≡ table_of (with_table (set st.table i (with_heard h (get_or st.table i no_conn))) st) l
   unfolding table_of
-  heard-row i h p =
+  heard_row i h p =
       let c : Conn = get_or st.table i no_conn in
       storeRows-set row_size enc_conn length_enc_conn (connections_of l) st.table (table_in l) i 14 (enc_heard (carried_of c.fixed) h) (with_heard h c) no_conn p
       (let e = length_enc_heard (carried_of c.fixed) h in omega arith) (enc_heard_lem c h)
 
-  pub heard-stored : (i : ℕ) (h : Heard) → i < length st.table
+  pub heard_stored : (i : ℕ) (h : Heard) → i < length st.table
       → put_mid table_at table_size (store st l) (sets (table_in (store st l)) (i * row_size + 14) (enc_heard (le 1 (table_in (store st l)) (i * row_size + 28) / 4) h))
       ≡ store (with_table (set st.table i (with_heard h (get_or st.table i no_conn))) st) l
-  heard-stored i h p =
+  heard_stored i h p =
       let c : Conn = get_or st.table i no_conn in
-      ap (λ (z : List ℕ). put_mid table_at table_size (store st l) (sets z (i * row_size + 14) (enc_heard (le 1 z (i * row_size + 28) / 4) h))) (table-of-store st l w)
-      ∙ ap (λ (n : ℕ). put_mid table_at table_size (store st l) (sets (table_of st l) (i * row_size + 14) (enc_heard n h))) (carried-stored i p)
-      ∙ table-changed (sets (table_of st l) (i * row_size + 14) (enc_heard (carried_of c.fixed) h)) (set st.table i (with_heard h c))
-      (length-set st.table i (with_heard h c)) (heard-row i h p)
+      ap (λ (z : List ℕ). put_mid table_at table_size (store st l) (sets z (i * row_size + 14) (enc_heard (le 1 z (i * row_size + 28) / 4) h))) (table_of_store st l w)
+      ∙ ap (λ (n : ℕ). put_mid table_at table_size (store st l) (sets (table_of st l) (i * row_size + 14) (enc_heard n h))) (carried_stored i p)
+      ∙ table_changed (sets (table_of st l) (i * row_size + 14) (enc_heard (carried_of c.fixed) h)) (set st.table i (with_heard h c))
+      (length-set st.table i (with_heard h c)) (heard_row i h p)
 
-  sent-row : (i : ℕ) (x : Sent) → i < length st.table
+  sent_row_lem : (i : ℕ) (x : Sent) → i < length st.table
       → sets (table_of st l) (i * row_size + 0) (enc_sent x) ≡ table_of (with_table (set st.table i (with_sent x (get_or st.table i no_conn))) st) l
   unfolding table_of
-  sent-row i x p =
+  sent_row_lem i x p =
       let c : Conn = get_or st.table i no_conn in
       storeRows-set row_size enc_conn length_enc_conn (connections_of l) st.table (table_in l) i 0 (enc_sent x) (with_sent x c) no_conn p
       (let e = length_enc_sent x in omega arith) (enc_sent_lem c x)
 
-  pub sent-stored : (i : ℕ) (x : Sent) → i < length st.table
+  pub sent_stored : (i : ℕ) (x : Sent) → i < length st.table
       → put_mid table_at table_size (store st l) (sets (table_in (store st l)) (i * row_size + 0) (enc_sent x))
       ≡ store (with_table (set st.table i (with_sent x (get_or st.table i no_conn))) st) l
-  sent-stored i x p =
+  sent_stored i x p =
       let c : Conn = get_or st.table i no_conn in
-      ap (λ (z : List ℕ). put_mid table_at table_size (store st l) (sets z (i * row_size + 0) (enc_sent x))) (table-of-store st l w)
-      ∙ table-changed (sets (table_of st l) (i * row_size + 0) (enc_sent x)) (set st.table i (with_sent x c)) (length-set st.table i (with_sent x c)) (sent-row i x p)
+      ap (λ (z : List ℕ). put_mid table_at table_size (store st l) (sets z (i * row_size + 0) (enc_sent x))) (table_of_store st l w)
+      ∙ table_changed (sets (table_of st l) (i * row_size + 0) (enc_sent x)) (set st.table i (with_sent x c)) (length-set st.table i (with_sent x c)) (sent_row_lem i x p)
 
   -- ---- a row more, and a row less: the table's region put back, then the count
 
@@ -154,37 +154,37 @@ module _ (st : State) (l : List ℕ) (w : Suits st l) where
       ∙ head_put (set (regions_of st l) 3 x) (list_head st) (drop head_used (head_in l)) z refl tt 5 n (omega arith) (omega arith)
       ∙ (λ j. joined (setup_in l ∷ (enc_fields w_head (set (list_head st) 5 (en j)) ++ drop head_used (head_in l)) ∷ marks_of st l ∷ ex j ∷ events_of st l ∷ data_of st l ∷ eds_in l ∷ []))
 
-  appended-row : (c : Conn) → length st.table < 32
+  appended_row : (c : Conn) → length st.table < 32
       → sets (table_of st l) (length st.table * row_size + 0) (enc_conn c) ≡ table_of (with_table (st.table ++ (c ∷ [])) st) l
   unfolding table_of
-  appended-row c p =
-      let n = length-tableIn l w.lent.long in
+  appended_row c p =
+      let n = length_table_in l w.lent.long in
       ap (λ (k : ℕ). sets (table_of st l) k (enc_conn c)) (let q : length st.table * row_size + 0 ≡ length st.table * row_size = omega arith in q)
-      ∙ storeRows-push row_size enc_conn length_enc_conn (connections_of l) st.table c (table_in l) (omega arith)
+      ∙ store_rows_push row_size enc_conn length_enc_conn (connections_of l) st.table c (table_in l) (omega arith)
 
-  pub appended-stored : (c : Conn) → length st.table < 32
+  pub appended_stored : (c : Conn) → length st.table < 32
       → put 2 (put_mid table_at table_size (store st l) (sets (table_in (store st l)) (length st.table * row_size + 0) (enc_conn c))) connections_at (length st.table + 1)
       ≡ store (with_table (st.table ++ (c ∷ [])) st) l
-  appended-stored c p =
+  appended_stored c p =
       let n : ℕ = length st.table in
       let x : List ℕ = sets (table_of st l) (n * row_size + 0) (enc_conn c) in
-      ap (λ (z : List ℕ). put 2 (put_mid table_at table_size (store st l) (sets z (n * row_size + 0) (enc_conn c))) connections_at (n + 1)) (table-of-store st l w)
-      ∙ table_counted x (n + 1) (st.table ++ (c ∷ [])) (sym (length-append st.table (c ∷ []))) (appended-row c p)
-      (length-sets (table_of st l) (n * row_size + 0) (enc_conn c) ∙ length-tableOf st l w)
+      ap (λ (z : List ℕ). put 2 (put_mid table_at table_size (store st l) (sets z (n * row_size + 0) (enc_conn c))) connections_at (n + 1)) (table_of_store st l w)
+      ∙ table_counted x (n + 1) (st.table ++ (c ∷ [])) (sym (length-append st.table (c ∷ []))) (appended_row c p)
+      (length-sets (table_of st l) (n * row_size + 0) (enc_conn c) ∙ length_table_of st l w)
 
-  removed-rows : (i : ℕ) → i < length st.table → length st.table ≤ connections_of l
+  removed_rows : (i : ℕ) → i < length st.table → length st.table ≤ connections_of l
       → cut (length st.table) i (table_of st l) ≡ table_of (with_table (without st.table i) st) l
   unfolding table_of cut
-  removed-rows i p h = storeRows-cut row_size enc_conn length_enc_conn (connections_of l) st.table (table_in l) i p h
+  removed_rows i p h = store_rows_cut row_size enc_conn length_enc_conn (connections_of l) st.table (table_in l) i p h
 
-  pub removed-stored : (i : ℕ) → i < length st.table → length st.table ≤ connections_of l
+  pub removed_stored : (i : ℕ) → i < length st.table → length st.table ≤ connections_of l
       → put 2 (put_mid table_at table_size (store st l) (cut (length st.table) i (table_in (store st l)))) connections_at (length st.table - 1)
       ≡ store (with_table (without st.table i) st) l
-  removed-stored i p h =
+  removed_stored i p h =
       let n : ℕ = length st.table in
       let x : List ℕ = cut n i (table_of st l) in
-      let lt = length-tableOf st l w in
+      let lt = length_table_of st l w in
       let f = w.fits.table in
-      ap (λ (z : List ℕ). put 2 (put_mid table_at table_size (store st l) (cut n i z)) connections_at (n - 1)) (table-of-store st l w)
-      ∙ table_counted x (n - 1) (without st.table i) (fewer st.table i p) (removed-rows i p h)
+      ap (λ (z : List ℕ). put 2 (put_mid table_at table_size (store st l) (cut n i z)) connections_at (n - 1)) (table_of_store st l w)
+      ∙ table_counted x (n - 1) (without st.table i) (fewer st.table i p) (removed_rows i p h)
       (length_cut (table_of st l) n i p f (omega arith) ∙ lt)

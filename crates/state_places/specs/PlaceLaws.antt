@@ -9,12 +9,12 @@ use Rattle.rules.specs.Checks.{is_at, place_of}
 use Rattle.rules.specs.Host.{kind_test}
 use Rattle.state_rules.specs.Places.{setup_in, assemblies_of}
 use Rattle.state_rules.specs.Setups.{setup_of, shapes_of}
-use Rattle.state_rules.specs.SetupLaws.{length-shapes}
-use Rattle.state_image.specs.TestLaws.{assemblies-in}
+use Rattle.state_rules.specs.SetupLaws.{length_shapes}
+use Rattle.state_image.specs.TestLaws.{assemblies_in}
 use Rattle.state_layout.specs.Searched.{place_in}
 use Rattle.state_layout.specs.declared.Found.{Found}
 use Rattle.state_layout.specs.declared.Found.TheVariants.{At}
-use Rattle.state_searches.specs.Searches.{place-in}
+use Rattle.state_searches.specs.Searches.{place_in_lem}
 
 pub kind_input : (n : ℕ) → eqb n 1 ≡ kind_test n Input
 kind_input zero = refl
@@ -50,9 +50,9 @@ at_rest kind n m a k b ek eb e em =
 pub found_in : (s : List ℕ) (p : Shape → Bool) (x : Found) → place_in x ≡ place p (shapes_of (setup_in s))
     → (i : ℕ) → x ≡ At i → i < assemblies_of s
 found_in s p x e i q =
-    let a = assemblies-in s in
-    let m = length-shapes (setup_in s) in
-    let h = place-in p no_shape (shapes_of (setup_in s)) i (sym e ∙ ap place_in q) in
+    let a = assemblies_in s in
+    let m = length_shapes (setup_in s) in
+    let h = place_in_lem p no_shape (shapes_of (setup_in s)) i (sym e ∙ ap place_in q) in
     omega arith
 
 -- and the rules' place

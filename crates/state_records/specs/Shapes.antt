@@ -10,7 +10,7 @@ use Rattle.rules.specs.declared.Info.{Info}
 use Rattle.rules.specs.declared.Fixed.{Fixed}
 use Rattle.state_rules.specs.Places.{setup_in, eds_in, assemblies_of}
 use Rattle.state_rules.specs.Setups.{shape_in, setup_from, setup_of, shapes_of}
-use Rattle.state_rules.specs.SetupLaws.{length-shapes, shape-of}
+use Rattle.state_rules.specs.SetupLaws.{length_shapes, shape_of_lem}
 
 -- the shape at a place of the setup's list
 unfoldable pub shape_of : List ℕ → ℕ → Shape
@@ -20,13 +20,13 @@ abbrev pub if_owner : Kind → ℕ → ℕ
 if_owner k n = cond (is_owner k) n 0
 
 module _ (r : List ℕ) (i n : ℕ) (en : n ≡ assemblies_of r) where
-  pub shape-within : i < n → shape_in r i ≡ shape_of r i
+  pub shape_within : i < n → shape_in r i ≡ shape_of r i
   unfolding shape_of
-  shape-within p = sym (shape-of r i no_shape (omega arith))
+  shape_within p = sym (shape_of_lem r i no_shape (omega arith))
 
-  pub shape-past : n ≤ i → no_shape ≡ shape_of r i
+  pub shape_past : n ≤ i → no_shape ≡ shape_of r i
   unfolding shape_of
-  shape-past p = sym (get_or-eq_default (shapes_of r) no_shape {n = i} (let e = length-shapes r in omega arith))
+  shape_past p = sym (get_or-eq_default (shapes_of r) no_shape {n = i} (let e = length_shapes r in omega arith))
 
 pub told_is : (r : List ℕ) (f : Fixed) (a b c d : ℕ) → a ≡ (shape_of r f.input).instance → b ≡ (shape_of r f.input).size
     → c ≡ if_owner f.kind (shape_of r f.output).instance → d ≡ if_owner f.kind (shape_of r f.output).size

@@ -9,7 +9,7 @@ use Rattle.base_cells.specs.Numbers.{le_bytes, le, le_of}
 use Rattle.base_cells.specs.Records.{enc_fields}
 use Rattle.base_cells.specs.Back.{all, all_at}
 use Rattle.base_tables.specs.Tables.{rows}
-use Rattle.base_tables.specs.Store.{storeRows}
+use Rattle.base_tables.specs.Store.{store_rows}
 use Rattle.base_tables.specs.Ring.{ringOf}
 use Rattle.state_rules.specs.Places.{head_in, state_size, row_size}
 use Rattle.state_rules.specs.Bits.{mark_over}
@@ -38,7 +38,7 @@ head_back = refl
 
 -- 16.10: a row that falls free is zero, and what is behind it stays
 pub row_freed : take 71 (table_of (view []) (headed 1 0 1 ++ replicate 16 0 ++ replicate 71 7)) ≡ replicate row_size 0 ++ (7 ∷ 7 ∷ [])
-unfolding view table_of storeRows rows le_bytes le le_of
+unfolding view table_of store_rows rows le_bytes le le_of
 row_freed = refl
 
 -- 16.1: no other size passes

@@ -23,14 +23,14 @@ pub word_small : (waiting first : ℕ) (fault : Bool) → waiting ≤ 1024 → f
 word_small waiting first fault p q = let a = bit_small fault in omega arith
 
 module _ (waiting first : ℕ) (fault : Bool) (q : first < 1024) where
-  pub waiting-of-word : word_of waiting first fault / 2048 ≡ waiting
-  waiting-of-word = let a = bit_small fault in omega arith
+  pub waiting_of_word : word_of waiting first fault / 2048 ≡ waiting
+  waiting_of_word = let a = bit_small fault in omega arith
 
-  pub first-of-word : word_of waiting first fault / 2 % 1024 ≡ first
-  first-of-word = let a = bit_small fault in omega arith
+  pub first_of_word : word_of waiting first fault / 2 % 1024 ≡ first
+  first_of_word = let a = bit_small fault in omega arith
 
-  pub fault-of-word : word_of waiting first fault % 2 ≡ of_bool fault
-  fault-of-word = let a = bit_small fault in omega arith
+  pub fault_of_word : word_of waiting first fault % 2 ≡ of_bool fault
+  fault_of_word = let a = bit_small fault in omega arith
 
 -- ---- an assembly's mark: whether it runs, whether an event waits for it; the bits that stand for nothing stay
 
@@ -55,12 +55,12 @@ mark_twice r t r' t' n =
     let e : mark_over r t n / 4 ≡ n / 4 = omega arith in ap (λ (k : ℕ). of_bool r' + 2 * of_bool t' + 4 * k) e
 
 module _ (run notified : Bool) (n : ℕ) where
-  pub run-of-mark : run_in (mark_over run notified n) ≡ run
-  run-of-mark =
+  pub run_of_mark : run_in (mark_over run notified n) ≡ run
+  run_of_mark =
       let a = bit_small run in let b = bit_small notified in
       let e : mark_over run notified n % 2 ≡ of_bool run = omega arith in ap to_bool e ∙ to_of run
 
-  pub notified-of-mark : notified_in (mark_over run notified n) ≡ notified
-  notified-of-mark =
+  pub notified_of_mark : notified_in (mark_over run notified n) ≡ notified
+  notified_of_mark =
       let a = bit_small run in let b = bit_small notified in
       let e : mark_over run notified n / 2 % 2 ≡ of_bool notified = omega arith in ap to_bool e ∙ to_of notified

@@ -3,20 +3,20 @@ use Rattle.std.specs.Prelude.{ℕ, zero, suc, ◌+◌, ◌*◌, ◌-◌, ◌≤�
 use Rattle.std.proofs.Common.{append_assoc, ap, ap₂, sym, ◌∙◌, arith, length-drop, drop-drop}
 use Rattle.std.proofs.lemmas.List.Edits.{sets, sets-eq, take-paste, drop-paste, length-paste}
 use Rattle.std.proofs.Math.Seq.{length-sets, paste}
-use Rattle.base_tables.specs.Grow.{cutRow}
+use Rattle.base_tables.specs.Grow.{cut_row}
 use Rattle.state_rules.specs.Places.{table_size, row_size}
 use Rattle.state_rules.specs.Rows.{enc_conn}
 use Rattle.state_rules.specs.RowLaws.{length_enc_conn}
 
 unfoldable pub cut : ℕ → ℕ → List ℕ → List ℕ
-cut n i r = cutRow row_size enc_conn length_enc_conn n i r
+cut n i r = cut_row row_size enc_conn length_enc_conn n i r
 
 -- ---- as code does it: the rows moved down, then the last row's place zero
 
 pub cut_is : (r x : List ℕ) (n i : ℕ) → i < n → n ≤ 32 → table_size ≤ length r
     → x ≡ paste r (i * row_size) (drop (i * row_size + row_size) r) ((n - 1) * row_size - i * row_size)
     → sets x ((n - 1) * row_size) (replicate row_size 0) ≡ cut n i r
-unfolding cut cutRow
+unfolding cut cut_row
 cut_is r x n i p q h e =
     let m : ℕ = (n - 1) * row_size - i * row_size in
     let f : List ℕ = drop (i * row_size + row_size) r in
@@ -42,7 +42,7 @@ cut_is r x n i p q h e =
     ∙ (λ j. take (i * row_size) r ++ (take (c₁ j) (drop (c₂ j) r) ++ (zs ++ drop (n * row_size) r)))
 
 pub length_cut : (r : List ℕ) (n i : ℕ) → i < n → n ≤ 32 → table_size ≤ length r → length (cut n i r) ≡ length r
-unfolding cut cutRow
+unfolding cut cut_row
 length_cut r n i p q h =
     let x : List ℕ = paste r (i * row_size) (drop (i * row_size + row_size) r) ((n - 1) * row_size - i * row_size) in
     let lf : length (drop (i * row_size + row_size) r) ≡ length r - (i * row_size + row_size) = length-drop (i * row_size + row_size) r in

@@ -3,8 +3,8 @@ use Rattle.std.specs.Prelude.{ℕ, Bool, List, [], ◌∷◌, ◌++◌, map, eqb
 use Rattle.base_cells.specs.Records.{enc_fields, to_bool}
 use Rattle.base_cells.specs.Back.{all}
 use Rattle.base_tables.specs.Tables.{rows}
-use Rattle.base_tables.specs.Store.{storeRows}
-use Rattle.base_tables.specs.Ring.{storeRing, ringOf}
+use Rattle.base_tables.specs.Store.{store_rows}
+use Rattle.base_tables.specs.Ring.{store_ring, ringOf}
 use Rattle.base_tables.specs.Slots.{store_slots}
 use Rattle.base_tables.specs.Regions.{joined}
 use Rattle.rules.specs.State.{Shape, Content, State}
@@ -72,10 +72,10 @@ unfoldable pub marks_of : State → List ℕ → List ℕ
 marks_of st l = marks_over st.contents (marks_in l)
 
 unfoldable pub table_of : State → List ℕ → List ℕ
-table_of st l = storeRows row_size enc_conn (connections_of l) st.table (table_in l)
+table_of st l = store_rows row_size enc_conn (connections_of l) st.table (table_in l)
 
 unfoldable pub events_of : State → List ℕ → List ℕ
-events_of st l = storeRing 32 record32 st.events.gone st.events.waiting (ring_in l)
+events_of st l = store_ring 32 record32 st.events.gone st.events.waiting (ring_in l)
 
 unfoldable pub data_of : State → List ℕ → List ℕ
 data_of st l = store_slots (map bytes_of st.contents) (data_in l)

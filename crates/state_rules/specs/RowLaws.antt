@@ -78,11 +78,11 @@ listener_role n =
 
 -- the four parts of the flags
 module _ (f : Fixed) (h : Heard) where
-  pub input-of-flags : input_in (flags_of (carried_of f) h) ≡ f.input
-  input-of-flags = let a = bit_small h.any in let b = bit_small h.anycip in let c = bit_small f.multicast in omega arith
+  pub input_of_flags : input_in (flags_of (carried_of f) h) ≡ f.input
+  input_of_flags = let a = bit_small h.any in let b = bit_small h.anycip in let c = bit_small f.multicast in omega arith
 
-  pub multicast-of-flags : multicast_in (flags_of (carried_of f) h) ≡ f.multicast
-  multicast-of-flags =
+  pub multicast_of_flags : multicast_in (flags_of (carried_of f) h) ≡ f.multicast
+  multicast_of_flags =
       let a = bit_small h.any in let b = bit_small h.anycip in let c = bit_small f.multicast in
       let e : flags_of (carried_of f) h / 4 % 2 ≡ of_bool f.multicast = omega arith in ap to_bool e ∙ to_of f.multicast
 
@@ -133,47 +133,47 @@ length_enc_conn c =
 -- ---- what is written is read back
 
 module _ (c : Conn) where
-  before-fixed : length (enc_sent c.sent ++ enc_heard (carried_of c.fixed) c.heard) ≡ 29
-  before-fixed =
+  before_fixed : length (enc_sent c.sent ++ enc_heard (carried_of c.fixed) c.heard) ≡ 29
+  before_fixed =
       let a = length_enc_sent c.sent in let b = length_enc_heard (carried_of c.fixed) c.heard in
       length-append (enc_sent c.sent) (enc_heard (carried_of c.fixed) c.heard) ∙ omega arith
 
-  pub sent-fields : dec_fields w_sent (enc_conn c) 0 ≡ list_sent c.sent
+  pub sent_fields : dec_fields w_sent (enc_conn c) 0 ≡ list_sent c.sent
   unfolding enc_sent
-  sent-fields = dec_enc w_sent (list_sent c.sent) tt [] (enc_heard (carried_of c.fixed) c.heard ++ enc_fixed c.fixed) 0 refl
+  sent_fields = dec_enc w_sent (list_sent c.sent) tt [] (enc_heard (carried_of c.fixed) c.heard ++ enc_fixed c.fixed) 0 refl
 
-  pub heard-fields : dec_fields w_heard (enc_conn c) 14 ≡ list_heard (carried_of c.fixed) c.heard
+  pub heard_fields : dec_fields w_heard (enc_conn c) 14 ≡ list_heard (carried_of c.fixed) c.heard
   unfolding enc_heard
-  heard-fields = dec_enc w_heard (list_heard (carried_of c.fixed) c.heard) tt (enc_sent c.sent) (enc_fixed c.fixed) 14 (length_enc_sent c.sent)
+  heard_fields = dec_enc w_heard (list_heard (carried_of c.fixed) c.heard) tt (enc_sent c.sent) (enc_fixed c.fixed) 14 (length_enc_sent c.sent)
 
-  pub fixed-fields : dec_fields w_fixed (enc_conn c) 29 ≡ list_fixed c.fixed
+  pub fixed_fields : dec_fields w_fixed (enc_conn c) 29 ≡ list_fixed c.fixed
   unfolding enc_fixed
-  fixed-fields =
+  fixed_fields =
       let s : List ℕ = enc_sent c.sent in
       let h : List ℕ = enc_heard (carried_of c.fixed) c.heard in
       let f : List ℕ = enc_fixed c.fixed in
       ap (λ (z : List ℕ). dec_fields w_fixed z 29) (sym (append_assoc s h f) ∙ ap (λ (z : List ℕ). (s ++ h) ++ z) (sym (append-nil f)))
-      ∙ dec_enc w_fixed (list_fixed c.fixed) tt (s ++ h) [] 29 before-fixed
+      ∙ dec_enc w_fixed (list_fixed c.fixed) tt (s ++ h) [] 29 before_fixed
 
-  pub flags-stored : le 1 (enc_conn c) 28 ≡ flags_of (carried_of c.fixed) c.heard
-  flags-stored = ap (λ (vs : List ℕ). get_or vs 3 0) heard-fields
+  pub flags_stored : le 1 (enc_conn c) 28 ≡ flags_of (carried_of c.fixed) c.heard
+  flags_stored = ap (λ (vs : List ℕ). get_or vs 3 0) heard_fields
 
-  pub sent-stored : dec_sent (enc_conn c) ≡ c.sent
+  pub sent_stored : dec_sent (enc_conn c) ≡ c.sent
   unfolding dec_sent
-  sent-stored = ap as_sent sent-fields ∙ (λ i. record { sequence = c.sent.sequence; cip = c.sent.cip; due = to_of_due c.sent.due i })
+  sent_stored = ap as_sent sent_fields ∙ (λ i. record { sequence = c.sent.sequence; cip = c.sent.cip; due = to_of_due c.sent.due i })
 
-  pub heard-stored : dec_heard (enc_conn c) ≡ c.heard
+  pub heard_stored : dec_heard (enc_conn c) ≡ c.heard
   unfolding dec_heard
-  heard-stored =
+  heard_stored =
       let h = c.heard in
       let r : ℕ = carried_of c.fixed in
-      ap as_heard heard-fields ∙ (λ i. record { until = h.until; any = any_of_flags r h i; sequence = h.sequence; anycip = anycip_of_flags r h i; cip = h.cip })
+      ap as_heard heard_fields ∙ (λ i. record { until = h.until; any = any_of_flags r h i; sequence = h.sequence; anycip = anycip_of_flags r h i; cip = h.cip })
 
-  pub fixed-stored : RowFits c → dec_fixed (enc_conn c) ≡ c.fixed
+  pub fixed_stored : RowFits c → dec_fixed (enc_conn c) ≡ c.fixed
   unfolding dec_fixed
-  fixed-stored fit =
+  fixed_stored fit =
       let f = c.fixed in
-      ap₂ as_fixed flags-stored fixed-fields
+      ap₂ as_fixed flags_stored fixed_fields
       ∙ (λ i. record {
         kind = kind_of_role f.kind f.output fit i;
         triad = f.triad;
@@ -183,15 +183,15 @@ module _ (c : Conn) where
         otrpi = f.otrpi;
         multiplier = f.multiplier;
         torpi = f.torpi;
-        input = input-of-flags f c.heard i;
+        input = input_of_flags f c.heard i;
         output = output_of_role f.kind f.output fit i;
         dest = f.dest;
-        multicast = multicast-of-flags f c.heard i;
+        multicast = multicast_of_flags f c.heard i;
         local = f.local;
       })
 
-  pub dec-encConn : RowFits c → dec_conn (enc_conn c) ≡ c
-  dec-encConn fit i = record { fixed = fixed-stored fit i; heard = heard-stored i; sent = sent-stored i }
+  pub dec_enc_conn : RowFits c → dec_conn (enc_conn c) ≡ c
+  dec_enc_conn fit i = record { fixed = fixed_stored fit i; heard = heard_stored i; sent = sent_stored i }
 
 -- ---- what was read is written again
 

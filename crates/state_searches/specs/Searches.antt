@@ -5,8 +5,8 @@ use mathlib.Core.List.{List, [], ◌∷◌}
 use Rattle.std.proofs.Math.Option.{Option, none, some}
 use Rattle.std.proofs.Math.Path.{ap}
 use Rattle.std.proofs.Common.{◌∙◌, arith}
-use Rattle.base_tables.specs.Tables.{rows, without, rows-rest, rows_end}
-use Rattle.rules.specs.Lists.{maybe, find, place, any, changeFirst, withoutFirst, changeAt}
+use Rattle.base_tables.specs.Tables.{rows, without, rows_rest, rows_end}
+use Rattle.rules.specs.Lists.{maybe, find, place, any, change_first, without_first, change_at}
 
 -- a place that was found k further on
 abbrev pub later : ℕ → Option ℕ → Option ℕ
@@ -36,53 +36,53 @@ module _ {A : Type 0} (p : A → Bool) (xs : List A) (i : ℕ) where
   pub list_miss : (x : A) → drop i xs ≡ x ∷ drop (i + 1) xs → p x ≡ false → later i (place p (drop i xs)) ≡ later (i + 1) (place p (drop (i + 1) xs))
   list_miss x h e = at_one x false h e ∙ later_suc i (place p (drop (i + 1) xs))
 
-  pub list-ends : drop i xs ≡ [] → later i (place p (drop i xs)) ≡ none
-  list-ends h = ap (λ (z : List A). later i (place p z)) h
+  pub list_ends : drop i xs ≡ [] → later i (place p (drop i xs)) ≡ none
+  list_ends h = ap (λ (z : List A). later i (place p z)) h
 
 -- ---- the same along rows
 
 module _ {A : Type 0} (size : ℕ) (dec : List ℕ → A) (p : A → Bool) (n : ℕ) (r : List ℕ) where
-  pub search-hit : (i : ℕ) → i < n → p (dec (take size (drop (i * size) r))) ≡ true → later i (place p (drop i (rows size dec n r))) ≡ some i
-  search-hit i h e = list_hit p (rows size dec n r) i (dec (take size (drop (i * size) r))) (rows-rest size dec n r i h) e
+  pub search_hit : (i : ℕ) → i < n → p (dec (take size (drop (i * size) r))) ≡ true → later i (place p (drop i (rows size dec n r))) ≡ some i
+  search_hit i h e = list_hit p (rows size dec n r) i (dec (take size (drop (i * size) r))) (rows_rest size dec n r i h) e
 
-  pub search-miss : (i : ℕ) → i < n → p (dec (take size (drop (i * size) r))) ≡ false
+  pub search_miss : (i : ℕ) → i < n → p (dec (take size (drop (i * size) r))) ≡ false
       → later i (place p (drop i (rows size dec n r))) ≡ later (i + 1) (place p (drop (i + 1) (rows size dec n r)))
-  search-miss i h e = list_miss p (rows size dec n r) i (dec (take size (drop (i * size) r))) (rows-rest size dec n r i h) e
+  search_miss i h e = list_miss p (rows size dec n r) i (dec (take size (drop (i * size) r))) (rows_rest size dec n r i h) e
 
-  pub search-ends : (i : ℕ) → n ≤ i → later i (place p (drop i (rows size dec n r))) ≡ none
-  search-ends i h = list-ends p (rows size dec n r) i (rows_end size dec n r i h)
+  pub search_ends : (i : ℕ) → n ≤ i → later i (place p (drop i (rows size dec n r))) ≡ none
+  search_ends i h = list_ends p (rows size dec n r) i (rows_end size dec n r i h)
 
 -- ---- whether any row passes, and the first that does
 
 module _ {A : Type 0} (size : ℕ) (dec : List ℕ → A) (p : A → Bool) (n : ℕ) (r : List ℕ) where
-  any-row : (i : ℕ) → i < n → (b : Bool) → p (dec (take size (drop (i * size) r))) ≡ b
+  any_row : (i : ℕ) → i < n → (b : Bool) → p (dec (take size (drop (i * size) r))) ≡ b
       → any p (drop i (rows size dec n r)) ≡ (b || any p (drop (i + 1) (rows size dec n r)))
-  any-row i h b e = ap (any p) (rows-rest size dec n r i h) ∙ ap (λ (x : Bool). x || any p (drop (i + 1) (rows size dec n r))) e
+  any_row i h b e = ap (any p) (rows_rest size dec n r i h) ∙ ap (λ (x : Bool). x || any p (drop (i + 1) (rows size dec n r))) e
 
-  pub any-hit : (i : ℕ) → i < n → p (dec (take size (drop (i * size) r))) ≡ true → any p (drop i (rows size dec n r)) ≡ true
-  any-hit i h e = any-row i h true e
+  pub any_hit : (i : ℕ) → i < n → p (dec (take size (drop (i * size) r))) ≡ true → any p (drop i (rows size dec n r)) ≡ true
+  any_hit i h e = any_row i h true e
 
-  pub any-miss : (i : ℕ) → i < n → p (dec (take size (drop (i * size) r))) ≡ false
+  pub any_miss : (i : ℕ) → i < n → p (dec (take size (drop (i * size) r))) ≡ false
       → any p (drop i (rows size dec n r)) ≡ any p (drop (i + 1) (rows size dec n r))
-  any-miss i h e = any-row i h false e
+  any_miss i h e = any_row i h false e
 
-  pub any-ends : (i : ℕ) → n ≤ i → any p (drop i (rows size dec n r)) ≡ false
-  any-ends i h = ap (any p) (rows_end size dec n r i h)
+  pub any_ends : (i : ℕ) → n ≤ i → any p (drop i (rows size dec n r)) ≡ false
+  any_ends i h = ap (any p) (rows_end size dec n r i h)
 
-  find-row : (i : ℕ) → i < n → (b : Bool) → p (dec (take size (drop (i * size) r))) ≡ b
+  find_row : (i : ℕ) → i < n → (b : Bool) → p (dec (take size (drop (i * size) r))) ≡ b
       → find p (drop i (rows size dec n r)) ≡ cond b (some (dec (take size (drop (i * size) r)))) (find p (drop (i + 1) (rows size dec n r)))
-  find-row i h b e =
-      ap (find p) (rows-rest size dec n r i h) ∙ ap (λ (x : Bool). cond x (some (dec (take size (drop (i * size) r)))) (find p (drop (i + 1) (rows size dec n r)))) e
+  find_row i h b e =
+      ap (find p) (rows_rest size dec n r i h) ∙ ap (λ (x : Bool). cond x (some (dec (take size (drop (i * size) r)))) (find p (drop (i + 1) (rows size dec n r)))) e
 
-  pub find-hit : (i : ℕ) → i < n → p (dec (take size (drop (i * size) r))) ≡ true → find p (drop i (rows size dec n r)) ≡ some (dec (take size (drop (i * size) r)))
-  find-hit i h e = find-row i h true e
+  pub find_hit : (i : ℕ) → i < n → p (dec (take size (drop (i * size) r))) ≡ true → find p (drop i (rows size dec n r)) ≡ some (dec (take size (drop (i * size) r)))
+  find_hit i h e = find_row i h true e
 
-  pub find-miss : (i : ℕ) → i < n → p (dec (take size (drop (i * size) r))) ≡ false
+  pub find_miss : (i : ℕ) → i < n → p (dec (take size (drop (i * size) r))) ≡ false
       → find p (drop i (rows size dec n r)) ≡ find p (drop (i + 1) (rows size dec n r))
-  find-miss i h e = find-row i h false e
+  find_miss i h e = find_row i h false e
 
-  pub find-ends : (i : ℕ) → n ≤ i → find p (drop i (rows size dec n r)) ≡ none
-  find-ends i h = ap (find p) (rows_end size dec n r i h)
+  pub find_ends : (i : ℕ) → n ≤ i → find p (drop i (rows size dec n r)) ≡ none
+  find_ends i h = ap (find p) (rows_end size dec n r i h)
 
 -- ---- where the place is known
 
@@ -114,14 +114,14 @@ module _ {A : Type 0} (p : A → Bool) (d : A) where
       → (p x ≡ true → P 0) → ((j : ℕ) → p x ≡ false → place p xs ≡ some j → P (suc j)) → P i
   at_place P x xs i e t f = split_place P (p x) (place p xs) i (found (p x) (place p xs) i e) t f
 
-  pub place-in : (xs : List A) (i : ℕ) → place p xs ≡ some i → i < length xs
-  place-in [] i e = none_not i e
-  place-in (x ∷ xs) i e =
-      at_place (λ (k : ℕ). k < suc (length xs)) x xs i e (λ h. omega arith) (λ j h q. let z = place-in xs j q in omega arith)
+  pub place_in_lem : (xs : List A) (i : ℕ) → place p xs ≡ some i → i < length xs
+  place_in_lem [] i e = none_not i e
+  place_in_lem (x ∷ xs) i e =
+      at_place (λ (k : ℕ). k < suc (length xs)) x xs i e (λ h. omega arith) (λ j h q. let z = place_in_lem xs j q in omega arith)
 
-  pub place-passes : (xs : List A) (i : ℕ) → place p xs ≡ some i → p (get_or xs i d) ≡ true
-  place-passes [] i e = none_not i e
-  place-passes (x ∷ xs) i e = at_place (λ (k : ℕ). p (get_or (x ∷ xs) k d) ≡ true) x xs i e (λ h. h) (λ j h q. place-passes xs j q)
+  pub place_passes : (xs : List A) (i : ℕ) → place p xs ≡ some i → p (get_or xs i d) ≡ true
+  place_passes [] i e = none_not i e
+  place_passes (x ∷ xs) i e = at_place (λ (k : ℕ). p (get_or (x ∷ xs) k d) ≡ true) x xs i e (λ h. h) (λ j h q. place_passes xs j q)
 
   pub find_at : (xs : List A) (i : ℕ) → place p xs ≡ some i → find p xs ≡ some (get_or xs i d)
   find_at [] i e = none_not i e
@@ -130,22 +130,22 @@ module _ {A : Type 0} (p : A → Bool) (d : A) where
       (λ h. ap (λ (b : Bool). cond b (some x) (find p xs)) h)
       (λ j h q. ap (λ (b : Bool). cond b (some x) (find p xs)) h ∙ find_at xs j q)
 
-  pub change-at : (u : A → A) (xs : List A) (i : ℕ) → place p xs ≡ some i → changeFirst p u xs ≡ set xs i (u (get_or xs i d))
-  change-at u [] i e = none_not i e
-  change-at u (x ∷ xs) i e =
-      at_place (λ (k : ℕ). changeFirst p u (x ∷ xs) ≡ set (x ∷ xs) k (u (get_or (x ∷ xs) k d))) x xs i e
-      (λ h. ap (λ (b : Bool). cond b (u x ∷ xs) (x ∷ changeFirst p u xs)) h)
-      (λ j h q. ap (λ (b : Bool). cond b (u x ∷ xs) (x ∷ changeFirst p u xs)) h ∙ ap (λ (z : List A). x ∷ z) (change-at u xs j q))
+  pub change_at_lem : (u : A → A) (xs : List A) (i : ℕ) → place p xs ≡ some i → change_first p u xs ≡ set xs i (u (get_or xs i d))
+  change_at_lem u [] i e = none_not i e
+  change_at_lem u (x ∷ xs) i e =
+      at_place (λ (k : ℕ). change_first p u (x ∷ xs) ≡ set (x ∷ xs) k (u (get_or (x ∷ xs) k d))) x xs i e
+      (λ h. ap (λ (b : Bool). cond b (u x ∷ xs) (x ∷ change_first p u xs)) h)
+      (λ j h q. ap (λ (b : Bool). cond b (u x ∷ xs) (x ∷ change_first p u xs)) h ∙ ap (λ (z : List A). x ∷ z) (change_at_lem u xs j q))
 
-  pub without_at : (xs : List A) (i : ℕ) → place p xs ≡ some i → withoutFirst p xs ≡ without xs i
+  pub without_at : (xs : List A) (i : ℕ) → place p xs ≡ some i → without_first p xs ≡ without xs i
   unfolding without
   without_at [] i e = none_not i e
   without_at (x ∷ xs) i e =
-      at_place (λ (k : ℕ). withoutFirst p (x ∷ xs) ≡ without (x ∷ xs) k) x xs i e
-      (λ h. ap (λ (b : Bool). cond b xs (x ∷ withoutFirst p xs)) h)
-      (λ j h q. ap (λ (b : Bool). cond b xs (x ∷ withoutFirst p xs)) h ∙ ap (λ (z : List A). x ∷ z) (without_at xs j q))
+      at_place (λ (k : ℕ). without_first p (x ∷ xs) ≡ without (x ∷ xs) k) x xs i e
+      (λ h. ap (λ (b : Bool). cond b xs (x ∷ without_first p xs)) h)
+      (λ j h q. ap (λ (b : Bool). cond b xs (x ∷ without_first p xs)) h ∙ ap (λ (z : List A). x ∷ z) (without_at xs j q))
 
-pub change_at_place : {A : Type 0} (u : A → A) (d : A) (xs : List A) (i : ℕ) → changeAt i u xs ≡ set xs i (u (get_or xs i d))
+pub change_at_place : {A : Type 0} (u : A → A) (d : A) (xs : List A) (i : ℕ) → change_at i u xs ≡ set xs i (u (get_or xs i d))
 change_at_place u d [] i = refl
 change_at_place u d (x ∷ xs) zero = refl
 change_at_place u d (x ∷ xs) (suc i) = ap (λ z. x ∷ z) (change_at_place u d xs i)

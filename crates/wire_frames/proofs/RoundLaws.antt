@@ -20,7 +20,7 @@ use Rattle.wire_rules.specs.Writing.{front_widths, front_values}
 use Rattle.wire_rules.specs.declared.IoFrame.TheVariants.{Io}
 use Rattle.wire_items.proofs.ItemLaws.{ends, step_end}
 use Rattle.wire_items.proofs.IoLaws.{is-io}
-use Rattle.wire_frames.proofs.WriteLaws.{frame-split, frame-length, no_room, too_long, past_end}
+use Rattle.wire_frames.proofs.WriteLaws.{frame_split, frame_length, no_room, too_long, past_end}
 
 module _ (id sequence cip : ℕ) (bs : List ℕ) where
   abbrev s : List ℕ
@@ -28,7 +28,7 @@ module _ (id sequence cip : ℕ) (bs : List ℕ) where
 
   numbers : dec_fields front_widths s 0 ≡ front_values id sequence cip (2 + length bs)
   numbers =
-      ap (λ (l : List ℕ). dec_fields front_widths l 0) (frame-split id sequence cip bs)
+      ap (λ (l : List ℕ). dec_fields front_widths l 0) (frame_split id sequence cip bs)
       ∙ dec_enc front_widths (front_values id sequence cip (2 + length bs)) tt [] bs 0 refl
 
   number : (k : ℕ) → get_or (dec_fields front_widths s 0) k 0 ≡ get_or (front_values id sequence cip (2 + length bs)) k 0
@@ -37,7 +37,7 @@ module _ (id sequence cip : ℕ) (bs : List ℕ) where
   -- the frame writer's frame is the I/O frame of that id and sequence, with the CIP sequence and the data as its payload
   pub round : 20 + length bs ≤ 65536 → io_of s ≡ Io (ot_id id) sequence 18 (2 + length bs)
   round h =
-      let n : length s ≡ 20 + length bs = frame-length id sequence cip bs in
+      let n : length s ≡ 20 + length bs = frame_length id sequence cip bs in
       let two : le 2 s 0 ≡ 2 = number 0 in
       let len : le 2 s 16 ≡ 2 + length bs = number 6 in
       let front : Head s = record { long = omega arith; count = omega arith; address = number 1; eight = number 2; payload = number 5 } in
@@ -49,7 +49,7 @@ module _ (id sequence cip : ℕ) (bs : List ℕ) where
   payload =
       let ws : List ℕ = 2 ∷ 2 ∷ 2 ∷ 4 ∷ 4 ∷ 2 ∷ 2 ∷ [] in
       let vs : List ℕ = 2 ∷ 0x8002 ∷ 8 ∷ id ∷ sequence ∷ 0xB1 ∷ (2 + length bs) ∷ [] in
-      let split : s ≡ enc_fields ws vs ++ (le_bytes 2 cip ++ bs) = frame-split id sequence cip bs ∙ simp append_assoc in
+      let split : s ≡ enc_fields ws vs ++ (le_bytes 2 cip ++ bs) = frame_split id sequence cip bs ∙ simp append_assoc in
       let n : length (le_bytes 2 cip ++ bs) ≤ 2 + length bs = rw (length-append, length_le_bytes) (omega arith) in
       ap (λ (l : List ℕ). take (2 + length bs) (drop 18 l)) split
       ∙ ap (take (2 + length bs)) (drop_at (enc_fields ws vs) (le_bytes 2 cip ++ bs) 18 (length_enc_fields ws vs tt))
@@ -62,7 +62,7 @@ module _ (id sequence cip : ℕ) (bs : List ℕ) where
         → frame_appended out at id sequence cip bs ≡ (Bytes (20 + length bs), sets out at s)
     unfolding frame_appended frame_written
     appended h r =
-        let n : length s ≡ 20 + length bs = frame-length id sequence cip bs in
+        let n : length s ≡ 20 + length bs = frame_length id sequence cip bs in
         let a : at ≤ length out = omega arith in
         let g : 2 + length bs ≤ 65535 = omega arith in
         let w : length s ≤ length (drop at out) = rw length-drop (omega arith) in
@@ -93,7 +93,7 @@ module _ (id sequence cip : ℕ) (bs : List ℕ) where
     pub round-at : 20 + length bs ≤ 65536 → at + (20 + length bs) ≤ length out
         → io_of (take (20 + length bs) (drop at (frame_appended out at id sequence cip bs).1)) ≡ Io (ot_id id) sequence 18 (2 + length bs)
     round-at h r =
-        let n : length s ≡ 20 + length bs = frame-length id sequence cip bs in
+        let n : length s ≡ 20 + length bs = frame_length id sequence cip bs in
         ap (λ (w : Written × List ℕ). io_of (take (20 + length bs) (drop at w.1))) (appended (omega arith) r)
         ∙ ap (λ (m : ℕ). io_of (take m (drop at (sets out at s)))) (sym n)
         ∙ ap io_of (slice_sets out at s (omega arith))

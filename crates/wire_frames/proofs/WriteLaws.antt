@@ -18,16 +18,16 @@ use Rattle.wire_rules.specs.Writing.{front_widths, front_values}
 
 module _ (id sequence cip : ℕ) (bs : List ℕ) where
   -- the numbers before the data, then the data
-  pub frame-split : io_frame id sequence cip bs ≡ enc_fields front_widths (front_values id sequence cip (2 + length bs)) ++ bs
+  pub frame_split : io_frame id sequence cip bs ≡ enc_fields front_widths (front_values id sequence cip (2 + length bs)) ++ bs
   unfolding io_frame enc_fields
-  frame-split = simp (append_assoc, length-append, length_le_bytes)
+  frame_split = simp (append_assoc, length-append, length_le_bytes)
 
   front_length : length (enc_fields front_widths (front_values id sequence cip (2 + length bs))) ≡ 20
   unfolding sum
   front_length = length_enc_fields front_widths (front_values id sequence cip (2 + length bs)) tt
 
-  pub frame-length : length (io_frame id sequence cip bs) ≡ 20 + length bs
-  frame-length = ap length frame-split ∙ length-append (enc_fields front_widths (front_values id sequence cip (2 + length bs))) bs ∙ ap (λ (n : ℕ). n + length bs) front_length
+  pub frame_length : length (io_frame id sequence cip bs) ≡ 20 + length bs
+  frame_length = ap length frame_split ∙ length-append (enc_fields front_widths (front_values id sequence cip (2 + length bs))) bs ∙ ap (λ (n : ℕ). n + length bs) front_length
 
   module _ (out : List ℕ) where
     pub too_long : 65533 < length bs → (NoRoom, out) ≡ frame_written out id sequence cip bs
@@ -38,7 +38,7 @@ module _ (id sequence cip : ℕ) (bs : List ℕ) where
     unfolding frame_written
     no_room h r =
         let g : 2 + length bs ≤ 65535 = omega arith in
-        simp (le-leb _ _ g) (sym (written_none out (io_frame id sequence cip bs) (omega (arith, frame-length))))
+        simp (le-leb _ _ g) (sym (written_none out (io_frame id sequence cip bs) (omega (arith, frame_length))))
 
     pub all-written : (n : ℕ) (x y : List ℕ) → n ≡ length bs → length bs ≤ 65533 → 20 + length bs ≤ length out
         → x ≡ put_fields front_widths out 0 (front_values id sequence cip (2 + n)) → y ≡ sets x 20 bs
@@ -48,12 +48,12 @@ module _ (id sequence cip : ℕ) (bs : List ℕ) where
         let g : 2 + length bs ≤ 65535 = omega arith in
         let f : List ℕ = enc_fields front_widths (front_values id sequence cip (2 + length bs)) in
         let fx : x ≡ sets out 0 f = ex ∙ put_fields_eq front_widths out 0 (front_values id sequence cip (2 + n)) ∙ ap (λ (m : ℕ). sets out 0 (enc_fields front_widths (front_values id sequence cip (2 + m)))) e in
-        let b : 20 + n ≡ length (io_frame id sequence cip bs) = ap (λ (m : ℕ). 20 + m) e ∙ sym frame-length in
+        let b : 20 + n ≡ length (io_frame id sequence cip bs) = ap (λ (m : ℕ). 20 + m) e ∙ sym frame_length in
         let z : 20 ≡ 0 + length f = omega (arith, front_length) in
         let w : y ≡ sets out 0 (io_frame id sequence cip bs) =
         ey ∙ ap (λ (z : List ℕ). sets z 20 bs) fx ∙ ap (λ (m : ℕ). sets (sets out 0 f) m bs) z
-        ∙ sym (sets_append out 0 f bs) ∙ ap (sets out 0) (sym frame-split) in
-        simp (le-leb _ _ g) (ap₂ (λ (m : ℕ) (z : List ℕ). (Bytes m, z)) b w ∙ sym (written_all out (io_frame id sequence cip bs) (omega (arith, frame-length))))
+        ∙ sym (sets_append out 0 f bs) ∙ ap (sets out 0) (sym frame_split) in
+        simp (le-leb _ _ g) (ap₂ (λ (m : ℕ) (z : List ℕ). (Bytes m, z)) b w ∙ sym (written_all out (io_frame id sequence cip bs) (omega (arith, frame_length))))
 
 -- ---- behind what the output holds already
 
@@ -62,10 +62,10 @@ module _ (id sequence cip at : ℕ) (bs out : List ℕ) where
   unfolding frame_appended
   past_end h = simp (lt-leb _ _ h)
 
-  pub lent-rest : (r : Written) (y : List ℕ) → at ≤ length out → (r, y) ≡ frame_written (mid_of at (length out - at) out) id sequence cip bs
+  pub lent_rest : (r : Written) (y : List ℕ) → at ≤ length out → (r, y) ≡ frame_written (mid_of at (length out - at) out) id sequence cip bs
       → (r, put_mid at (length out - at) out y) ≡ frame_appended out at id sequence cip bs
   unfolding frame_appended
-  lent-rest r y h e =
+  lent_rest r y h e =
       let m : length (drop at out) ≤ length out - at = rw length-drop (omega arith) in
       let p : put_mid at (length out - at) out y ≡ take at out ++ y = rw (drop_of_length-le (drop at out) m, append-nil) in
       let f : (r, y) ≡ frame_written (drop at out) id sequence cip bs = e ∙ ap (λ (z : List ℕ). frame_written z id sequence cip bs) (take_all (length out - at) (drop at out) m) in

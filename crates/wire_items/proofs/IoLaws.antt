@@ -21,13 +21,13 @@ use Rattle.wire_items.proofs.ListLaws.{part_at, Chain, link, chain_within, of_go
 -- ---- the head's tests
 
 module _ (s : List ℕ) where
-  pub short-head : length s < 18 → false ≡ io_head s
+  pub short_head : length s < 18 → false ≡ io_head s
   unfolding io_head
-  short-head h = sym (all_fails (head_tests s) 0 (lt-leb _ _ h))
+  short_head h = sym (all_fails (head_tests s) 0 (lt-leb _ _ h))
 
-  pub few-items : le 2 s 0 < 2 → false ≡ io_head s
+  pub few_items : le 2 s 0 < 2 → false ≡ io_head s
   unfolding io_head
-  few-items h = sym (all_fails (head_tests s) 1 (lt-leb _ _ h))
+  few_items h = sym (all_fails (head_tests s) 1 (lt-leb _ _ h))
 
   pub no_address : (le 2 s 2 ≡ 0x8002 → ⊥) → false ≡ io_head s
   unfolding io_head
@@ -77,8 +77,8 @@ module _ (s : List ℕ) (h : Head s) where
       let f : item_end s 2 ≡ 14 = omega arith in
       from_count s (omega arith) ∙ takes s 2 (le 2 s 0) (omega arith) (omega arith) ∙ ap (λ (a : ℕ). cons (part_at s 2) (items_from (le 2 s 0 - 1) s a)) f
 
-  second-taken : 18 + le 2 s 16 ≤ length s → items_of s ≡ cons (part_at s 2) (cons (part_at s 14) (items_from (le 2 s 0 - 2) s (18 + le 2 s 16)))
-  second-taken g =
+  second_taken : 18 + le 2 s 16 ≤ length s → items_of s ≡ cons (part_at s 2) (cons (part_at s 14) (items_from (le 2 s 0 - 2) s (18 + le 2 s 16)))
+  second_taken g =
       let n = h.count in
       let m : le 2 s 0 - 1 - 1 ≡ le 2 s 0 - 2 = omega arith in
       first_taken ∙ ap (cons (part_at s 2)) (takes s 14 (le 2 s 0 - 1) (omega arith) g ∙ ap (λ (k : ℕ). cons (part_at s 14) (items_from k s (18 + le 2 s 16))) m)
@@ -93,7 +93,7 @@ module _ (s : List ℕ) (h : Head s) where
     two : (x : Items) → items_from (n - 2) s (18 + len) ≡ x → items_of s ≡ cons (part_at s 2) (cons (part_at s 14) x)
     two x e =
         let e' : items_from (le 2 s 0 - 2) s (18 + le 2 s 16) ≡ x = rw (← en, ← el) e in
-        second-taken (omega arith) ∙ ap (λ (y : Items). cons (part_at s 2) (cons (part_at s 14) y)) e'
+        second_taken (omega arith) ∙ ap (λ (y : Items). cons (part_at s 2) (cons (part_at s 14) y)) e'
 
     pub later-broken : (o : ℕ) → BrokenAt o ≡ whole_of (items_from (n - 2) s (18 + len)) → Broken o ≡ io_of s
     unfolding io_of

@@ -32,20 +32,20 @@ module _ (s : List ℕ) (at : ℕ) where
   unfolding step_at
   step_end left e h = rw (e, eq-eqb _ _ h)
 
-  pub step-spare : (left : ℕ) → left ≡ 0 → (at ≡ length s → ⊥) → Broken at ≡ step_at s at left
+  pub step_spare : (left : ℕ) → left ≡ 0 → (at ≡ length s → ⊥) → Broken at ≡ step_at s at left
   unfolding step_at
-  step-spare left e h = rw (e, ne_eqb _ _ h)
+  step_spare left e h = rw (e, ne_eqb _ _ h)
 
-  pub step-short : (left : ℕ) → (left ≡ 0 → ⊥) → length s < item_end s at → Broken at ≡ step_at s at left
+  pub step_short : (left : ℕ) → (left ≡ 0 → ⊥) → length s < item_end s at → Broken at ≡ step_at s at left
   unfolding step_at
-  step-short zero e h = absurd (e refl)
-  step-short (suc n) e h = simp (lt-leb _ _ h)
+  step_short zero e h = absurd (e refl)
+  step_short (suc n) e h = simp (lt-leb _ _ h)
 
-  pub step-item : (left k n : ℕ) → (left ≡ 0 → ⊥) → k ≡ le 2 s at → n ≡ le 2 s (at + 2) → at + 4 + n ≤ length s
+  pub step_item : (left k n : ℕ) → (left ≡ 0 → ⊥) → k ≡ le 2 s at → n ≡ le 2 s (at + 2) → at + 4 + n ≤ length s
       → Item k (at + 4) n (cursor (at + 4 + n) (left - 1)) ≡ step_at s at left
   unfolding step_at
-  step-item zero k n e ek en h = absurd (e refl)
-  step-item (suc left) k n e ek en h =
+  step_item zero k n e ek en h = absurd (e refl)
+  step_item (suc left) k n e ek en h =
       let g : item_end s at ≤ length s = omega arith in
       let m : suc left - 1 ≡ left = omega arith in
       simp (le-leb _ _ g, ek, en, m)
@@ -76,23 +76,23 @@ module _ (s : List ℕ) (at : ℕ) where
   stops (suc n) o e = rw (← e)
 
   -- an item is found only where one is to come, and then one fewer is
-  pub next-is : (n k b l : ℕ) (x : Cursor) → Item k b l x ≡ step_at s at n → (0 < n) × (x ≡ cursor (item_end s at) (n - 1))
+  pub next_is : (n k b l : ℕ) (x : Cursor) → Item k b l x ≡ step_at s at n → (0 < n) × (x ≡ cursor (item_end s at) (n - 1))
   unfolding step_at
-  next-is zero k b l x e = absurd (not_item at k b l x (eqb at (length s)) e)
-  next-is (suc n) k b l x e =
+  next_is zero k b l x e = absurd (not_item at k b l x (eqb at (length s)) e)
+  next_is (suc n) k b l x e =
       let m : n ≡ suc n - 1 = omega arith in
       (omega arith, same_item at k b l _ _ _ x _ (leb (item_end s at) (length s)) e ∙ ap (cursor (item_end s at)) m)
 
   pub fewer : (n k b l : ℕ) (x : Cursor) → Item k b l x ≡ step_at s at n → x.left < n
   fewer n k b l x e =
-      let h = next-is n k b l x e in
+      let h = next_is n k b l x e in
       omega (arith, h.0, ap (λ (c : Cursor). c.left) h.1)
 
   pub goes : (n k b l : ℕ) (x : Cursor) → Item k b l x ≡ step_at s at n → whole_of (items_from x.left s x.at) ≡ whole_of (items_from n s at)
   unfolding items_from
   goes zero k b l x e = absurd (omega (arith, fewer 0 k b l x e))
   goes (suc n) k b l x e =
-      let m : x.left ≡ n = ap (λ (c : Cursor). c.left) (next-is (suc n) k b l x e).1 ∙ omega arith in
+      let m : x.left ≡ n = ap (λ (c : Cursor). c.left) (next_is (suc n) k b l x e).1 ∙ omega arith in
       rw (← e, m) (sym (whole_cons _ (items_from n s x.at)))
 
 -- ---- the whole list
@@ -118,15 +118,15 @@ module _ (s : List ℕ) (at left : ℕ) where
   later zero k b l x h e = absurd (omega arith)
   later (suc n) k b l x h e = let m : suc n - 1 ≡ n = omega arith in rw (← e, m)
 
-  pub ends-before : (n : ℕ) → End ≡ step_at s at left → End ≡ step_after n s at left
+  pub ends_before : (n : ℕ) → End ≡ step_at s at left → End ≡ step_after n s at left
   unfolding step_after
-  ends-before zero e = e
-  ends-before (suc n) e = rw (← e)
+  ends_before zero e = e
+  ends_before (suc n) e = rw (← e)
 
-  pub breaks-before : (n o : ℕ) → Broken o ≡ step_at s at left → Broken o ≡ step_after n s at left
+  pub breaks_before : (n o : ℕ) → Broken o ≡ step_at s at left → Broken o ≡ step_after n s at left
   unfolding step_after
-  breaks-before zero o e = e
-  breaks-before (suc n) o e = rw (← e)
+  breaks_before zero o e = e
+  breaks_before (suc n) o e = rw (← e)
 
 pub item_begins : (s : List ℕ) (n : ℕ) (c : Cursor) → At c ≡ start_of s → step_after n s c.at c.left ≡ item_of n s
 unfolding item_of

@@ -162,8 +162,8 @@ module _ (s : List ℕ) (l : List Part) (d : Listed s l) where
   from_start : (n : ℕ) → item_of n s ≡ step_after n s 2 (length l)
   from_start n = sym (item_begins s n (cursor 2 (le 2 s 0)) (counted s (le 2 s 0) d.room refl)) ∙ ap (step_after n s 2) d.count
 
-  pub item-is : (n : ℕ) → n < length l → (p : Part) → (c : Cursor) × (item_of n s ≡ Item (get_or l n p).kind (get_or l n p).start (get_or l n p).len c)
-  item-is n h p = let r = nth d.chain n h p in (r.0, from_start n ∙ r.1)
+  pub item_is : (n : ℕ) → n < length l → (p : Part) → (c : Cursor) × (item_of n s ≡ Item (get_or l n p).kind (get_or l n p).start (get_or l n p).len c)
+  item_is n h p = let r = nth d.chain n h p in (r.0, from_start n ∙ r.1)
 
-  pub item-end : item_of (length l) s ≡ End
-  item-end = from_start (length l) ∙ nth_end d.chain
+  pub item_end_lem : item_of (length l) s ≡ End
+  item_end_lem = from_start (length l) ∙ nth_end d.chain

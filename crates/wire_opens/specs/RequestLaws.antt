@@ -38,32 +38,32 @@ module _ (large : Bool) (s : List ℕ) (o : ForwardOpen) (e : open_of large s �
   whole = opened _ _ o within.1
 
   -- the request is of the stated size
-  pub open-size : length s ≤ limit
-  open-size = leb-true _ _ within.0
+  pub open_size : length s ≤ limit
+  open_size = leb-true _ _ within.0
 
   -- its fields are those at their offsets
-  pub open-fields : o ≡ fields_of large s (width_of large)
-  open-fields = cc whole.1
+  pub open_fields : o ≡ fields_of large s (width_of large)
+  open_fields = cc whole.1
 
   -- its path is all there
-  pub open-path : o.path.start + o.path.len ≤ length s
+  pub open_path : o.path.start + o.path.len ≤ length s
   unfolding fields_of place_at
-  open-path = rw open-fields (leb-true _ _ whole.0)
+  open_path = rw open_fields (leb-true _ _ whole.0)
 
 module _ (s : List ℕ) (r : Triad) (e : close_of s ≡ Close r) where
-  close-within : (leb (length s) limit ≡ true) × (pick (leb (12 + 2 * le 1 s 10) (length s)) (Close (triad_at s 2)) NoClose ≡ Close r)
+  close_within : (leb (length s) limit ≡ true) × (pick (leb (12 + 2 * le 1 s 10) (length s)) (Close (triad_at s 2)) NoClose ≡ Close r)
   unfolding close_of
-  close-within = closed (leb (length s) limit) _ r e
+  close_within = closed (leb (length s) limit) _ r e
 
-  close-whole : (leb (12 + 2 * le 1 s 10) (length s) ≡ true) × (Close (triad_at s 2) ≡ Close r)
-  close-whole = closed _ _ r close-within.1
+  close_whole : (leb (12 + 2 * le 1 s 10) (length s) ≡ true) × (Close (triad_at s 2) ≡ Close r)
+  close_whole = closed _ _ r close_within.1
 
-  pub close-triad : r ≡ triad_at s 2
-  close-triad = cc close-whole.1
+  pub close_triad : r ≡ triad_at s 2
+  close_triad = cc close_whole.1
 
   -- its path is all there
-  pub close-path : 12 + 2 * le 1 s 10 ≤ length s
-  close-path = leb-true _ _ close-whole.0
+  pub close_path : 12 + 2 * le 1 s 10 ≤ length s
+  close_path = leb-true _ _ close_whole.0
 
 -- ---- bytes after the path are ignored
 
@@ -84,9 +84,9 @@ module _ (s t : List ℕ) where
   unfolding way_at
   same_way large at h = rw (same 4 at (omega arith), same_params large (at + 4) (omega arith))
 
-  same-fields : (large : Bool) (w : ℕ) → 2 ≤ w → w ≤ 4 → 32 + w + w ≤ length s → fields_of large (s ++ t) w ≡ fields_of large s w
+  same_fields : (large : Bool) (w : ℕ) → 2 ≤ w → w ≤ 4 → 32 + w + w ≤ length s → fields_of large (s ++ t) w ≡ fields_of large s w
   unfolding fields_of place_at
-  same-fields large w h g f =
+  same_fields large w h g f =
       rw (
         same 4 2 (omega arith),
         same 4 6 (omega arith),
@@ -98,25 +98,25 @@ module _ (s t : List ℕ) where
         same 1 (31 + w + w) (omega arith),
       )
 
-  width-least : (large : Bool) → (2 ≤ width_of large) × (width_of large ≤ 4)
+  width_least : (large : Bool) → (2 ≤ width_of large) × (width_of large ≤ 4)
   unfolding width_of
-  width-least true = (omega arith, omega arith)
-  width-least false = (omega arith, omega arith)
+  width_least true = (omega arith, omega arith)
+  width_least false = (omega arith, omega arith)
 
-  pub open-rest : (large : Bool) (o : ForwardOpen) → open_of large s ≡ Open o → length (s ++ t) ≤ limit → open_of large (s ++ t) ≡ Open o
+  pub open_rest : (large : Bool) (o : ForwardOpen) → open_of large s ≡ Open o → length (s ++ t) ≤ limit → open_of large (s ++ t) ≡ Open o
   unfolding open_of open_with
-  open-rest large o e h =
+  open_rest large o e h =
       let w : ℕ = width_of large in
-      let least = width-least large in
+      let least = width_least large in
       let there : 32 + w + w + 2 * le 1 s (31 + w + w) ≤ length s = leb-true _ _ (whole large s o e).0 in
       let last : le 1 (s ++ t) (31 + w + w) ≡ le 1 s (31 + w + w) = same 1 (31 + w + w) (omega arith) in
       simp (le-leb _ _ h, last, le-leb (32 + w + w + 2 * le 1 s (31 + w + w)) (length (s ++ t)) (simp length-append (omega arith)))
-      (ap Open (same-fields large w least.0 least.1 (omega arith) ∙ sym (open-fields large s o e)))
+      (ap Open (same_fields large w least.0 least.1 (omega arith) ∙ sym (open_fields large s o e)))
 
-  pub close-rest : (r : Triad) → close_of s ≡ Close r → length (s ++ t) ≤ limit → close_of (s ++ t) ≡ Close r
+  pub close_rest : (r : Triad) → close_of s ≡ Close r → length (s ++ t) ≤ limit → close_of (s ++ t) ≡ Close r
   unfolding close_of
-  close-rest r e h =
-      let there : 12 + 2 * le 1 s 10 ≤ length s = close-path s r e in
+  close_rest r e h =
+      let there : 12 + 2 * le 1 s 10 ≤ length s = close_path s r e in
       let last : le 1 (s ++ t) 10 ≡ le 1 s 10 = same 1 10 (omega arith) in
       simp (le-leb _ _ h, last, le-leb (12 + 2 * le 1 s 10) (length (s ++ t)) (simp length-append (omega arith)))
-      (ap Close (same_triad 2 (omega arith) ∙ sym (close-triad s r e)))
+      (ap Close (same_triad 2 (omega arith) ∙ sym (close_triad s r e)))

@@ -33,6 +33,6 @@ module _ (s : List ℕ) (at : ℕ) (p : ConnectionPath) (h : Held s at p) where
   unfolding path_of
   held_all f = ap Parsed h.holds ∙ sym (ap path_read (passed-all s at h.done h.passed f))
 
-  pub held-broken : (o : ℕ) → Broken o ≡ step_at s at → Unparsed o ≡ path_of s
+  pub held_broken : (o : ℕ) → Broken o ≡ step_at s at → Unparsed o ≡ path_of s
   unfolding path_of
-  held-broken o f = sym (ap path_read (passed-broken s at h.done h.passed o f))
+  held_broken o f = sym (ap path_read (passed-broken s at h.done h.passed o f))

@@ -17,10 +17,10 @@ use Rattle.wire_rules.specs.declared.Seg.TheVariants.{Port, Class, Instance, Poi
 -- ---- lists with one more at the end
 
 module _ {A : Type 0} where
-  pub gather-more : (f : Seg → List A) (l : List Seg) (x : Seg) → gather f (l ++ (x ∷ [])) ≡ gather f l ++ f x
+  pub gather_more : (f : Seg → List A) (l : List Seg) (x : Seg) → gather f (l ++ (x ∷ [])) ≡ gather f l ++ f x
   unfolding gather
-  gather-more f [] x = append-nil (f x)
-  gather-more f (y ∷ l) x = ap (λ (m : List A). f y ++ m) (gather-more f l x) ∙ sym (append_assoc (f y) (gather f l) (f x))
+  gather_more f [] x = append-nil (f x)
+  gather_more f (y ∷ l) x = ap (λ (m : List A). f y ++ m) (gather_more f l x) ∙ sym (append_assoc (f y) (gather f l) (f x))
 
   pub some_more : (l : List A) (a : A) → some (l ++ (a ∷ [])) ≡ true
   unfolding some
@@ -35,25 +35,25 @@ module _ {A : Type 0} where
 -- ---- a segment of each kind
 
 module _ (l : List Seg) where
-  add-port : (p start len : ℕ) → connection_path (l ++ (Port p start len ∷ [])) ≡ with_bar (connection_path l)
+  add_port : (p start len : ℕ) → connection_path (l ++ (Port p start len ∷ [])) ≡ with_bar (connection_path l)
   unfolding connection_path
-  add-port p start len = simp (gather-more, append-nil, some_more)
+  add_port p start len = simp (gather_more, append-nil, some_more)
 
-  add-attribute : (v : ℕ) → connection_path (l ++ (Attribute v ∷ [])) ≡ with_bar (connection_path l)
+  add_attribute : (v : ℕ) → connection_path (l ++ (Attribute v ∷ [])) ≡ with_bar (connection_path l)
   unfolding connection_path
-  add-attribute v = simp (gather-more, append-nil, some_more)
+  add_attribute v = simp (gather_more, append-nil, some_more)
 
-  add-class : (v : ℕ) → connection_path (l ++ (Class v ∷ [])) ≡ with_class (connection_path l) v
+  add_class : (v : ℕ) → connection_path (l ++ (Class v ∷ [])) ≡ with_class (connection_path l) v
   unfolding connection_path
-  add-class v = simp (gather-more, append-nil, some_more, last_more)
+  add_class v = simp (gather_more, append-nil, some_more, last_more)
 
-  add-key : (k : Key) → connection_path (l ++ (Keyed k ∷ [])) ≡ with_key (connection_path l) k
+  add_key : (k : Key) → connection_path (l ++ (Keyed k ∷ [])) ≡ with_key (connection_path l) k
   unfolding connection_path
-  add-key k = simp (gather-more, append-nil, some_more, last_more)
+  add_key k = simp (gather_more, append-nil, some_more, last_more)
 
-  add-data : (start len : ℕ) → connection_path (l ++ (Data start len ∷ [])) ≡ with_data (connection_path l) start len
+  add_data : (start len : ℕ) → connection_path (l ++ (Data start len ∷ [])) ≡ with_data (connection_path l) start len
   unfolding connection_path
-  add-data start len = simp (gather-more, append-nil, last_more)
+  add_data start len = simp (gather_more, append-nil, last_more)
 
 -- ---- an instance or a point, by how many stand before it
 
@@ -89,22 +89,22 @@ third_of (a ∷ b ∷ c ∷ []) v = refl
 third_of (a ∷ b ∷ c ∷ d ∷ m) v = simp many
 
 module _ (l : List Seg) where
-  add-instance : (v : ℕ) → connection_path (l ++ (Instance v ∷ [])) ≡ with_number (connection_path l) v
+  add_instance : (v : ℕ) → connection_path (l ++ (Instance v ∷ [])) ≡ with_number (connection_path l) v
   unfolding connection_path
-  add-instance v = simp (gather-more, append-nil, counted, first_of, second_of, third_of)
+  add_instance v = simp (gather_more, append-nil, counted, first_of, second_of, third_of)
 
-  add-point : (v : ℕ) → connection_path (l ++ (Point v ∷ [])) ≡ with_number (connection_path l) v
+  add_point : (v : ℕ) → connection_path (l ++ (Point v ∷ [])) ≡ with_number (connection_path l) v
   unfolding connection_path
-  add-point v = simp (gather-more, append-nil, counted, first_of, second_of, third_of)
+  add_point v = simp (gather_more, append-nil, counted, first_of, second_of, third_of)
 
   pub added_more : (x : Seg) → connection_path (l ++ (x ∷ [])) ≡ added (connection_path l) x
-  added_more (Port p start len) = add-port l p start len
-  added_more (Class v) = add-class l v
-  added_more (Instance v) = add-instance v
-  added_more (Point v) = add-point v
-  added_more (Attribute v) = add-attribute l v
-  added_more (Keyed k) = add-key l k
-  added_more (Data start len) = add-data l start len
+  added_more (Port p start len) = add_port l p start len
+  added_more (Class v) = add_class l v
+  added_more (Instance v) = add_instance v
+  added_more (Point v) = add_point v
+  added_more (Attribute v) = add_attribute l v
+  added_more (Keyed k) = add_key l k
+  added_more (Data start len) = add_data l start len
 
 -- from the third on, the count is 4
 pub count_stops : (n : ℕ) → 3 ≤ n → pick (ltb n 4) (n + 1) 4 ≡ 4

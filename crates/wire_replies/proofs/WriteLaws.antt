@@ -28,11 +28,11 @@ module _ (ws vs l : List ℕ) (t : T (Laid ws vs)) (n : ℕ) (e : sum ws ≡ n) 
   long : length (enc_fields ws vs) ≡ n
   long = length_enc_fields ws vs t ∙ e
 
-  pub none-put : length l < n → (NoRoom, l) ≡ written l (enc_fields ws vs)
-  none-put h = sym (written_none l (enc_fields ws vs) (rw long h))
+  pub none_put : length l < n → (NoRoom, l) ≡ written l (enc_fields ws vs)
+  none_put h = sym (written_none l (enc_fields ws vs) (rw long h))
 
-  pub all-put : (l' : List ℕ) → n ≤ length l → l' ≡ put_fields ws l 0 vs → (Bytes n, l') ≡ written l (enc_fields ws vs)
-  all-put l' h f =
+  pub all_put : (l' : List ℕ) → n ≤ length l → l' ≡ put_fields ws l 0 vs → (Bytes n, l') ≡ written l (enc_fields ws vs)
+  all_put l' h f =
       ap₂ (λ (k : ℕ) (x : List ℕ). (Bytes k, x)) (sym long) (f ∙ put_fields_eq ws l 0 vs)
       ∙ sym (written_all l (enc_fields ws vs) (rw long h))
 
@@ -71,5 +71,5 @@ module _ (service general words first second : ℕ) (out : List ℕ) (r : Writte
   unfolding reply_head
   one_word e h = rw e h
 
-  pub two-words : 2 ≤ words → (r, out') ≡ written out (reply_head service general 2 first second) → (r, out') ≡ written out (reply_head service general words first second)
-  two-words e h = h ∙ sym (ap (written out) (head_both service general words first second e))
+  pub two_words : 2 ≤ words → (r, out') ≡ written out (reply_head service general 2 first second) → (r, out') ≡ written out (reply_head service general words first second)
+  two_words e h = h ∙ sym (ap (written out) (head_both service general words first second e))

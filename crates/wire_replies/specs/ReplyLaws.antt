@@ -19,23 +19,23 @@ words_laid [] = tt
 words_laid (w ∷ ws) = words_laid ws
 
 module _ (out : List ℕ) where
-  pub open-reply-back : (otid : OtId) (toid : ToId) (triad : Triad) (otrpi torpi : ℕ) → 26 ≤ length out
+  pub open_reply_back : (otid : OtId) (toid : ToId) (triad : Triad) (otrpi torpi : ℕ) → 26 ≤ length out
       → dec_fields open_reply_widths (sets out 0 (open_reply otid toid triad otrpi torpi)) 0 ≡ open_reply_fields otid toid triad otrpi torpi
   unfolding open_reply sum
-  open-reply-back otid toid triad otrpi torpi h = read_back open_reply_widths _ tt out h
+  open_reply_back otid toid triad otrpi torpi h = read_back open_reply_widths _ tt out h
 
-  pub open-refusal-back : (triad : Triad) → 10 ≤ length out → dec_fields triad_reply_widths (sets out 0 (open_refusal triad)) 0 ≡ triad_reply_fields triad
+  pub open_refusal_back : (triad : Triad) → 10 ≤ length out → dec_fields triad_reply_widths (sets out 0 (open_refusal triad)) 0 ≡ triad_reply_fields triad
   unfolding triad_reply sum
-  open-refusal-back triad h = read_back triad_reply_widths _ tt out h
+  open_refusal_back triad h = read_back triad_reply_widths _ tt out h
 
-  pub close-reply-back : (triad : Triad) → 10 ≤ length out → dec_fields triad_reply_widths (sets out 0 (close_reply triad)) 0 ≡ triad_reply_fields triad
-  close-reply-back triad h = open-refusal-back triad h
+  pub close_reply_back : (triad : Triad) → 10 ≤ length out → dec_fields triad_reply_widths (sets out 0 (close_reply triad)) 0 ≡ triad_reply_fields triad
+  close_reply_back triad h = open_refusal_back triad h
 
-  pub reply-head-back : (service general words first second : ℕ) → sum (reply_head_widths words first second) ≤ length out
+  pub reply_head_back : (service general words first second : ℕ) → sum (reply_head_widths words first second) ≤ length out
       → dec_fields (reply_head_widths words first second) (sets out 0 (reply_head service general words first second)) 0
       ≡ reply_head_fields service general words first second
   unfolding reply_head
-  reply-head-back service general words first second h =
+  reply_head_back service general words first second h =
       read_back (reply_head_widths words first second) _ (words_laid (extended words first second)) out h
 
 -- ---- how long each is

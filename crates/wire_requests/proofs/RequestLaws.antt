@@ -29,25 +29,25 @@ use Rattle.wire_rules.specs.declared.RequestAnswer.TheVariants.{Parsed, Unparsed
 -- ---- the object
 
 module _ (s : List ℕ) (at c : ℕ) where
-  pub alone-end : End ≡ step_at s at → NamesClass s at c (Named c 0)
-  alone-end q l a = rw (ahead-end s at l a q)
+  pub alone_end : End ≡ step_at s at → NamesClass s at c (Named c 0)
+  alone_end q l a = rw (ahead-end s at l a q)
 
-  pub alone-more : (x : Seg) (next : ℕ) → Segment x next ≡ step_at s at → NamesClass s at c NoObject
-  alone-more x next q l a = rw (ahead-then s at l a x next q).is
+  pub alone_more : (x : Seg) (next : ℕ) → Segment x next ≡ step_at s at → NamesClass s at c NoObject
+  alone_more x next q l a = rw (ahead-then s at l a x next q).is
 
-  pub alone-broken : (o : ℕ) → Broken o ≡ step_at s at → NamesClass s at c NoObject
-  alone-broken o q l a = absurd (ahead-whole s at l a o q)
+  pub alone_broken : (o : ℕ) → Broken o ≡ step_at s at → NamesClass s at c NoObject
+  alone_broken o q l a = absurd (ahead-whole s at l a o q)
 
-  pub class-end : End ≡ step_at s at → NamesInClass s at c (Named c 0)
-  class-end q l a = rw (ahead-end s at l a q)
+  pub class_end : End ≡ step_at s at → NamesInClass s at c (Named c 0)
+  class_end q l a = rw (ahead-end s at l a q)
 
-  pub class-broken : (o : ℕ) → Broken o ≡ step_at s at → NamesInClass s at c NoObject
-  class-broken o q l a = absurd (ahead-whole s at l a o q)
+  pub class_broken : (o : ℕ) → Broken o ≡ step_at s at → NamesInClass s at c NoObject
+  class_broken o q l a = absurd (ahead-whole s at l a o q)
 
   -- the segment behind the class, and what it and the rest name
-  pub class-then : (x : Seg) (next : ℕ) (o : Object) → Segment x next ≡ step_at s at
+  pub class_then : (x : Seg) (next : ℕ) (o : Object) → Segment x next ≡ step_at s at
       → ((m : List Seg) → Ahead s next m → o ≡ in_class c (x ∷ m)) → NamesInClass s at c o
-  class-then x next o q f l a =
+  class_then x next o q f l a =
       let t = ahead-then s at l a x next q in
       f t.rest t.ahead ∙ sym (ap (in_class c) t.is)
 
@@ -91,15 +91,15 @@ attribute_other (Keyed k) h = refl
 attribute_other (Data start len) h = refl
 
 module _ (s : List ℕ) where
-  pub object-end : End ≡ step_at s 0 → NamesObject s NoObject
-  object-end q l e = rw (ahead-end s 0 l (ahead_all s l e) q)
+  pub object_end : End ≡ step_at s 0 → NamesObject s NoObject
+  object_end q l e = rw (ahead-end s 0 l (ahead_all s l e) q)
 
-  pub object-broken : (o : ℕ) → Broken o ≡ step_at s 0 → NamesObject s NoObject
-  object-broken o q l e = absurd (ahead-whole s 0 l (ahead_all s l e) o q)
+  pub object_broken : (o : ℕ) → Broken o ≡ step_at s 0 → NamesObject s NoObject
+  object_broken o q l e = absurd (ahead-whole s 0 l (ahead_all s l e) o q)
 
-  pub object-then : (x : Seg) (next : ℕ) (o : Object) → Segment x next ≡ step_at s 0
+  pub object_then : (x : Seg) (next : ℕ) (o : Object) → Segment x next ≡ step_at s 0
       → ((m : List Seg) → Ahead s next m → o ≡ object_in (x ∷ m)) → NamesObject s o
-  object-then x next o q f l e =
+  object_then x next o q f l e =
       let t = ahead-then s 0 l (ahead_all s l e) x next q in
       f t.rest t.ahead ∙ sym (ap object_in t.is)
 
@@ -139,17 +139,17 @@ module _ (s : List ℕ) (at : ℕ) (h : FirstAttribute) (p : Held s at h) where
   unfolding first_attribute
   held_all f = ap attributes.TheVariants.Parsed p.holds ∙ sym (ap attribute_answer (passed-all s at p.done p.passed f))
 
-  pub held-broken : (o : ℕ) → Broken o ≡ step_at s at → attributes.TheVariants.Unparsed o ≡ first_attribute s
+  pub held_broken : (o : ℕ) → Broken o ≡ step_at s at → attributes.TheVariants.Unparsed o ≡ first_attribute s
   unfolding first_attribute
-  held-broken o f = sym (ap attribute_answer (passed-broken s at p.done p.passed o f))
+  held_broken o f = sym (ap attribute_answer (passed-broken s at p.done p.passed o f))
 
 -- ---- the request
 
 module _ (service start : ℕ) (s : List ℕ) where
-  pub request-parsed : (o : Object) (a : FirstAttribute) → attributes.TheVariants.Parsed a ≡ first_attribute s → NamesObject s o
+  pub request_parsed : (o : Object) (a : FirstAttribute) → attributes.TheVariants.Parsed a ≡ first_attribute s → NamesObject s o
       → Parsed (record { service = service; object = o; attribute = a; datastart = start }) ≡ request_with service start (segs_of s)
   unfolding first_attribute request_with
-  request-parsed o a e f = go (segs_of s) refl e
+  request_parsed o a e f = go (segs_of s) refl e
     where
       go : (r : Segs) → segs_of s ≡ r → attributes.TheVariants.Parsed a ≡ attribute_answer r
           → Parsed (record { service = service; object = o; attribute = a; datastart = start }) ≡ request_with service start r
@@ -158,27 +158,27 @@ module _ (service start : ℕ) (s : List ℕ) where
           λ i. Parsed (record { service = service; object = f l q i; attribute = h i; datastart = start })
       go (broken b) q g = absurd (let z : ◌≡◌ {A = ℕ} 0 1 = cc in omega arith)
 
-  pub request-unparsed : (o : ℕ) → attributes.TheVariants.Unparsed o ≡ first_attribute s → Unparsed service ≡ request_with service start (segs_of s)
+  pub request_unparsed : (o : ℕ) → attributes.TheVariants.Unparsed o ≡ first_attribute s → Unparsed service ≡ request_with service start (segs_of s)
   unfolding first_attribute request_with
-  request-unparsed o e = go (segs_of s) e
+  request_unparsed o e = go (segs_of s) e
     where
       go : (r : Segs) → attributes.TheVariants.Unparsed o ≡ attribute_answer r → Unparsed service ≡ request_with service start r
       go (segs l) g = absurd (let z : ◌≡◌ {A = ℕ} 0 1 = cc in omega arith)
       go (broken b) g = refl
 
 module _ (m : List ℕ) where
-  pub message-over : message_max < length m → Unparsed (get_or m 0 0) ≡ request_of m
+  pub message_over : message_max < length m → Unparsed (get_or m 0 0) ≡ request_of m
   unfolding request_of
-  message-over h = simp (lt-ltb _ _ h)
+  message_over h = simp (lt-ltb _ _ h)
 
-  pub message-short : length m ≤ message_max → length m < 2 + get_or m 1 0 * 2 → Unparsed (get_or m 0 0) ≡ request_of m
+  pub message_short : length m ≤ message_max → length m < 2 + get_or m 1 0 * 2 → Unparsed (get_or m 0 0) ≡ request_of m
   unfolding request_of
-  message-short h g = simp (le-ltb _ _ h, lt-leb _ _ g)
+  message_short h g = simp (le-ltb _ _ h, lt-leb _ _ g)
 
-  pub message-read : (start : ℕ) (r : RequestAnswer) → length m ≤ message_max → start ≡ 2 + get_or m 1 0 * 2 → start ≤ length m
+  pub message_read : (start : ℕ) (r : RequestAnswer) → length m ≤ message_max → start ≡ 2 + get_or m 1 0 * 2 → start ≤ length m
       → r ≡ request_with (get_or m 0 0) start (segs_of (take (start - 2) (drop 2 m))) → r ≡ request_of m
   unfolding request_of
-  message-read start r h e g q =
+  message_read start r h e g q =
       let w : 2 + get_or m 1 0 * 2 ≤ length m = omega arith in
       let d : 2 + get_or m 1 0 * 2 - 2 ≡ get_or m 1 0 * 2 = omega arith in
       simp (le-ltb _ _ h, le-leb _ _ w)

@@ -19,52 +19,52 @@ use Rattle.wire_rules.specs.declared.SegStep.TheVariants.{Segment, End, Broken}
 -- ---- ports
 
 module _ (a : ℕ) where
-  pub offset-sized : a / 16 ≡ 1 → 2 ≡ port_offset a
+  pub offset_sized : a / 16 ≡ 1 → 2 ≡ port_offset a
   unfolding port_offset
-  offset-sized p = simp (eq-eqb _ _ p)
+  offset_sized p = simp (eq-eqb _ _ p)
 
-  pub offset-plain : (a / 16 ≡ 1 → ⊥) → 1 ≡ port_offset a
+  pub offset_plain : (a / 16 ≡ 1 → ⊥) → 1 ≡ port_offset a
   unfolding port_offset
-  offset-plain p = simp (ne_eqb _ _ p)
+  offset_plain p = simp (ne_eqb _ _ p)
 
-  pub link-wide : (n : ℕ) → n ≡ port_offset a → a % 16 ≡ 15 → n + 2 ≡ link_offset a
+  pub link_wide : (n : ℕ) → n ≡ port_offset a → a % 16 ≡ 15 → n + 2 ≡ link_offset a
   unfolding link_offset
-  link-wide n e p = simp (eq-eqb _ _ p) (omega arith)
+  link_wide n e p = simp (eq-eqb _ _ p) (omega arith)
 
-  pub link-narrow : (n : ℕ) → n ≡ port_offset a → (a % 16 ≡ 15 → ⊥) → n ≡ link_offset a
+  pub link_narrow : (n : ℕ) → n ≡ port_offset a → (a % 16 ≡ 15 → ⊥) → n ≡ link_offset a
   unfolding link_offset
-  link-narrow n e p = simp (ne_eqb _ _ p) (omega arith)
+  link_narrow n e p = simp (ne_eqb _ _ p) (omega arith)
 
-  pub size-sized : (b n : ℕ) → n ≡ b → a / 16 ≡ 1 → n ≡ link_size a b
+  pub size_sized : (b n : ℕ) → n ≡ b → a / 16 ≡ 1 → n ≡ link_size a b
   unfolding link_size
-  size-sized b n e p = simp (eq-eqb _ _ p) e
+  size_sized b n e p = simp (eq-eqb _ _ p) e
 
-  pub size-plain : (b : ℕ) → (a / 16 ≡ 1 → ⊥) → 1 ≡ link_size a b
+  pub size_plain : (b : ℕ) → (a / 16 ≡ 1 → ⊥) → 1 ≡ link_size a b
   unfolding link_size
-  size-plain b p = simp (ne_eqb _ _ p)
+  size_plain b p = simp (ne_eqb _ _ p)
 
   -- a port segment has two bytes at least
-  pub port-least : (b : ℕ) → 2 ≤ link_offset a + link_size a b
+  pub port_least : (b : ℕ) → 2 ≤ link_offset a + link_size a b
   unfolding link_offset port_offset link_size
-  port-least b = go (eqb (a / 16) 1)
+  port_least b = go (eqb (a / 16) 1)
     where
       go : (t : Bool) → 2 ≤ pick t 2 1 + pick (eqb (a % 16) 15) 2 0 + pick t b 1
       go true = omega arith
       go false = omega arith
 
 module _ (s : List ℕ) (at : ℕ) where
-  pub port-number-wide : (v n : ℕ) → get_or s at 0 % 16 ≡ 15 → n ≡ port_offset (get_or s at 0) → v ≡ le 2 s (at + n) → v ≡ port_of s at
+  pub port_number_wide : (v n : ℕ) → get_or s at 0 % 16 ≡ 15 → n ≡ port_offset (get_or s at 0) → v ≡ le 2 s (at + n) → v ≡ port_of s at
   unfolding port_of
-  port-number-wide v n p e q = simp (eq-eqb _ _ p, ← e) q
+  port_number_wide v n p e q = simp (eq-eqb _ _ p, ← e) q
 
-  pub port-number : (v : ℕ) → (get_or s at 0 % 16 ≡ 15 → ⊥) → v ≡ get_or s at 0 % 16 → v ≡ port_of s at
+  pub port_number : (v : ℕ) → (get_or s at 0 % 16 ≡ 15 → ⊥) → v ≡ get_or s at 0 % 16 → v ≡ port_of s at
   unfolding port_of
-  port-number v p q = simp (ne_eqb _ _ p) q
+  port_number v p q = simp (ne_eqb _ _ p) q
 
-  pub port-none : length s < at + 2 → Broken at ≡ port_at s at
+  pub port_none : length s < at + 2 → Broken at ≡ port_at s at
   unfolding port_at
-  port-none h =
-      let g : length s < at + even_up (link_offset (get_or s at 0) + link_size (get_or s at 0) (get_or s (at + 1) 0)) = omega (arith, port-least (get_or s at 0) (get_or s (at + 1) 0)) in
+  port_none h =
+      let g : length s < at + even_up (link_offset (get_or s at 0) + link_size (get_or s at 0) (get_or s (at + 1) 0)) = omega (arith, port_least (get_or s at 0) (get_or s (at + 1) 0)) in
       simp (lt-leb _ _ g)
 
   module _ (link len : ℕ) (e : link ≡ link_offset (get_or s at 0)) (f : len ≡ link_size (get_or s at 0) (get_or s (at + 1) 0)) where
@@ -107,29 +107,29 @@ module _ (s : List ℕ) (at : ℕ) (kind : ℕ → Seg) where
 -- ---- keys and data
 
 module _ (s : List ℕ) (at : ℕ) where
-  pub key-short : length s < at + 10 → Broken at ≡ key_at s at
+  pub key_short : length s < at + 10 → Broken at ≡ key_at s at
   unfolding key_at
-  key-short h = simp (lt-leb _ _ h) (either (eqb (get_or s (at + 1) 0) 4))
+  key_short h = simp (lt-leb _ _ h) (either (eqb (get_or s (at + 1) 0) 4))
     where
       either : (t : Bool) → Broken at ≡ pick t (Broken at) (Broken at)
       either true = refl
       either false = refl
 
-  pub key-other : (get_or s (at + 1) 0 ≡ 4 → ⊥) → Broken at ≡ key_at s at
+  pub key_other : (get_or s (at + 1) 0 ≡ 4 → ⊥) → Broken at ≡ key_at s at
   unfolding key_at
-  key-other h = simp (ne_eqb _ _ h)
+  key_other h = simp (ne_eqb _ _ h)
 
   pub key_fits : (k : Key) → get_or s (at + 1) 0 ≡ 4 → at + 10 ≤ length s → k ≡ key_of s at → Segment (Keyed k) (at + 10) ≡ key_at s at
   unfolding key_at
   key_fits k f h e = simp (eq-eqb _ _ f, le-leb _ _ h, e)
 
-  pub data-short : length s < at + 2 + get_or s (at + 1) 0 * 2 → Broken at ≡ data_at s at
+  pub data_short : length s < at + 2 + get_or s (at + 1) 0 * 2 → Broken at ≡ data_at s at
   unfolding data_at
-  data-short h = simp (lt-leb _ _ h)
+  data_short h = simp (lt-leb _ _ h)
 
-  pub data-fits : (n : ℕ) → n ≡ get_or s (at + 1) 0 → at + 2 + n * 2 ≤ length s → Segment (Data (at + 2) (n * 2)) (at + 2 + n * 2) ≡ data_at s at
+  pub data_fits : (n : ℕ) → n ≡ get_or s (at + 1) 0 → at + 2 + n * 2 ≤ length s → Segment (Data (at + 2) (n * 2)) (at + 2 + n * 2) ≡ data_at s at
   unfolding data_at
-  data-fits n e h = rw (← e) (simp (le-leb _ _ h))
+  data_fits n e h = rw (← e) (simp (le-leb _ _ h))
 
 -- ---- by the first byte
 
@@ -147,22 +147,22 @@ module _ (low high b : ℕ) where
       go false g = refl
 
 module _ (s : List ℕ) (at : ℕ) (r : SegStep) where
-  pub seg-port : get_or s at 0 ≤ 0x1F → r ≡ port_at s at → r ≡ seg_at s at
+  pub seg_port : get_or s at 0 ≤ 0x1F → r ≡ port_at s at → r ≡ seg_at s at
   unfolding seg_at
-  seg-port h e = simp (inside 0x00 0x1F (get_or s at 0) (omega arith) h) e
+  seg_port h e = simp (inside 0x00 0x1F (get_or s at 0) (omega arith) h) e
 
-  pub seg-class : 0x20 ≤ get_or s at 0 → get_or s at 0 ≤ 0x22 → r ≡ logical_at s at Class → r ≡ seg_at s at
+  pub seg_class : 0x20 ≤ get_or s at 0 → get_or s at 0 ≤ 0x22 → r ≡ logical_at s at Class → r ≡ seg_at s at
   unfolding seg_at
-  seg-class l h e = simp (outside 0x00 0x1F (get_or s at 0) (omega arith), inside 0x20 0x22 (get_or s at 0) l h) e
+  seg_class l h e = simp (outside 0x00 0x1F (get_or s at 0) (omega arith), inside 0x20 0x22 (get_or s at 0) l h) e
 
-  pub seg-instance : 0x24 ≤ get_or s at 0 → get_or s at 0 ≤ 0x26 → r ≡ logical_at s at Instance → r ≡ seg_at s at
+  pub seg_instance : 0x24 ≤ get_or s at 0 → get_or s at 0 ≤ 0x26 → r ≡ logical_at s at Instance → r ≡ seg_at s at
   unfolding seg_at
-  seg-instance l h e =
+  seg_instance l h e =
       simp (outside 0x00 0x1F (get_or s at 0) (omega arith), outside 0x20 0x22 (get_or s at 0) (omega arith), inside 0x24 0x26 (get_or s at 0) l h) e
 
-  pub seg-point : 0x2C ≤ get_or s at 0 → get_or s at 0 ≤ 0x2E → r ≡ logical_at s at Point → r ≡ seg_at s at
+  pub seg_point : 0x2C ≤ get_or s at 0 → get_or s at 0 ≤ 0x2E → r ≡ logical_at s at Point → r ≡ seg_at s at
   unfolding seg_at
-  seg-point l h e =
+  seg_point l h e =
       simp (
         outside 0x00 0x1F (get_or s at 0) (omega arith),
         outside 0x20 0x22 (get_or s at 0) (omega arith),
@@ -171,9 +171,9 @@ module _ (s : List ℕ) (at : ℕ) (r : SegStep) where
       )
       e
 
-  pub seg-attribute : 0x30 ≤ get_or s at 0 → get_or s at 0 ≤ 0x32 → r ≡ logical_at s at Attribute → r ≡ seg_at s at
+  pub seg_attribute : 0x30 ≤ get_or s at 0 → get_or s at 0 ≤ 0x32 → r ≡ logical_at s at Attribute → r ≡ seg_at s at
   unfolding seg_at
-  seg-attribute l h e =
+  seg_attribute l h e =
       simp (
         outside 0x00 0x1F (get_or s at 0) (omega arith),
         outside 0x20 0x22 (get_or s at 0) (omega arith),
@@ -183,21 +183,21 @@ module _ (s : List ℕ) (at : ℕ) (r : SegStep) where
       )
       e
 
-  pub seg-key : get_or s at 0 ≡ 0x34 → r ≡ key_at s at → r ≡ seg_at s at
+  pub seg_key : get_or s at 0 ≡ 0x34 → r ≡ key_at s at → r ≡ seg_at s at
   unfolding seg_at between
-  seg-key h e = simp h e
+  seg_key h e = simp h e
 
-  pub seg-data : get_or s at 0 ≡ 0x80 → r ≡ data_at s at → r ≡ seg_at s at
+  pub seg_data : get_or s at 0 ≡ 0x80 → r ≡ data_at s at → r ≡ seg_at s at
   unfolding seg_at between
-  seg-data h e = simp h e
+  seg_data h e = simp h e
 
 module _ (s : List ℕ) (at : ℕ) where
   -- a first byte that no segment has
-  pub seg-gap : 0x20 ≤ get_or s at 0 → (0x20 ≤ get_or s at 0 → 0x22 < get_or s at 0) → (0x24 ≤ get_or s at 0 → 0x26 < get_or s at 0)
+  pub seg_gap : 0x20 ≤ get_or s at 0 → (0x20 ≤ get_or s at 0 → 0x22 < get_or s at 0) → (0x24 ≤ get_or s at 0 → 0x26 < get_or s at 0)
       → (0x2C ≤ get_or s at 0 → 0x2E < get_or s at 0) → (0x30 ≤ get_or s at 0 → 0x32 < get_or s at 0)
       → (get_or s at 0 ≡ 0x34 → ⊥) → (get_or s at 0 ≡ 0x80 → ⊥) → Broken at ≡ seg_at s at
   unfolding seg_at
-  seg-gap l a b c d e f =
+  seg_gap l a b c d e f =
       simp (
         outside 0x00 0x1F (get_or s at 0) (omega arith),
         outside 0x20 0x22 (get_or s at 0) a,
@@ -210,9 +210,9 @@ module _ (s : List ℕ) (at : ℕ) where
 
   -- ---- the reader
 
-  pub step-over : path_max < length s → Broken path_max ≡ step_at s at
+  pub step_over : path_max < length s → Broken path_max ≡ step_at s at
   unfolding step_at
-  step-over h = simp (lt-ltb _ _ h)
+  step_over h = simp (lt-ltb _ _ h)
 
   pub step_end : length s ≤ path_max → at ≡ length s → End ≡ step_at s at
   unfolding step_at
@@ -225,8 +225,8 @@ module _ (s : List ℕ) (at : ℕ) where
       let l : length s ≤ at = omega arith in
       simp (le-ltb _ _ h, ne_eqb _ _ n, le-ltb _ _ l)
 
-  pub step-seg : (r : SegStep) → length s ≤ path_max → at < length s → r ≡ seg_at s at → r ≡ step_at s at
+  pub step_seg : (r : SegStep) → length s ≤ path_max → at < length s → r ≡ seg_at s at → r ≡ step_at s at
   unfolding step_at
-  step-seg r h g e =
+  step_seg r h g e =
       let n : at ≡ length s → ⊥ = omega arith in
       simp (le-ltb _ _ h, ne_eqb _ _ n, lt-ltb _ _ g) e

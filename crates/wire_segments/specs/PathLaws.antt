@@ -46,54 +46,54 @@ module _ (s : List ℕ) (at : ℕ) (here : at < length s) where
   choose true h g = h
   choose false h g = g
 
-  up-to : (x : Seg) (next : ℕ) → at < next → Lies at next x → Found s at (up_to s at x next)
-  up-to x next h i = go (leb next (length s)) (leb→le next (length s))
+  up_to_lem : (x : Seg) (next : ℕ) → at < next → Lies at next x → Found s at (up_to s at x next)
+  up_to_lem x next h i = go (leb next (length s)) (leb→le next (length s))
     where
       go : (t : Bool) → (T t → next ≤ length s) → Found s at (pick t (Segment x next) (Broken at))
       go true f = segment h (f tt) i
       go false f = stop
 
-  link-starts : (a : ℕ) → 1 ≤ link_offset a
+  link_starts : (a : ℕ) → 1 ≤ link_offset a
   unfolding link_offset port_offset
-  link-starts a = go (eqb (a / 16) 1)
+  link_starts a = go (eqb (a / 16) 1)
     where
       go : (t : Bool) → 1 ≤ pick t 2 1 + pick (eqb (a % 16) 15) 2 0
       go true = omega arith
       go false = omega arith
 
-  port-found : Found s at (port_at s at)
+  port_found : Found s at (port_at s at)
   unfolding port_at
-  port-found =
+  port_found =
       let l : ℕ = link_offset (get_or s at 0) in
       let n : ℕ = link_size (get_or s at 0) (get_or s (at + 1) 0) in
-      let h : 1 ≤ l = link-starts (get_or s at 0) in
-      up-to _ (at + even_up (l + n)) (omega arith) (link (omega arith) (omega arith))
+      let h : 1 ≤ l = link_starts (get_or s at 0) in
+      up_to_lem _ (at + even_up (l + n)) (omega arith) (link (omega arith) (omega arith))
 
-  logical-found : (kind : ℕ → Seg) → ((v next : ℕ) → Lies at next (kind v)) → Found s at (logical_at s at kind)
+  logical_found : (kind : ℕ → Seg) → ((v next : ℕ) → Lies at next (kind v)) → Found s at (logical_at s at kind)
   unfolding logical_at
-  logical-found kind i =
-      choose (eqb (get_or s at 0 % 4) 0) (up-to _ _ (omega arith) (i _ _))
-      (choose (eqb (get_or s at 0 % 4) 1) (up-to _ _ (omega arith) (i _ _)) (up-to _ _ (omega arith) (i _ _)))
+  logical_found kind i =
+      choose (eqb (get_or s at 0 % 4) 0) (up_to_lem _ _ (omega arith) (i _ _))
+      (choose (eqb (get_or s at 0 % 4) 1) (up_to_lem _ _ (omega arith) (i _ _)) (up_to_lem _ _ (omega arith) (i _ _)))
 
-  key-found : Found s at (key_at s at)
+  key_found : Found s at (key_at s at)
   unfolding key_at
-  key-found = choose (eqb (get_or s (at + 1) 0) 4) (up-to _ _ (omega arith) keyed) stop
+  key_found = choose (eqb (get_or s (at + 1) 0) 4) (up_to_lem _ _ (omega arith) keyed) stop
 
-  data-found : Found s at (data_at s at)
+  data_found : Found s at (data_at s at)
   unfolding data_at
-  data-found = up-to _ _ (omega arith) (bytes (omega arith) (omega arith))
+  data_found = up_to_lem _ _ (omega arith) (bytes (omega arith) (omega arith))
 
-  seg-found : Found s at (seg_at s at)
+  seg_found : Found s at (seg_at s at)
   unfolding seg_at
-  seg-found =
+  seg_found =
       let b : ℕ = get_or s at 0 in
-      choose (between 0x00 0x1F b) port-found
-      (choose (between 0x20 0x22 b) (logical-found Class (λ v next. class))
-      (choose (between 0x24 0x26 b) (logical-found Instance (λ v next. instance))
-      (choose (between 0x2C 0x2E b) (logical-found Point (λ v next. point))
-      (choose (between 0x30 0x32 b) (logical-found Attribute (λ v next. attribute))
-      (choose (eqb b 0x34) key-found
-      (choose (eqb b 0x80) data-found stop))))))
+      choose (between 0x00 0x1F b) port_found
+      (choose (between 0x20 0x22 b) (logical_found Class (λ v next. class))
+      (choose (between 0x24 0x26 b) (logical_found Instance (λ v next. instance))
+      (choose (between 0x2C 0x2E b) (logical_found Point (λ v next. point))
+      (choose (between 0x30 0x32 b) (logical_found Attribute (λ v next. attribute))
+      (choose (eqb b 0x34) key_found
+      (choose (eqb b 0x80) data_found stop))))))
 
 pub step_found : (s : List ℕ) (at : ℕ) → Found s at (step_at s at)
 unfolding step_at
@@ -103,7 +103,7 @@ step_found s at = over (ltb path_max (length s)) refl (eqb at (length s)) refl (
         → Found s at (pick t (Broken path_max) (pick u End (pick v (seg_at s at) (Broken at))))
     over true e u f v g = breaks (λ h. ltb-true path_max (length s) e)
     over false e true f v g = end (eqb-true at (length s) f)
-    over false e false f true g = seg-found s at (ltb-true at (length s) g)
+    over false e false f true g = seg_found s at (ltb-true at (length s) g)
     over false e false f false g =
         breaks (λ h. absurd (eqb-false at (length s) f (let i : length s ≤ at = ltb-false at (length s) g in omega arith)))
 
@@ -156,16 +156,16 @@ module _ (s : List ℕ) where
   all_read = reads s (length s + 1) 0 (omega arith) (omega arith)
 
   -- the segments of a path cover it
-  pub path-covered : (l : List Seg) → segs_of s ≡ segs l → Covers s l
-  path-covered l e = covers (segs l) (subst (Reads s 0) e all_read) refl
+  pub path_covered : (l : List Seg) → segs_of s ≡ segs l → Covers s l
+  path_covered l e = covers (segs l) (subst (Reads s 0) e all_read) refl
     where
       covers : (r : Segs) → Reads s 0 r → r ≡ segs l → Covers s l
       covers (segs m) (whole ends c) q = record { ends = ends; these = cc; chain = c }
       covers (broken o) (stops b) q = absurd (let z : ◌≡◌ {A = ℕ} 0 1 = cc in omega arith)
 
   -- the offset that a path breaks at lies inside it
-  pub broken-inside : (o : ℕ) → segs_of s ≡ broken o → o < length s
-  broken-inside o e = stop-at (broken o) (subst (Reads s 0) e all_read) refl
+  pub broken_inside : (o : ℕ) → segs_of s ≡ broken o → o < length s
+  broken_inside o e = stop-at (broken o) (subst (Reads s 0) e all_read) refl
     where
       stop-at : (r : Segs) → Reads s 0 r → r ≡ broken o → o < length s
       stop-at (segs m) (whole ends c) q = absurd (let z : ◌≡◌ {A = ℕ} 0 1 = cc in omega arith)
@@ -194,9 +194,9 @@ All P [] = Unit
 All P (x ∷ l) = P x × All P l
 
 module _ (s : List ℕ) where
-  chain-forward : {at to : ℕ} {ends : List (Seg × ℕ)} → Chain s at ends to → at ≤ to
-  chain-forward none = omega arith
-  chain-forward (more e l i c) = let h = chain-forward c in omega arith
+  chain_forward : {at to : ℕ} {ends : List (Seg × ℕ)} → Chain s at ends to → at ≤ to
+  chain_forward none = omega arith
+  chain_forward (more e l i c) = let h = chain_forward c in omega arith
 
   wider : {at next : ℕ} {x : Seg} (to : ℕ) → next ≤ to → Lies at next x → Lies 0 to x
   wider to h (link {p} {start} {len} a b) = link {start = start} {len = len} (omega arith) (omega arith)
@@ -207,27 +207,27 @@ module _ (s : List ℕ) where
   wider to h attribute = attribute
   wider to h keyed = keyed
 
-  chain-inside : {at to : ℕ} {ends : List (Seg × ℕ)} → Chain s at ends to → All (Lies 0 to) (map segment_of ends)
-  chain-inside none = tt
-  chain-inside (more e l i c) = (wider _ (chain-forward c) i, chain-inside c)
+  chain_inside : {at to : ℕ} {ends : List (Seg × ℕ)} → Chain s at ends to → All (Lies 0 to) (map segment_of ends)
+  chain_inside none = tt
+  chain_inside (more e l i c) = (wider _ (chain_forward c) i, chain_inside c)
 
   -- every link and every data segment lies inside the path
-  pub places-inside : (l : List Seg) → segs_of s ≡ segs l → All (Lies 0 (length s)) l
-  places-inside l e = let c = path-covered s l e in rw (← c.these) (chain-inside c.chain)
+  pub places_inside : (l : List Seg) → segs_of s ≡ segs l → All (Lies 0 (length s)) l
+  places_inside l e = let c = path_covered s l e in rw (← c.these) (chain_inside c.chain)
 
 -- ---- the data that an open reads
 
 module _ (n : ℕ) where
-  last-inside : (d : ℕ × ℕ) → d.0 + d.1 ≤ n → (l : List Seg) → All (Lies 0 n) l → (last d (gather place l)).0 + (last d (gather place l)).1 ≤ n
+  last_inside : (d : ℕ × ℕ) → d.0 + d.1 ≤ n → (l : List Seg) → All (Lies 0 n) l → (last d (gather place l)).0 + (last d (gather place l)).1 ≤ n
   unfolding gather last
-  last-inside d h [] a = h
-  last-inside d h (Port p start len ∷ l) a = last-inside d h l a.1
-  last-inside d h (Class v ∷ l) a = last-inside d h l a.1
-  last-inside d h (Instance v ∷ l) a = last-inside d h l a.1
-  last-inside d h (Point v ∷ l) a = last-inside d h l a.1
-  last-inside d h (Attribute v ∷ l) a = last-inside d h l a.1
-  last-inside d h (Keyed k ∷ l) a = last-inside d h l a.1
-  last-inside d h (Data start len ∷ l) a = last-inside (start, len) (ends a.0) l a.1
+  last_inside d h [] a = h
+  last_inside d h (Port p start len ∷ l) a = last_inside d h l a.1
+  last_inside d h (Class v ∷ l) a = last_inside d h l a.1
+  last_inside d h (Instance v ∷ l) a = last_inside d h l a.1
+  last_inside d h (Point v ∷ l) a = last_inside d h l a.1
+  last_inside d h (Attribute v ∷ l) a = last_inside d h l a.1
+  last_inside d h (Keyed k ∷ l) a = last_inside d h l a.1
+  last_inside d h (Data start len ∷ l) a = last_inside (start, len) (ends a.0) l a.1
     where
       ends : Lies 0 n (Data start len) → start + len ≤ n
       ends (bytes f g) = g
@@ -241,6 +241,6 @@ data_inside s p e = go (segs_of s) refl e
     go (segs l) q f =
         let d : p.datastart ≡ (last (0, 0) (gather place l)).0 = cc in
         let n : p.datalen ≡ (last (0, 0) (gather place l)).1 = cc in
-        let h : (last (0, 0) (gather place l)).0 + (last (0, 0) (gather place l)).1 ≤ length s = last-inside (length s) (0, 0) (omega arith) l (places-inside s l q) in
+        let h : (last (0, 0) (gather place l)).0 + (last (0, 0) (gather place l)).1 ≤ length s = last_inside (length s) (0, 0) (omega arith) l (places_inside s l q) in
         omega arith
     go (broken o) q f = absurd (let z : ◌≡◌ {A = ℕ} 0 1 = cc in omega arith)

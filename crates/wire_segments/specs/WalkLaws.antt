@@ -81,24 +81,24 @@ pub record Then (s : List ℕ) (x : Seg) (next : ℕ) (l : List Seg) : Type 0 wh
   pub ahead : Ahead s next rest
 
 module _ (s : List ℕ) (at : ℕ) where
-  one-ahead : (n : ℕ) (l : List Seg) (x : Seg) (next : ℕ) (r : Segs) → r ≡ segs_from n s next → segs l ≡ cons x r → Then s x next l
-  one-ahead n l x next (segs m) q e = record { rest = m; is = cc; ahead = record { left = n; same = q } }
-  one-ahead n l x next (broken o) q e = absurd (let z : ◌≡◌ {A = ℕ} 0 1 = cc in omega arith)
+  one_ahead : (n : ℕ) (l : List Seg) (x : Seg) (next : ℕ) (r : Segs) → r ≡ segs_from n s next → segs l ≡ cons x r → Then s x next l
+  one_ahead n l x next (segs m) q e = record { rest = m; is = cc; ahead = record { left = n; same = q } }
+  one_ahead n l x next (broken o) q e = absurd (let z : ◌≡◌ {A = ℕ} 0 1 = cc in omega arith)
 
   then : (n : ℕ) (l : List Seg) → segs l ≡ segs_from n s at → (x : Seg) (next : ℕ) → Segment x next ≡ step_at s at → Then s x next l
   unfolding segs_from
   then zero l e x next q = absurd (let z : ◌≡◌ {A = ℕ} 0 1 = cc in omega arith)
-  then (suc n) l e x next q = one-ahead n l x next (segs_from n s next) refl (simp (← q) at e)
+  then (suc n) l e x next q = one_ahead n l x next (segs_from n s next) refl (simp (← q) at e)
 
   none_ahead : (n : ℕ) (l : List Seg) → segs l ≡ segs_from n s at → End ≡ step_at s at → l ≡ []
   unfolding segs_from
   none_ahead zero l e q = cc
   none_ahead (suc n) l e q = let g : segs l ≡ segs [] = simp (← q) at e in cc
 
-  not-ahead : (n : ℕ) (l : List Seg) → segs l ≡ segs_from n s at → (o : ℕ) → Broken o ≡ step_at s at → ⊥
+  not_ahead : (n : ℕ) (l : List Seg) → segs l ≡ segs_from n s at → (o : ℕ) → Broken o ≡ step_at s at → ⊥
   unfolding segs_from
-  not-ahead zero l e o q = let z : ◌≡◌ {A = ℕ} 0 1 = cc in omega arith
-  not-ahead (suc n) l e o q =
+  not_ahead zero l e o q = let z : ◌≡◌ {A = ℕ} 0 1 = cc in omega arith
+  not_ahead (suc n) l e o q =
       let g : segs l ≡ broken o = simp (← q) at e in
       let z : ◌≡◌ {A = ℕ} 0 1 = cc in omega arith
 
@@ -110,4 +110,4 @@ module _ (s : List ℕ) (at : ℕ) where
     ahead-end = none_ahead a.left l a.same
 
     pub ahead-whole : (o : ℕ) → Broken o ≡ step_at s at → ⊥
-    ahead-whole = not-ahead a.left l a.same
+    ahead-whole = not_ahead a.left l a.same

@@ -5,7 +5,7 @@ use Rattle.rules.specs.Host.{kind_test}
 use Rattle.state_layout.specs.Searched.{place_in}
 use Rattle.state_image.specs.Holds.{setup_ready}
 use Rattle.state_places.specs.PlaceLaws.{found_is, found_in}
-use Rattle.app_inputs.specs.Inputs.{input_none, input-some}
+use Rattle.app_inputs.specs.Inputs.{input_none, input_some}
 use Rattle.app_inputs.proofs.set_input.Goals as goal
 
 pub find-f-requires : goal.find-f-requires
@@ -24,5 +24,5 @@ returns-in-Nowhere c = let a = c.args in
 pub returns-in-At : goal.returns-in-At
 returns-in-At c = let a = c.args in
     let r = c.find-f in
-    input-some a.s.now a.d.now c.requires.test a.instance (place_in r.result) (found_is a.s.now 1 a.instance r.result r.ensures) _
+    input_some a.s.now a.d.now c.requires.test a.instance (place_in r.result) (found_is a.s.now 1 a.instance r.result r.ensures) _
     (ap place_in c.in-At.is) _ c.fill_input.ensures

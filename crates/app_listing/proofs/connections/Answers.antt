@@ -1,6 +1,6 @@
 use Rattle.std.proofs.Common.{◌-◌, ◌*◌, refl, ap, ◌∙◌, arith, length}
 use lib.Seq.{length-sets}
-use Rattle.app_listing.specs.Listing.{record_at, tell-more, table-short, table-told}
+use Rattle.app_listing.specs.Listing.{record_at, tell_more, table-short, table-told}
 use Rattle.app_listing.proofs.connections.Goals as goal
 
 pub returns-then-out-n : goal.returns-then-out-n
@@ -15,7 +15,7 @@ tell-requires c = let e = c.u16_at-n.ensures in let w = c.loop-i in let k = w.in
 
 pub loop-i-preserved : goal.loop-i-preserved
 loop-i-preserved c = let a = c.args in let w = c.loop-i in let e = c.u16_at-n.ensures in
-    (omega arith, c.tell.ensures ∙ tell-more a.s.now a.out.now w.out w.i (omega arith) w.invariant.1, ap length c.tell.ensures ∙ length-sets w.out (w.i * 32) (record_at a.s.now w.i) ∙ w.invariant.2)
+    (omega arith, c.tell.ensures ∙ tell_more a.s.now a.out.now w.out w.i (omega arith) w.invariant.1, ap length c.tell.ensures ∙ length-sets w.out (w.i * 32) (record_at a.s.now w.i) ∙ w.invariant.2)
 
 pub overflow_cast-result : goal.overflow_cast-result
 overflow_cast-result c = let e = c.u16_at-n.ensures in let p = c.requires.ready.conns in omega arith

@@ -5,7 +5,7 @@ use Rattle.rules.specs.Host.{kind_test}
 use Rattle.state_layout.specs.Searched.{place_in}
 use Rattle.state_image.specs.Holds.{setup_ready}
 use Rattle.state_places.specs.PlaceLaws.{found_is, found_in}
-use Rattle.app_outputs.specs.Outputs.{output-none, output_some}
+use Rattle.app_outputs.specs.Outputs.{output_none, output_some}
 use Rattle.app_outputs.proofs.output.Goals as goal
 
 pub find-f-requires : goal.find-f-requires
@@ -18,7 +18,7 @@ take_output-requires c = let a = c.args in
 pub returns-in-Nowhere : goal.returns-in-Nowhere
 returns-in-Nowhere c = let a = c.args in
     let r = c.find-f in
-    output-none a.s.now a.out.now c.requires.test a.instance (place_in r.result) (found_is a.s.now 2 a.instance r.result r.ensures)
+    output_none a.s.now a.out.now c.requires.test a.instance (place_in r.result) (found_is a.s.now 2 a.instance r.result r.ensures)
     (λ j. omega (arith, c.slice_known-1.given j)) (ap place_in c.in-Nowhere.is)
 
 pub returns-in-At : goal.returns-in-At

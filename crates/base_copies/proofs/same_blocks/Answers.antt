@@ -1,6 +1,6 @@
 -- By blocks of 32 bytes up to the first that differs, and the last 32 bytes.
 use Rattle.std.proofs.Common.{◌-◌, refl, arith, length}
-use Rattle.base_copies.specs.Same.{part-differs, part-agrees, last-told}
+use Rattle.base_copies.specs.Same.{part_differs, part-agrees, last-told}
 use Rattle.base_copies.proofs.same_blocks.Goals as goal
 
 pub loop-j-init : goal.loop-j-init
@@ -13,7 +13,7 @@ pub returns-then-not-same_32 : goal.returns-then-not-same_32
 returns-then-not-same_32 c = let a = c.args in
     let w = c.loop-j in
     let r = c.same_32 in
-    part-differs a.s.now a.d.now a.at w.j 32 (omega arith) r.result r.ensures c.if-not-same_32.true
+    part_differs a.s.now a.d.now a.at w.j 32 (omega arith) r.result r.ensures c.if-not-same_32.true
 
 pub loop-j-preserved : goal.loop-j-preserved
 loop-j-preserved c = let a = c.args in

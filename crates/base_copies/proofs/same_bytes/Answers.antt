@@ -1,6 +1,6 @@
 -- Byte by byte up to the first that differs.
 use Rattle.std.proofs.Common.{◌-◌, refl, arith}
-use Rattle.base_copies.specs.Same.{byte-differs, byte-agrees, all_told}
+use Rattle.base_copies.specs.Same.{byte_differs, byte-agrees, all_told}
 use Rattle.base_copies.proofs.same_bytes.Goals as goal
 
 pub loop-j-init : goal.loop-j-init
@@ -8,7 +8,7 @@ loop-j-init c = (omega arith, refl)
 
 pub returns-then-s-at : goal.returns-then-s-at
 returns-then-s-at c = let a = c.args in
-    byte-differs a.s.now a.d.now a.at c.loop-j.j (omega arith) c.if-s-at.true
+    byte_differs a.s.now a.d.now a.at c.loop-j.j (omega arith) c.if-s-at.true
 
 pub loop-j-preserved : goal.loop-j-preserved
 loop-j-preserved c = let a = c.args in

@@ -1,6 +1,6 @@
 -- The least so far tells of the rows before i, the rest of the others.
 use Rattle.std.proofs.Common.{◌-◌, arith}
-use Rattle.conn_lookup.specs.AnyExpired.{none_yet, one_more, by-least}
+use Rattle.conn_lookup.specs.AnyExpired.{none_yet, one_more, by_least}
 use Rattle.conn_lookup.proofs.any_expired.Goals as goal
 
 pub loop-i-init : goal.loop-i-init
@@ -14,4 +14,4 @@ loop-i-preserved c = let w = c.loop-i in
 pub returns : goal.returns
 returns c = let w = c.loop-i in
     let a = c.args in
-    by-least a.time a.n a.r.now w.m w.i (omega arith) w.invariant.1
+    by_least a.time a.n a.r.now w.m w.i (omega arith) w.invariant.1

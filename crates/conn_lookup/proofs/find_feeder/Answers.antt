@@ -3,7 +3,7 @@ use Rattle.rules.specs.Lists.{place}
 use Rattle.rules.specs.Removal.{feeds}
 use Rattle.state_rules.specs.Rows.{dec_conn, conns_in}
 use Rattle.state_rules.specs.Places.{row_size}
-use Rattle.state_searches.specs.Searches.{later_zero, search-hit, search-miss, search-ends}
+use Rattle.state_searches.specs.Searches.{later_zero, search_hit, search_miss, search_ends}
 use Rattle.conn_lookup.specs.RowTests.{found_of}
 use Rattle.conn_lookup.proofs.find_feeder.Goals as goal
 
@@ -13,14 +13,14 @@ loop-i-init c = let a = c.args in (omega arith, sym (later_zero (place (feeds a.
 pub returns-then-feeds_at : goal.returns-then-feeds_at
 returns-then-feeds_at c = let a = c.args in
     let w = c.loop-i in
-    ap found_of (sym (w.invariant.1 ∙ search-hit row_size dec_conn (feeds a.id) a.n a.r.now w.i (omega arith) (sym c.feeds_at.ensures ∙ c.if-feeds_at.true)))
+    ap found_of (sym (w.invariant.1 ∙ search_hit row_size dec_conn (feeds a.id) a.n a.r.now w.i (omega arith) (sym c.feeds_at.ensures ∙ c.if-feeds_at.true)))
 
 pub loop-i-preserved : goal.loop-i-preserved
 loop-i-preserved c = let a = c.args in
     let w = c.loop-i in
-    (omega arith, w.invariant.1 ∙ search-miss row_size dec_conn (feeds a.id) a.n a.r.now w.i (omega arith) (sym c.feeds_at.ensures ∙ c.if-feeds_at.false))
+    (omega arith, w.invariant.1 ∙ search_miss row_size dec_conn (feeds a.id) a.n a.r.now w.i (omega arith) (sym c.feeds_at.ensures ∙ c.if-feeds_at.false))
 
 pub returns : goal.returns
 returns c = let a = c.args in
     let w = c.loop-i in
-    ap found_of (sym (w.invariant.1 ∙ search-ends row_size dec_conn (feeds a.id) a.n a.r.now w.i (omega arith)))
+    ap found_of (sym (w.invariant.1 ∙ search_ends row_size dec_conn (feeds a.id) a.n a.r.now w.i (omega arith)))

@@ -2,7 +2,7 @@
 use Rattle.std.proofs.Common.{arith, rules}
 use Rattle.rules.specs.Removal.{in_stream}
 use Rattle.conn_removal.specs.Turns.{found_in, turn_gone, turn_told}
-use Rattle.conn_removal.specs.Listeners.{dropped_none, dropped-one, closes-none, closes-one}
+use Rattle.conn_removal.specs.Listeners.{dropped_none, dropped_one, closes_none, closes_one}
 use Rattle.conn_removal.proofs.close_first.Goals as goal
 
 pub fixed_at-f-requires : goal.fixed_at-f-requires
@@ -21,7 +21,7 @@ remove_row-requires c = let a = c.args in (
 pub returns-in-Nowhere : goal.returns-in-Nowhere
 returns-in-Nowhere c = let a = c.args in (
       dropped_none a.s.now c.requires,
-      closes-none a.id a.s.now c.u16_at-n.result c.find_stream.result c.u16_at-n.ensures
+      closes_none a.id a.s.now c.u16_at-n.result c.find_stream.result c.u16_at-n.ensures
           c.find_stream.ensures c.in-Nowhere.is,
     )
 
@@ -29,9 +29,9 @@ pub returns-in-At : goal.returns-in-At
 returns-in-At c = let a = c.args in
     let s₁ = c.remove_row.new.s in
     let s₂ = c.tell.new.s in (
-      dropped-one a.id a.s.now c.u16_at-n.result c.find_stream.result c.u16_at-n.ensures c.find_stream.ensures c.in-At.j
+      dropped_one a.id a.s.now c.u16_at-n.result c.find_stream.result c.u16_at-n.ensures c.find_stream.ensures c.in-At.j
           c.in-At.is s₁ s₂ c.remove_row.ensures.0 c.tell.ensures.0,
-      closes-one a.id a.s.now c.u16_at-n.result c.find_stream.result c.u16_at-n.ensures c.find_stream.ensures c.in-At.j
+      closes_one a.id a.s.now c.u16_at-n.result c.find_stream.result c.u16_at-n.ensures c.find_stream.ensures c.in-At.j
           c.in-At.is c.fixed_at-f.result c.fixed_at-f.ensures s₁ s₂ (turn_gone a.s.now s₁ c.in-At.j c.remove_row.ensures.1)
           (turn_told s₁ s₂ 2 c.fixed_at-f.result c.tell.ensures.1),
     )

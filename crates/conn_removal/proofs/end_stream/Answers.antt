@@ -1,11 +1,11 @@
 use Rattle.conn_removal.specs.Turns.{fewer_none}
-use Rattle.conn_removal.specs.Listeners.{ends-not, ends-fed, ends-all}
+use Rattle.conn_removal.specs.Listeners.{ends_not, ends-fed, ends-all}
 use Rattle.conn_removal.proofs.end_stream.Goals as goal
 
 pub returns-then-not-can_feed : goal.returns-then-not-can_feed
 returns-then-not-can_feed c = let a = c.args in
     let r = c.can_feed.result in
-    (fewer_none a.s.now c.requires, ends-not a.k a.multicast a.id a.s.now r c.can_feed.ensures c.if-not-can_feed.true)
+    (fewer_none a.s.now c.requires, ends_not a.k a.multicast a.id a.s.now r c.can_feed.ensures c.if-not-can_feed.true)
 
 pub returns-in-Nowhere : goal.returns-in-Nowhere
 returns-in-Nowhere c = let a = c.args in

@@ -2,11 +2,11 @@ use Rattle.std.proofs.Common.{sym, ◌∙◌}
 use Rattle.rules.specs.Removal.{in_stream}
 use Rattle.state_image.specs.Kept.{kept_none}
 use Rattle.conn_removal.specs.Turns.{found_in}
-use Rattle.conn_removal.specs.Hands.{hands-single, hands-silent, hands-nowhere, hands_on}
+use Rattle.conn_removal.specs.Hands.{hands_single, hands-silent, hands-nowhere, hands_on}
 use Rattle.conn_removal.proofs.hand_over.Goals as goal
 
 pub returns-then-not-multicast : goal.returns-then-not-multicast
-returns-then-not-multicast c = let a = c.args in (kept_none a.s.now c.requires.0, hands-single a.multicast a.id a.x a.s.now c.if-not-multicast.true)
+returns-then-not-multicast c = let a = c.args in (kept_none a.s.now c.requires.0, hands_single a.multicast a.id a.x a.s.now c.if-not-multicast.true)
 
 pub returns-then-not-does_produce : goal.returns-then-not-does_produce
 returns-then-not-does_produce c = let a = c.args in (kept_none a.s.now c.requires.0, hands-silent a.multicast a.id a.x a.s.now c.if-not-multicast.false (sym c.does_produce.ensures ∙ c.if-not-does_produce.true))

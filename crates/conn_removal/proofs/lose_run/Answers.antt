@@ -1,12 +1,12 @@
 -- Not an owner, no such output, or an output that loses run.
 use Rattle.std.proofs.Common.{sym, ◌∙◌}
 use Rattle.state_image.specs.Kept.{kept_none}
-use Rattle.conn_removal.specs.Hands.{idles-not, idles-past, idles}
+use Rattle.conn_removal.specs.Hands.{idles_not, idles-past, idles}
 use Rattle.conn_removal.proofs.lose_run.Goals as goal
 
 pub returns-then-not-is_owner : goal.returns-then-not-is_owner
 returns-then-not-is_owner c = let a = c.args in
-    (kept_none a.s.now c.requires, idles-not a.k a.output a.s.now (sym c.is_owner.ensures ∙ c.if-not-is_owner.true))
+    (kept_none a.s.now c.requires, idles_not a.k a.output a.s.now (sym c.is_owner.ensures ∙ c.if-not-is_owner.true))
 
 pub returns-then-output-n : goal.returns-then-output-n
 returns-then-output-n c = let a = c.args in

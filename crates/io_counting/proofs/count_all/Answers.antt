@@ -1,6 +1,6 @@
 use Rattle.std.proofs.Common.{◌≡◌, ◌-◌, refl, arith}
 use Rattle.state_rules.specs.Places.{max_late_of}
-use Rattle.io_counting.specs.CountLaws.{tally-start, tally-turn, tally_end}
+use Rattle.io_counting.specs.CountLaws.{tally_start, tally_turn, tally_end}
 use Rattle.io_counting.proofs.count_all.Goals as goal
 
 pub u16_at-n-requires : goal.u16_at-n-requires
@@ -20,7 +20,7 @@ loop-i-init c = let a = c.args in (
       omega arith,
       c.u16_at-n.ensures,
       (let e = c.requires.0.conns in let f = c.u16_at-n.ensures in omega arith),
-      tally-start a.time c.late_limit-limit.result (max_late_of a.s.now) a.s.now c.u64_at.result c.u64_at.ensures,
+      tally_start a.time c.late_limit-limit.result (max_late_of a.s.now) a.s.now c.u64_at.result c.u64_at.ensures,
     )
 
 pub count_row-k-requires : goal.count_row-k-requires
@@ -38,7 +38,7 @@ loop-i-preserved c = let w = c.loop-i in
       (let x = q.2 in let y = w.invariant.3 in omega arith),
       w.invariant.4,
       w.invariant.5,
-      tally-turn a.time c.late_limit-limit.result (max_late_of a.s.now) a.s.now w.i w.k c.count_row-k.result (let e = w.invariant.4 in omega arith) w.invariant.6 q.3,
+      tally_turn a.time c.late_limit-limit.result (max_late_of a.s.now) a.s.now w.i w.k c.count_row-k.result (let e = w.invariant.4 in omega arith) w.invariant.6 q.3,
     )
 
 pub returns : goal.returns

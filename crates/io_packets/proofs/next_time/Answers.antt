@@ -1,9 +1,9 @@
 use Rattle.std.proofs.Common.{arith}
-use Rattle.io_packets.specs.PacketLaws.{next-late, next-old}
+use Rattle.io_packets.specs.PacketLaws.{next_late, next_old}
 use Rattle.io_packets.proofs.next_time.Goals as goal
 
 pub returns-then-n-time : goal.returns-then-n-time
-returns-then-n-time c = let a = c.args in (next-late a.time a.rpi a.t c.if-n-time.true, omega arith)
+returns-then-n-time c = let a = c.args in (next_late a.time a.rpi a.t c.if-n-time.true, omega arith)
 
 pub returns : goal.returns
-returns c = let a = c.args in (next-old a.time a.rpi a.t c.if-n-time.false, omega arith)
+returns c = let a = c.args in (next_old a.time a.rpi a.t c.if-n-time.false, omega arith)

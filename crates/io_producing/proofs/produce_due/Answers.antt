@@ -1,5 +1,5 @@
 -- Two ways out: too little room, and all of it sent.
-use Rattle.io_producing.specs.CallLaws.{no_room, all-out}
+use Rattle.io_producing.specs.CallLaws.{no_room, all_out}
 use Rattle.io_producing.proofs.produce_due.Goals as goal
 
 pub returns-then-out-k : goal.returns-then-out-k
@@ -12,4 +12,4 @@ returns c = let a = c.args in
     let k = c.count_all-k in
     let d = c.send_all in
     let b = c.keep_tally in
-    all-out a.time a.s.now a.out.now k.result k.ensures.1 c.requires.2 c.if-out-k.false d.new.0 b.new.0 d.new.1.0 d.ensures.1 b.ensures
+    all_out a.time a.s.now a.out.now k.result k.ensures.1 c.requires.2 c.if-out-k.false d.new.0 b.new.0 d.new.1.0 d.ensures.1 b.ensures

@@ -1,4 +1,4 @@
-use Rattle.io_receiving.specs.HearLaws.{found_inside, from_found, from-nowhere}
+use Rattle.io_receiving.specs.HearLaws.{found_inside, from_found, from_nowhere}
 use Rattle.io_receiving.proofs.hear_from.Goals as goal
 
 pub hear-requires : goal.hear-requires
@@ -8,4 +8,4 @@ pub returns-in-At : goal.returns-in-At
 returns-in-At c = let a = c.args in from_found a.s.now a.time a.from a.id a.q a.d.now c.u16_at-n.result c.u16_at-n.ensures c.find.result c.find.ensures c.in-At.i c.in-At.is c.hear.new.s c.hear.ensures
 
 pub returns-in-Nowhere : goal.returns-in-Nowhere
-returns-in-Nowhere c = let a = c.args in from-nowhere a.s.now a.time a.from a.id a.q a.d.now c.u16_at-n.result c.u16_at-n.ensures c.find.result c.find.ensures c.in-Nowhere.is
+returns-in-Nowhere c = let a = c.args in from_nowhere a.s.now a.time a.from a.id a.q a.d.now c.u16_at-n.result c.u16_at-n.ensures c.find.result c.find.ensures c.in-Nowhere.is

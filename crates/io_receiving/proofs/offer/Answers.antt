@@ -1,9 +1,9 @@
 use Rattle.std.proofs.Common.{arith}
-use Rattle.io_receiving.specs.TakeLaws.{offer-nowhere, offer-other, offer-taken}
+use Rattle.io_receiving.specs.TakeLaws.{offer_nowhere, offer-other, offer-taken}
 use Rattle.io_receiving.proofs.offer.Goals as goal
 
 pub returns-then-n-o : goal.returns-then-n-o
-returns-then-n-o c = let a = c.args in offer-nowhere a.s.now a.output a.d.now c.u8_at-n.result c.u8_at-n.ensures c.if-n-o.true
+returns-then-n-o c = let a = c.args in offer_nowhere a.s.now a.output a.d.now c.u8_at-n.result c.u8_at-n.ensures c.if-n-o.true
 
 pub returns-then-d-size : goal.returns-then-d-size
 returns-then-d-size c = let a = c.args in offer-other a.s.now a.output a.d.now c.u8_at-n.result c.u8_at-n.ensures c.if-n-o.false c.size_at-size.result c.size_at-size.ensures c.if-d-size.true

@@ -1,7 +1,7 @@
 -- The EDS and its name are lent from the state to the File object.
 use Rattle.std.proofs.Common.{ℕ, ◌+◌, ◌-◌, ap, sym, ◌∙◌, take, drop, length-take, arith}
 use native.Mathlib.Nat.{add-sub_cancel_left}
-use Rattle.state_image.specs.Fits.{is-long}
+use Rattle.state_image.specs.Fits.{is_long}
 use Rattle.state_image.specs.Holds.{setup_ready}
 use Rattle.msg_attributes.specs.Values.{fails}
 use Rattle.msg_positions.specs.Positions.{dec_upload}
@@ -18,7 +18,7 @@ returns-then-mark-eq0 c = let a = c.args in
 pub slice_bounds-file-end-2 : goal.slice_bounds-file-end-2
 slice_bounds-file-end-2 c = let e = c.u32_at-mark.ensures in
     let h = mark-small c.args.s.now c.requires.0.test in
-    let n = is-long c.args.s.now c.requires.0.test in
+    let n = is_long c.args.s.now c.requires.0.test in
     omega arith
 
 pub file-requires : goal.file-requires

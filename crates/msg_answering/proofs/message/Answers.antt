@@ -3,9 +3,9 @@ use Rattle.wire_requests.specs.PlaceLaws.{data_inside}
 use Rattle.state_rules.specs.Image.{view}
 use Rattle.state_image.specs.StoreLaws.{mid_long}
 use Rattle.msg_positions.specs.Positions.{dec_upload}
-use Rattle.msg_answering.specs.Positions.{position-ok, whole_tested, sized_tested}
-use Rattle.msg_answering.specs.Replies.{reply-done, reply-alone, few}
-use Rattle.msg_answering.specs.Ways.{object_lent, reply-for, reply-short}
+use Rattle.msg_answering.specs.Positions.{position_ok_lem, whole_tested, sized_tested}
+use Rattle.msg_answering.specs.Replies.{reply_done, reply_alone, few}
+use Rattle.msg_answering.specs.Ways.{object_lent, reply_for_lem, reply_short}
 use Rattle.msg_answering.proofs.message.Goals as goal
 
 pub slice_bounds-of_object-count : goal.slice_bounds-of_object-count
@@ -23,22 +23,22 @@ pub finish-requires-in-Parsed : goal.finish-requires-in-Parsed
 finish-requires-in-Parsed c = let s = c.args.s.now in (
       search rules,
       few _ c.args.out.now c.requires.2 _ _ _ _ (object_lent (view s) c.args.local c.args.mask c.in-Parsed.request c.args.message.now (dec_upload c.args.position.now) _ _ c.of_object-given.ensures)
-          (reply-short (view s) c.args.local c.args.mask c.args.message.now (dec_upload c.args.position.now) _ (sym c.parse_request.ensures ∙ c.in-Parsed.is)
-          (sized_tested s c.requires.0.test (λ j. omega (arith, c.shared_slice_known-1.given j))) (position-ok (view s).setup c.args.position.now c.requires.1)),
+          (reply_short (view s) c.args.local c.args.mask c.args.message.now (dec_upload c.args.position.now) _ (sym c.parse_request.ensures ∙ c.in-Parsed.is)
+          (sized_tested s c.requires.0.test (λ j. omega (arith, c.shared_slice_known-1.given j))) (position_ok_lem (view s).setup c.args.position.now c.requires.1)),
     )
 
 pub returns-in-Unparsed : goal.returns-in-Unparsed
 returns-in-Unparsed c = let s = c.args.s.now in
     let w = whole_tested s c.args.position.now c.requires.0.test (λ j. omega (arith, c.slice_known-1.given j)) c.requires.1 in (
-      reply-for (view s) c.args.local c.args.mask c.args.message.now (dec_upload c.args.position.now) _ (sym c.parse_request.ensures ∙ c.in-Unparsed.is) c.args.out.now _
-          (reply-alone _ c.args.out.now c.requires.2 _ (dec_upload c.args.position.now) c.args.position.now _ _ w.again c.finish.ensures.0),
+      reply_for_lem (view s) c.args.local c.args.mask c.args.message.now (dec_upload c.args.position.now) _ (sym c.parse_request.ensures ∙ c.in-Unparsed.is) c.args.out.now _
+          (reply_alone _ c.args.out.now c.requires.2 _ (dec_upload c.args.position.now) c.args.position.now _ _ w.again c.finish.ensures.0),
       c.finish.ensures.1,
     )
 
 pub returns-in-Parsed : goal.returns-in-Parsed
 returns-in-Parsed c = let s = c.args.s.now in (
-      reply-for (view s) c.args.local c.args.mask c.args.message.now (dec_upload c.args.position.now) _ (sym c.parse_request.ensures ∙ c.in-Parsed.is) c.args.out.now _
-          (reply-done _ c.args.out.now c.requires.2 _ _ _ _ _ _
+      reply_for_lem (view s) c.args.local c.args.mask c.args.message.now (dec_upload c.args.position.now) _ (sym c.parse_request.ensures ∙ c.in-Parsed.is) c.args.out.now _
+          (reply_done _ c.args.out.now c.requires.2 _ _ _ _ _ _
           (object_lent (view s) c.args.local c.args.mask c.in-Parsed.request c.args.message.now (dec_upload c.args.position.now) _ _ c.of_object-given.ensures) c.finish-in-Parsed.ensures.0),
       c.finish-in-Parsed.ensures.1,
     )

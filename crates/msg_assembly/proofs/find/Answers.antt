@@ -2,8 +2,8 @@
 use Rattle.std.proofs.Common.{◌-◌, sym, ◌∙◌, eq-eqb, ne_eqb, arith}
 use Rattle.rules.specs.Lists.{place}
 use Rattle.state_rules.specs.Setups.{shape_in, shapes_of}
-use Rattle.state_rules.specs.SetupLaws.{shapes-rest, shapes-end}
-use Rattle.state_searches.specs.Searches.{later_zero, list_hit, list_miss, list-ends}
+use Rattle.state_rules.specs.SetupLaws.{shapes_rest, shapes_end}
+use Rattle.state_searches.specs.Searches.{later_zero, list_hit, list_miss, list_ends}
 use Rattle.msg_assembly.specs.Instances.{has_instance}
 use Rattle.msg_assembly.proofs.find.Goals as goal
 
@@ -17,7 +17,7 @@ pub returns-then-instance_at-instance : goal.returns-then-instance_at-instance
 returns-then-instance_at-instance c = let a = c.args in
     let w = c.loop-i in
     let e = c.u8_at-n.ensures in
-    sym (w.invariant.1 ∙ list_hit (has_instance a.instance) (shapes_of a.r.now) w.i (shape_in a.r.now w.i) (shapes-rest a.r.now w.i (omega arith))
+    sym (w.invariant.1 ∙ list_hit (has_instance a.instance) (shapes_of a.r.now) w.i (shape_in a.r.now w.i) (shapes_rest a.r.now w.i (omega arith))
     (eq-eqb _ _ (sym c.instance_at.ensures ∙ c.if-instance_at-instance.true)))
 
 pub loop-i-preserved : goal.loop-i-preserved
@@ -25,9 +25,9 @@ loop-i-preserved c = let a = c.args in
     let w = c.loop-i in
     let e = c.u8_at-n.ensures in (
       omega arith,
-      w.invariant.1 ∙ list_miss (has_instance a.instance) (shapes_of a.r.now) w.i (shape_in a.r.now w.i) (shapes-rest a.r.now w.i (omega arith))
+      w.invariant.1 ∙ list_miss (has_instance a.instance) (shapes_of a.r.now) w.i (shape_in a.r.now w.i) (shapes_rest a.r.now w.i (omega arith))
           (ne_eqb _ _ (λ q. c.if-instance_at-instance.false (c.instance_at.ensures ∙ q))),
     )
 
 pub returns : goal.returns
-returns c = let a = c.args in let w = c.loop-i in let e = c.u8_at-n.ensures in sym (w.invariant.1 ∙ list-ends (has_instance a.instance) (shapes_of a.r.now) w.i (shapes-end a.r.now w.i (omega arith)))
+returns c = let a = c.args in let w = c.loop-i in let e = c.u8_at-n.ensures in sym (w.invariant.1 ∙ list_ends (has_instance a.instance) (shapes_of a.r.now) w.i (shapes_end a.r.now w.i (omega arith)))

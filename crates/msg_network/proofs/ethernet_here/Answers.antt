@@ -1,10 +1,10 @@
 use Rattle.rules.specs.Objects.{ethernet_attributes}
 use Rattle.state_rules.specs.Setups.{setup_from}
-use Rattle.msg_attributes.specs.Values.{told-wanted, fails}
+use Rattle.msg_attributes.specs.Values.{told_wanted, fails}
 use Rattle.msg_network.proofs.ethernet_here.Goals as goal
 
 pub returns-in-Attribute : goal.returns-in-Attribute
-returns-in-Attribute c = told-wanted _ _ (ethernet_attributes (setup_from c.args.r.now [])) _ _ c.wanted.ensures _ _ c.in-Attribute.is c.ethernet_value.ensures
+returns-in-Attribute c = told_wanted _ _ (ethernet_attributes (setup_from c.args.r.now [])) _ _ c.wanted.ensures _ _ c.in-Attribute.is c.ethernet_value.ensures
 
 pub returns-in-Refused : goal.returns-in-Refused
-returns-in-Refused c = told-wanted _ _ (ethernet_attributes (setup_from c.args.r.now [])) _ _ c.wanted.ensures _ _ c.in-Refused.is (fails _ _)
+returns-in-Refused c = told_wanted _ _ (ethernet_attributes (setup_from c.args.r.now [])) _ _ c.wanted.ensures _ _ c.in-Refused.is (fails _ _)

@@ -1,9 +1,9 @@
 use Rattle.std.proofs.Common.{arith}
-use Rattle.msg_positions.proofs.ByteLaws.{no-eds, no_size, over-limit, past_end, last-decides}
+use Rattle.msg_positions.proofs.ByteLaws.{no_eds, no_size, over-limit, past_end, last-decides}
 use Rattle.msg_positions.proofs.position_fits.Goals as goal
 
 pub returns-then-not-given : goal.returns-then-not-given
-returns-then-not-given c = let a = c.args in no-eds a.limit a.size a.given a.p c.if-not-given.true
+returns-then-not-given c = let a = c.args in no_eds a.limit a.size a.given a.p c.if-not-given.true
 
 pub returns-then-p-lt1 : goal.returns-then-p-lt1
 returns-then-p-lt1 c = let a = c.args in no_size a.limit a.size a.given a.p c.if-not-given.false (omega arith)

@@ -3,7 +3,7 @@ use Rattle.rules.specs.State.{Setup}
 use Rattle.rules.specs.Checks.{Roles, rpi_check, type_check, ot_size_check, to_size_check}
 use Rattle.state_rules.specs.Setups.{setup_from}
 use Rattle.open_roles.specs.Roles.{roles_in}
-use Rattle.open_deciding.specs.DecidedLaws.{first_stops, first_goes, first-last}
+use Rattle.open_deciding.specs.DecidedLaws.{first_stops, first_goes, first_last}
 use Rattle.open_deciding.proofs.check_sizes.Goals as goal
 
 pub returns-then-is_stop : goal.returns-then-is_stop
@@ -34,4 +34,4 @@ returns c = let a = c.args in let u : Setup = setup_from a.r.now [] in let r : R
     (first_goes _ _ c.rpi-rpi.ensures (type_check a.o ∷ ot_size_check u a.o r ∷ to_size_check u a.o r ∷ []) c.is_stop-2.result c.is_stop-2.ensures c.if-is_stop-2.false _
     (first_goes _ _ c.types-types.ensures (ot_size_check u a.o r ∷ to_size_check u a.o r ∷ []) c.is_stop-3.result c.is_stop-3.ensures c.if-is_stop-3.false _
     (first_goes _ _ c.ot_size-ot.ensures (to_size_check u a.o r ∷ []) c.is_stop-4.result c.is_stop-4.ensures c.if-is_stop-4.false _
-    (first-last _ _ c.to_size.ensures))))
+    (first_last _ _ c.to_size.ensures))))

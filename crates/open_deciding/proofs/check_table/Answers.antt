@@ -8,7 +8,7 @@ use Rattle.open_roles.specs.Roles.{roles_in}
 use Rattle.open_streams.specs.TableLaws.{room_rows}
 use Rattle.open_streams.specs.Owning.{owner_reads}
 use Rattle.open_streams.specs.Joining.{stream_stop}
-use Rattle.open_deciding.specs.DecidedLaws.{first_stops, first_goes, first-last}
+use Rattle.open_deciding.specs.DecidedLaws.{first_stops, first_goes, first_last}
 use Rattle.open_deciding.proofs.check_table.Goals as goal
 
 pub returns-then-is_stop : goal.returns-then-is_stop
@@ -31,4 +31,4 @@ returns c = let a = c.args in let u : Setup = setup_from a.r.now [] in let r : R
     first_goes _ _ c.triad-triad.ensures (owner_check u r tab ∷ stream_stop a.o a.roles.kind a.stream ∷ room_check tab ∷ []) c.is_stop.result c.is_stop.ensures c.if-is_stop.false _
     (first_goes _ _ (c.owner-owner.ensures ∙ owner_reads u r tab) (stream_stop a.o a.roles.kind a.stream ∷ room_check tab ∷ []) c.is_stop-2.result c.is_stop-2.ensures c.if-is_stop-2.false _
     (first_goes _ _ c.stream_check-joined.ensures (room_check tab ∷ []) c.is_stop-3.result c.is_stop-3.ensures c.if-is_stop-3.false _
-    (first-last _ _ (c.room.ensures ∙ room_rows a.n a.t.now))))
+    (first_last _ _ (c.room.ensures ∙ room_rows a.n a.t.now))))

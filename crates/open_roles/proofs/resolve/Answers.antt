@@ -1,12 +1,12 @@
 use Rattle.std.proofs.Common.{refl}
 use Rattle.state_rules.specs.Setups.{setup_from}
 use Rattle.open_roles.specs.Roles.{said}
-use Rattle.open_roles.specs.RoleLaws.{points-class, points-count, points-output, points-input, points-roles}
+use Rattle.open_roles.specs.RoleLaws.{points_class, points-count, points-output, points-input, points-roles}
 use Rattle.open_roles.proofs.resolve.Goals as goal
 
 pub returns-then-not-is_class_four : goal.returns-then-not-is_class_four
 returns-then-not-is_class_four c = let a = c.args in
-    (points-class (setup_from a.r.now []) a.p c.is_class_four.result c.is_class_four.ensures c.if-not-is_class_four.true, refl)
+    (points_class (setup_from a.r.now []) a.p c.is_class_four.result c.is_class_four.ensures c.if-not-is_class_four.true, refl)
 
 pub returns-then-not-is_counted : goal.returns-then-not-is_counted
 returns-then-not-is_counted c = let a = c.args in (

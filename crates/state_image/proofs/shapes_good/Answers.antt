@@ -1,10 +1,10 @@
 -- The sizes so far and the rest are the whole test.
 use Rattle.std.proofs.Common.{arith, ◌-◌}
-use Rattle.state_image.specs.TestLaws.{run-begins, run_on, run_ends}
+use Rattle.state_image.specs.TestLaws.{run_begins, run_on, run_ends}
 use Rattle.state_image.proofs.shapes_good.Goals as goal
 
 pub loop-i-init : goal.loop-i-init
-loop-i-init c = let a = c.args in (omega arith, run-begins a.r.now)
+loop-i-init c = let a = c.args in (omega arith, run_begins a.r.now)
 
 pub size_at-requires : goal.size_at-requires
 size_at-requires c = let p = c.requires in (omega arith, p)

@@ -4,8 +4,8 @@ use Rattle.rules.specs.Lists.{place}
 use Rattle.rules.specs.Checks.{is_at}
 use Rattle.rules.specs.Host.{kind_test}
 use Rattle.state_rules.specs.Setups.{shape_in, shapes_of}
-use Rattle.state_rules.specs.SetupLaws.{shapes-rest, shapes-end}
-use Rattle.state_searches.specs.Searches.{later_zero, list_hit, list_miss, list-ends}
+use Rattle.state_rules.specs.SetupLaws.{shapes_rest, shapes_end}
+use Rattle.state_searches.specs.Searches.{later_zero, list_hit, list_miss, list_ends}
 use Rattle.state_places.proofs.find.Goals as goal
 
 pub loop-i-init : goal.loop-i-init
@@ -16,12 +16,12 @@ is_at-requires c = let e = c.u8_at-n.ensures in let p = c.requires in (omega ari
 
 pub returns-then-is_at : goal.returns-then-is_at
 returns-then-is_at c = let a = c.args in let w = c.loop-i in let e = c.u8_at-n.ensures in
-    sym (w.invariant.1 ∙ list_hit (is_at (kind_test a.kind) a.instance) (shapes_of a.r.now) w.i (shape_in a.r.now w.i) (shapes-rest a.r.now w.i (omega arith)) (sym c.is_at.ensures ∙ c.if-is_at.true))
+    sym (w.invariant.1 ∙ list_hit (is_at (kind_test a.kind) a.instance) (shapes_of a.r.now) w.i (shape_in a.r.now w.i) (shapes_rest a.r.now w.i (omega arith)) (sym c.is_at.ensures ∙ c.if-is_at.true))
 
 pub loop-i-preserved : goal.loop-i-preserved
 loop-i-preserved c = let a = c.args in let w = c.loop-i in let e = c.u8_at-n.ensures in
-    (omega arith, w.invariant.1 ∙ list_miss (is_at (kind_test a.kind) a.instance) (shapes_of a.r.now) w.i (shape_in a.r.now w.i) (shapes-rest a.r.now w.i (omega arith)) (sym c.is_at.ensures ∙ c.if-is_at.false))
+    (omega arith, w.invariant.1 ∙ list_miss (is_at (kind_test a.kind) a.instance) (shapes_of a.r.now) w.i (shape_in a.r.now w.i) (shapes_rest a.r.now w.i (omega arith)) (sym c.is_at.ensures ∙ c.if-is_at.false))
 
 pub returns : goal.returns
 returns c = let a = c.args in let w = c.loop-i in let e = c.u8_at-n.ensures in
-    sym (w.invariant.1 ∙ list-ends (is_at (kind_test a.kind) a.instance) (shapes_of a.r.now) w.i (shapes-end a.r.now w.i (omega arith)))
+    sym (w.invariant.1 ∙ list_ends (is_at (kind_test a.kind) a.instance) (shapes_of a.r.now) w.i (shapes_end a.r.now w.i (omega arith)))

@@ -1,10 +1,10 @@
 use Rattle.std.proofs.Common.{ap, ◌∙◌}
 use Rattle.rules.specs.State.{Shape}
-use Rattle.state_records.specs.Shapes.{shape-within, shape-past}
+use Rattle.state_records.specs.Shapes.{shape_within, shape_past}
 use Rattle.state_records.proofs.size_of.Goals as goal
 
 pub returns-then-i-n : goal.returns-then-i-n
-returns-then-i-n c = c.size_at.ensures ∙ ap (λ (a : Shape). a.size) (shape-within c.args.r.now c.args.i c.u8_at-n.result c.u8_at-n.ensures c.if-i-n.true)
+returns-then-i-n c = c.size_at.ensures ∙ ap (λ (a : Shape). a.size) (shape_within c.args.r.now c.args.i c.u8_at-n.result c.u8_at-n.ensures c.if-i-n.true)
 
 pub returns : goal.returns
-returns c = ap (λ (a : Shape). a.size) (shape-past c.args.r.now c.args.i c.u8_at-n.result c.u8_at-n.ensures c.if-i-n.false)
+returns c = ap (λ (a : Shape). a.size) (shape_past c.args.r.now c.args.i c.u8_at-n.result c.u8_at-n.ensures c.if-i-n.false)

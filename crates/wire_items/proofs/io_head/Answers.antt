@@ -1,12 +1,12 @@
 use Rattle.std.proofs.Common.{arith}
-use Rattle.wire_items.proofs.IoLaws.{short-head, few-items, no_address, not_eight, no_payload, head_holds}
+use Rattle.wire_items.proofs.IoLaws.{short_head, few_items, no_address, not_eight, no_payload, head_holds}
 use Rattle.wire_items.proofs.io_head.Goals as goal
 
 pub returns-then-s-lt18 : goal.returns-then-s-lt18
-returns-then-s-lt18 c = short-head _ (omega arith)
+returns-then-s-lt18 c = short_head _ (omega arith)
 
 pub returns-then-size_at-lt2 : goal.returns-then-size_at-lt2
-returns-then-size_at-lt2 c = few-items _ (omega arith)
+returns-then-size_at-lt2 c = few_items _ (omega arith)
 
 pub returns-then-u16_at-ne32770 : goal.returns-then-u16_at-ne32770
 returns-then-u16_at-ne32770 c = no_address _ (omega arith)

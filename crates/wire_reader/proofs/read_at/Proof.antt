@@ -189,10 +189,10 @@ module _ {M : Type 1} {𝓤 : Ura M} (𝓛 : Logic 𝓤) (mem : Memory → SProp
       (λ κs. (shr_slice_vals, (LL.vals K.the_type K'.the_laws, tt))) (λ κs. (shr_slice_Tells (named 0) κs.0 u8, (LL.tells K.the_type K'.the_laws, tt)))
       (λ κs qs bounds a g are. via 𝓤 _ (fst∗ 𝓤 _ (emp 𝓤)) (walk 𝓛 mem run κs.0 qs.0 a.0 a.1.0 C Λ fm known-reader known_next are.0 ((LL.lawful K.the_type K'.the_laws 𝓛).typed a.1.0 _ are.1.0).0))
 
-read-at-meets : {M : Type 1} {𝓤 : Ura M} (𝓛 : Logic 𝓤) (mem : Memory → SProp 𝓤) (run : Routine → Fun 𝓤) (𝓣 : Tables 𝓤 𝓛.H)
+read_at_meets : {M : Type 1} {𝓤 : Ura M} (𝓛 : Logic 𝓤) (mem : Memory → SProp 𝓤) (run : Routine → Fun 𝓤) (𝓣 : Tables 𝓤 𝓛.H)
     → Triple 𝓤 (𝓣.C #wire-reader·reader) (Reader 𝓛 mem run) → Triple 𝓤 (𝓣.C #wire-reader·next) (Next 𝓛 mem run)
     → Meets 𝓛 read_at.signature (WpFn 𝓤 𝓛.H 𝓣.C 𝓣.Λ code.function) (read_at.spec 𝓛 mem run)
-read-at-meets {𝓤 = 𝓤} 𝓛 mem run 𝓣 known-reader known_next =
+read_at_meets {𝓤 = 𝓤} 𝓛 mem run 𝓣 known-reader known_next =
     walk_Meets 𝓛 read_at.ended stayed (Goes-none_slice 𝓛 1 (0 ∷ []) tt (plain (λ _. u8)) yes, (Goes-none 𝓛 1 (λ _. K.the_row) yes (λ κs x f. refl), tt)) (read_at.clauses 𝓛 mem run) (WpFn 𝓤 𝓛.H 𝓣.C 𝓣.Λ code.function) (WpFn-mono 𝓤 𝓛.H 𝓛.laws 𝓣 code.function)
     (read-at-walks 𝓛 mem run 𝓣.C 𝓣.Λ (fm_of 𝓤 𝓛.H 𝓛.laws 𝓣) known-reader known_next)
 
@@ -201,6 +201,6 @@ unfolding code.routine tables_of
 read-at-spec 𝓤 𝓛 𝓜 𝓡 =
     entered 𝓤 𝓛.H (triple_of 𝓛 read_at.signature (read_at.spec 𝓛 𝓜.mem 𝓡.run))
     (tables 𝓤 𝓛.H 𝓜 𝓡 code.env).C (tables 𝓤 𝓛.H 𝓜 𝓡 code.env).Λ #wire-reader·read-at code.function (code.unfolded 𝓤 𝓛.H 𝓜 𝓡)
-    (read-at-meets 𝓛 𝓜.mem 𝓡.run (tables_of 𝓤 𝓛.H 𝓜 (tables 𝓤 𝓛.H 𝓜 𝓡 code.env))
+    (read_at_meets 𝓛 𝓜.mem 𝓡.run (tables_of 𝓤 𝓛.H 𝓜 (tables 𝓤 𝓛.H 𝓜 𝓡 code.env))
     (cited 𝓤 𝓛.H (Reader 𝓛 𝓜.mem 𝓡.run) 𝓜 𝓡 code.env #wire-reader·reader reader-def.routine code.calls-wire-reader::reader (reader-thm.met 𝓤 𝓛 𝓜 𝓡))
     (cited 𝓤 𝓛.H (Next 𝓛 𝓜.mem 𝓡.run) 𝓜 𝓡 code.env #wire-reader·next next-def.routine code.calls-wire-reader::next (next-thm.met 𝓤 𝓛 𝓜 𝓡)))

@@ -1,11 +1,11 @@
 use Rattle.std.proofs.Common.{sym, ◌∙◌}
-use Rattle.state_image.specs.Lift.{out-fails}
+use Rattle.state_image.specs.Lift.{out_fails}
 use Rattle.app_answers.specs.Ways.{passed_tested}
 use Rattle.adapter.specs.Ways.{numbered}
 use Rattle.adapter.proofs.app_calls.threshtide_output.Goals as goal
 
 pub returns-then-not-test_state : goal.returns-then-not-test_state
-returns-then-not-test_state c = out-fails _ c.args.state.now c.args.out.now (sym c.test_state.ensures ∙ c.if-not-test_state.true)
+returns-then-not-test_state c = out_fails _ c.args.state.now c.args.out.now (sym c.test_state.ensures ∙ c.if-not-test_state.true)
 
 pub output-requires : goal.output-requires
 output-requires c = passed_tested c.args.state.now (sym c.test_state.ensures ∙ c.if-not-test_state.false)

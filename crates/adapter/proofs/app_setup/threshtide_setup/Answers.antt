@@ -1,10 +1,10 @@
 use Rattle.std.proofs.Common.{arith, ℕ, List, ap, sym, ◌∙◌}
-use Rattle.app_starting.specs.Given.{long-block, few, short-eds}
-use Rattle.app_starting.specs.Calls.{other-size, bad-setup, set-up}
+use Rattle.app_starting.specs.Given.{long_block, few, short_eds}
+use Rattle.app_starting.specs.Calls.{other_size, bad-setup, set-up}
 use Rattle.adapter.proofs.app_setup.threshtide_setup.Goals as goal
 
 pub returns-then-state-ne-STATE_SIZE : goal.returns-then-state-ne-STATE_SIZE
-returns-then-state-ne-STATE_SIZE c = let a = c.args in other-size a.state.now a.block.now a.eds.now a.seed c.if-state-ne-STATE_SIZE.true
+returns-then-state-ne-STATE_SIZE c = let a = c.args in other_size a.state.now a.block.now a.eds.now a.seed c.if-state-ne-STATE_SIZE.true
 
 pub returns-then-not-accept : goal.returns-then-not-accept
 returns-then-not-accept c = let a = c.args in
@@ -14,7 +14,7 @@ returns-then-not-accept c = let a = c.args in
 pub begin-requires : goal.begin-requires
 begin-requires c = let a = c.args in
     let ok = sym c.accept.ensures ∙ c.if-not-accept.false in
-    (omega arith, long-block a.block.now a.eds.now ok, few a.block.now a.eds.now ok, short-eds a.block.now a.eds.now ok)
+    (omega arith, long_block a.block.now a.eds.now ok, few a.block.now a.eds.now ok, short_eds a.block.now a.eds.now ok)
 
 pub returns : goal.returns
 returns c = let a = c.args in

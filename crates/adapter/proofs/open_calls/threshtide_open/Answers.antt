@@ -1,19 +1,19 @@
 use Rattle.std.proofs.Common.{arith, sym, ◌∙◌}
 use Rattle.rules.specs.Opening.{open_call}
-use Rattle.state_image.specs.Lift.{out-fails}
-use Rattle.open_answering.specs.Calls.{open_inside, open-late, open-unread, open-read}
+use Rattle.state_image.specs.Lift.{out_fails}
+use Rattle.open_answering.specs.Calls.{open_inside, open_late, open-unread, open-read}
 use Rattle.adapter.specs.Origins.{origin_of}
 use Rattle.adapter.proofs.open_calls.threshtide_open.Goals as goal
 
 pub returns-then-not-test_state : goal.returns-then-not-test_state
 returns-then-not-test_state c = let a = c.args in
     let g = origin_of a.peer a.local a.mask a.given a.address a.port a.ioport in
-    out-fails (open_call a.time a.service a.request.now g) a.state.now a.out.now (sym c.test_state.ensures ∙ c.if-not-test_state.true)
+    out_fails (open_call a.time a.service a.request.now g) a.state.now a.out.now (sym c.test_state.ensures ∙ c.if-not-test_state.true)
 
 pub returns-then-time-gt9223372036854775807 : goal.returns-then-time-gt9223372036854775807
 returns-then-time-gt9223372036854775807 c = let a = c.args in
     let g = origin_of a.peer a.local a.mask a.given a.address a.port a.ioport in
-    open-late a.time a.service a.request.now g a.state.now a.out.now (sym c.test_state.ensures ∙ c.if-not-test_state.false) (λ i. omega (arith, c.slice_known-1.given i)) c.if-time-gt9223372036854775807.true
+    open_late a.time a.service a.request.now g a.state.now a.out.now (sym c.test_state.ensures ∙ c.if-not-test_state.false) (λ i. omega (arith, c.slice_known-1.given i)) c.if-time-gt9223372036854775807.true
 
 pub open_request-requires : goal.open_request-requires
 open_request-requires c = let a = c.args in (

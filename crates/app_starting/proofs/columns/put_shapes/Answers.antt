@@ -1,7 +1,7 @@
 -- After i turns the first i assemblies stand in the columns.
 use Rattle.std.proofs.Common.{ℕ, ◌-◌, refl, ap, ◌∙◌, arith, length}
 use Rattle.app_starting.specs.Block.{spread}
-use Rattle.app_starting.specs.Columns.{length-one, spread_none, spread-more}
+use Rattle.app_starting.specs.Columns.{length_one, spread_none, spread_more}
 use Rattle.app_starting.proofs.columns.put_shapes.Goals as goal
 
 pub loop-i-init : goal.loop-i-init
@@ -15,8 +15,8 @@ loop-i-preserved c = let a = c.args in
     let w = c.loop-i in
     let e = c.put_shape.ensures in (
       omega arith,
-      e ∙ spread-more a.block.now w.i a.s.now w.s w.invariant.1,
-      ap length e ∙ length-one a.block.now w.i w.s ∙ w.invariant.2,
+      e ∙ spread_more a.block.now w.i a.s.now w.s w.invariant.1,
+      ap length e ∙ length_one a.block.now w.i w.s ∙ w.invariant.2,
     )
 
 pub shape_of-s : goal.shape_of-s

@@ -229,10 +229,10 @@ module _ {M : Type 1} {𝓤 : Ura M} (𝓛 : Logic 𝓤) (at_mem : Memory → SP
       (λ κs qs bounds a g are. needs 𝓤 (8 ≤ length a.0.now) _ (λ within.
       walk 𝓛 at_mem run κs.0 κs.1.0 qs.0 qs.1.0 bounds a.0.ref_ptr.0 a.0.ref_ptr.1 a.0.ghost_name a.0.now a.1.0 a.1.1.0 are.1.1.0.1 C Λ fm known_read known-transfer known-put are.0 are.0.0.1 are.1.0 within))
 
-over-bytes-meets : {M : Type 1} {𝓤 : Ura M} (𝓛 : Logic 𝓤) → (at_mem : Memory → SProp 𝓤) (run : Routine → Fun 𝓤) (𝓣 : Tables 𝓤 𝓛.H)
+over_bytes_meets : {M : Type 1} {𝓤 : Ura M} (𝓛 : Logic 𝓤) → (at_mem : Memory → SProp 𝓤) (run : Routine → Fun 𝓤) (𝓣 : Tables 𝓤 𝓛.H)
     → Triple 𝓤 (𝓣.C #read) (Read 𝓛 at_mem run) → Triple 𝓤 (𝓣.C #transfer) (Transfer 𝓛 at_mem run) → Triple 𝓤 (𝓣.C #put) (Put 𝓛 at_mem run)
     → Meets 𝓛 over-bytes.signature (WpFn 𝓤 𝓛.H 𝓣.C 𝓣.Λ code.function) (over-bytes.spec 𝓛 at_mem run)
-over-bytes-meets {𝓤 = 𝓤} 𝓛 at_mem run 𝓣 known_read known-transfer known-put =
+over_bytes_meets {𝓤 = 𝓤} 𝓛 at_mem run 𝓣 known_read known-transfer known-put =
     walk_Meets 𝓛 over-bytes.ended stayed (Goes-gave_slice 𝓛 2 0 tt (plain (λ _. u8)), (Goes-none_slice 𝓛 2 (1 ∷ []) tt (plain (λ _. u8)) yes, (Goes-none 𝓛 2 (λ _. u16) yes (λ κs x f. refl), tt))) (over-bytes.clauses 𝓛 at_mem run)
     (WpFn 𝓤 𝓛.H 𝓣.C 𝓣.Λ code.function) (WpFn-mono 𝓤 𝓛.H 𝓛.laws 𝓣 code.function) (over-bytes-walks 𝓛 at_mem run 𝓣.C 𝓣.Λ (fm_of 𝓤 𝓛.H 𝓛.laws 𝓣) known_read known-transfer known-put)
 
@@ -241,7 +241,7 @@ unfolding code.routine tables_of
 transfer-bytes-spec 𝓤 𝓛 𝓜 𝓡 =
     entered 𝓤 𝓛.H (triple_of 𝓛 over-bytes.signature (over-bytes.spec 𝓛 𝓜.mem 𝓡.run))
     (tables 𝓤 𝓛.H 𝓜 𝓡 code.env).C (tables 𝓤 𝓛.H 𝓜 𝓡 code.env).Λ #over-bytes code.function (code.unfolded 𝓤 𝓛.H 𝓜 𝓡)
-    (over-bytes-meets 𝓛 𝓜.mem 𝓡.run (tables_of 𝓤 𝓛.H 𝓜 (tables 𝓤 𝓛.H 𝓜 𝓡 code.env))
+    (over_bytes_meets 𝓛 𝓜.mem 𝓡.run (tables_of 𝓤 𝓛.H 𝓜 (tables 𝓤 𝓛.H 𝓜 𝓡 code.env))
     (cited 𝓤 𝓛.H (Read 𝓛 𝓜.mem 𝓡.run) 𝓜 𝓡 code.env #read read-def.routine code.calls-msg-positions::position-in (read-thm.met 𝓤 𝓛 𝓜 𝓡))
     (cited 𝓤 𝓛.H (Transfer 𝓛 𝓜.mem 𝓡.run) 𝓜 𝓡 code.env #transfer transfer-def.routine code.calls-msg-uploads::steps::transfer-lent (transfer-thm.met 𝓤 𝓛 𝓜 𝓡))
     (cited 𝓤 𝓛.H (Put 𝓛 𝓜.mem 𝓡.run) 𝓜 𝓡 code.env #put put-def.routine code.calls-msg-positions::put-position (put-thm.met 𝓤 𝓛 𝓜 𝓡)))

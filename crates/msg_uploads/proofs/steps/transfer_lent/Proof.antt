@@ -170,9 +170,9 @@ module _ {M : Type 1} {𝓤 : Ura M} (𝓛 : Logic 𝓤) (at_mem : Memory → SP
       (λ κs. (mut_vals, (shr_slice_vals, (uint_vals w16, tt)))) (λ κs. (mut_Tells (named 0) κs.0 T.the_row, (shr_slice_Tells (named 1) κs.1.0 u8, (uint_Tells w16, tt))))
       (λ κs qs bounds a g are. via 𝓤 _ (fst∗ 𝓤 _ (emp 𝓤)) (walk 𝓛 at_mem run κs.0 κs.1.0 qs.0 qs.1.0 bounds a.0.ref_ptr.0 a.0.ref_ptr.1 a.0.ghost_name a.0.now a.1.0 a.1.1.0 are.1.1.0.1 C Λ fm known are.1.0))
 
-transfer-meets : {M : Type 1} {𝓤 : Ura M} (𝓛 : Logic 𝓤) → (at_mem : Memory → SProp 𝓤) (run : Routine → Fun 𝓤) (𝓣 : Tables 𝓤 𝓛.H) → Triple 𝓤 (𝓣.C #step) (ByValue 𝓛 at_mem run)
+transfer_meets : {M : Type 1} {𝓤 : Ura M} (𝓛 : Logic 𝓤) → (at_mem : Memory → SProp 𝓤) (run : Routine → Fun 𝓤) (𝓣 : Tables 𝓤 𝓛.H) → Triple 𝓤 (𝓣.C #step) (ByValue 𝓛 at_mem run)
     → Meets 𝓛 transfer.signature (WpFn 𝓤 𝓛.H 𝓣.C 𝓣.Λ code.function) (transfer.spec 𝓛 at_mem run)
-transfer-meets {𝓤 = 𝓤} 𝓛 at_mem run 𝓣 known =
+transfer_meets {𝓤 = 𝓤} 𝓛 at_mem run 𝓣 known =
     walk_Meets 𝓛 transfer.ended stayed (Goes-ref 𝓛 2 0 tt (plain (λ _. T.the_row)), (Goes-none_slice 𝓛 2 (1 ∷ []) tt (plain (λ _. u8)) yes, (Goes-none 𝓛 2 (λ _. u16) yes (λ κs x f. refl), tt))) (transfer.clauses 𝓛 at_mem run)
     (WpFn 𝓤 𝓛.H 𝓣.C 𝓣.Λ code.function) (WpFn-mono 𝓤 𝓛.H 𝓛.laws 𝓣 code.function) (transfer-walks 𝓛 at_mem run 𝓣.C 𝓣.Λ (fm_of 𝓤 𝓛.H 𝓛.laws 𝓣) known)
 
@@ -181,5 +181,5 @@ unfolding code.routine tables_of
 transfer-lent-spec 𝓤 𝓛 𝓜 𝓡 =
     entered 𝓤 𝓛.H (triple_of 𝓛 transfer.signature (transfer.spec 𝓛 𝓜.mem 𝓡.run))
     (tables 𝓤 𝓛.H 𝓜 𝓡 code.env).C (tables 𝓤 𝓛.H 𝓜 𝓡 code.env).Λ #transfer code.function (code.unfolded 𝓤 𝓛.H 𝓜 𝓡)
-    (transfer-meets 𝓛 𝓜.mem 𝓡.run (tables_of 𝓤 𝓛.H 𝓜 (tables 𝓤 𝓛.H 𝓜 𝓡 code.env))
+    (transfer_meets 𝓛 𝓜.mem 𝓡.run (tables_of 𝓤 𝓛.H 𝓜 (tables 𝓤 𝓛.H 𝓜 𝓡 code.env))
     (cited 𝓤 𝓛.H (ByValue 𝓛 𝓜.mem 𝓡.run) 𝓜 𝓡 code.env #step step-def.routine code.calls-msg-uploads::steps::transfer-step (step_thm.met 𝓤 𝓛 𝓜 𝓡)))

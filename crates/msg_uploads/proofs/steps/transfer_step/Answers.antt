@@ -1,9 +1,9 @@
 -- The step of a transfer by value: no number, no upload, or what the number asks for.
-use Rattle.msg_uploads.proofs.TurnLaws.{transfer-none, transfer-idle, transfer-under}
+use Rattle.msg_uploads.proofs.TurnLaws.{transfer_none, transfer-idle, transfer-under}
 use Rattle.msg_uploads.proofs.steps.transfer_step.Goals as goal
 
 pub returns-then-given-eq0 : goal.returns-then-given-eq0
-returns-then-given-eq0 c = let a = c.args in transfer-none a.len a.p a.given.now c.if-given-eq0.true
+returns-then-given-eq0 c = let a = c.args in transfer_none a.len a.p a.given.now c.if-given-eq0.true
 
 pub returns-then-p-eq0 : goal.returns-then-p-eq0
 returns-then-p-eq0 c = let a = c.args in

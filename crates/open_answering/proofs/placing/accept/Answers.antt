@@ -1,15 +1,15 @@
 -- An accepted open: what each step needs, and the steps together.
 use Rattle.std.proofs.Common.{arith}
-use Rattle.state_image.specs.Holds.{ready-tested}
-use Rattle.open_answering.specs.Sides.{conn_due, conn-input, conn-fits}
-use Rattle.open_answering.specs.AcceptLaws.{accept-short, side-here, next-some, accept-done}
+use Rattle.state_image.specs.Holds.{ready_tested}
+use Rattle.open_answering.specs.Sides.{conn_due, conn_input, conn_fits}
+use Rattle.open_answering.specs.AcceptLaws.{accept_short, side-here, next-some, accept-done}
 use Rattle.open_answering.proofs.placing.accept.Goals as goal
 
 pub returns-then-out-lt26 : goal.returns-then-out-lt26
-returns-then-out-lt26 c = let a = c.args in accept-short a.time a.o a.g a.config.now a.p a.s.now a.out.now c.requires.0 (λ i. omega (arith, c.type_inv.s i)) c.if-out-lt26.true
+returns-then-out-lt26 c = let a = c.args in accept_short a.time a.o a.g a.config.now a.p a.s.now a.out.now c.requires.0 (λ i. omega (arith, c.type_inv.s i)) c.if-out-lt26.true
 
 pub u32_at-n-requires : goal.u32_at-n-requires
-u32_at-n-requires c = let n = (ready-tested c.args.s.now c.requires.0).long in omega (arith, n)
+u32_at-n-requires c = let n = (ready_tested c.args.s.now c.requires.0).long in omega (arith, n)
 
 pub new_conn-c-requires : goal.new_conn-c-requires
 new_conn-c-requires c = let a = c.args in (
@@ -22,14 +22,14 @@ pub effect-requires : goal.effect-requires
 effect-requires c = let a = c.args in
     let n = c.u32_at-n.result in
     let x = c.new_conn-c in (
-      ready-tested a.s.now c.requires.0,
+      ready_tested a.s.now c.requires.0,
       c.requires.2.conns,
       conn_due a.time a.o a.g a.p n x.result x.ensures c.requires.1,
       next-some a.time a.o a.g a.config.now a.p a.s.now a.out.now c.requires.0 (λ i. omega (arith, c.slice_known-1.given i)) n c.after_id.result c.u32_at-n.ensures
           c.after_id.ensures c.side_of-side.result c.side_of-side.ensures,
       c.requires.2.room,
-      conn-input a.time a.o a.g a.p n x.result x.ensures c.requires.2.input,
-      conn-fits a.time a.o a.g a.p n x.result x.ensures c.requires.2.role,
+      conn_input a.time a.o a.g a.p n x.result x.ensures c.requires.2.input,
+      conn_fits a.time a.o a.g a.p n x.result x.ensures c.requires.2.role,
     )
 
 pub returns : goal.returns

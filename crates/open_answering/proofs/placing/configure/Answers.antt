@@ -5,7 +5,7 @@ use Rattle.state_rules.specs.Places.{connections_of}
 use Rattle.state_image.specs.Kept.{kept_few}
 use Rattle.state_events.specs.Records.{configured_is}
 use Rattle.state_events.specs.Pushes.{told_as}
-use Rattle.open_answering.specs.StepLaws.{config-kept, config-done}
+use Rattle.open_answering.specs.StepLaws.{config_kept, config_done}
 use Rattle.open_answering.proofs.placing.configure.Goals as goal
 
 pub returns : goal.returns
@@ -16,7 +16,7 @@ returns c = let a = c.args in
     let v = c.instance_at-instance.result in
     let m = length a.config.now in
     let k = c.put_bytes.ensures.0 in (
-      config-kept a.i a.config.now s s₁ s₂ k c.tell_assembly.ensures.0,
-      config-done a.i a.config.now s s₁ s₂ (let e = kept_few (connections_of s) s s₁ k in let p = c.requires.1 in omega (arith, e, p)) v m c.instance_at-instance.ensures refl
+      config_kept a.i a.config.now s s₁ s₂ k c.tell_assembly.ensures.0,
+      config_done a.i a.config.now s s₁ s₂ (let e = kept_few (connections_of s) s s₁ k in let p = c.requires.1 in omega (arith, e, p)) v m c.instance_at-instance.ensures refl
           c.put_bytes.ensures.1 (told_as s₁ s₂ 4 v m (Configured v m) (configured_is v m) c.tell_assembly.ensures.1),
     )

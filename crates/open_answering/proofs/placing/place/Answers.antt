@@ -1,5 +1,5 @@
 -- The next id, the row and the event, one after the other, are the new connection placed.
-use Rattle.open_answering.specs.StepLaws.{place_kept, place-done}
+use Rattle.open_answering.specs.StepLaws.{place_kept, place_done}
 use Rattle.open_answering.proofs.placing.place.Goals as goal
 
 pub returns : goal.returns
@@ -9,5 +9,5 @@ returns c = let a = c.args in
     let s₂ = c.add_row.new.s in
     let s₃ = c.tell.new.s in (
       place_kept a.c a.next s s₁ s₂ s₃ c.set_next_id.ensures.0 c.add_row.ensures.0 c.tell.ensures.0,
-      place-done a.c a.next s s₁ s₂ s₃ c.requires.1 c.requires.3 c.requires.5 c.set_next_id.ensures.1 c.add_row.ensures.1 c.tell.ensures.1,
+      place_done a.c a.next s s₁ s₂ s₃ c.requires.1 c.requires.3 c.requires.5 c.set_next_id.ensures.1 c.add_row.ensures.1 c.tell.ensures.1,
     )

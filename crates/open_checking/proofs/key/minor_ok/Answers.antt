@@ -1,8 +1,8 @@
-use Rattle.open_checking.specs.KeyLaws.{minor-zero, minor-ours, minor-below, minor-no}
+use Rattle.open_checking.specs.KeyLaws.{minor_zero, minor-ours, minor-below, minor-no}
 use Rattle.open_checking.proofs.key.minor_ok.Goals as goal
 
 pub returns-then-k-eq0 : goal.returns-then-k-eq0
-returns-then-k-eq0 c = minor-zero c.args.ours c.args.k c.if-k-eq0.true
+returns-then-k-eq0 c = minor_zero c.args.ours c.args.k c.if-k-eq0.true
 
 pub returns-then-k-ours : goal.returns-then-k-ours
 returns-then-k-ours c = minor-ours c.args.ours c.args.k c.if-k-eq0.false c.if-k-ours.true

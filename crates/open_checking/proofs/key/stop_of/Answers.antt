@@ -1,9 +1,9 @@
 use Rattle.state_rules.specs.Setups.{identity_of}
-use Rattle.open_checking.specs.KeyLaws.{key-vendor, key-product, key-device, key-yes, key-revision}
+use Rattle.open_checking.specs.KeyLaws.{key_vendor, key-product, key-device, key-yes, key-revision}
 use Rattle.open_checking.proofs.key.stop_of.Goals as goal
 
 pub returns-then-not-any_or : goal.returns-then-not-any_or
-returns-then-not-any_or c = key-vendor (identity_of c.args.r.now) c.args.k c.u16_at-vendor.result c.u16_at-vendor.ensures c.any_or.result c.any_or.ensures c.if-not-any_or.true
+returns-then-not-any_or c = key_vendor (identity_of c.args.r.now) c.args.k c.u16_at-vendor.result c.u16_at-vendor.ensures c.any_or.result c.any_or.ensures c.if-not-any_or.true
 
 pub returns-then-not-any_or-2 : goal.returns-then-not-any_or-2
 returns-then-not-any_or-2 c = key-product (identity_of c.args.r.now) c.args.k c.u16_at-vendor.result c.u16_at-vendor.ensures c.any_or.result c.any_or.ensures c.if-not-any_or.false c.u16_at-product.result c.u16_at-product.ensures c.any_or-2.result c.any_or-2.ensures c.if-not-any_or-2.true

@@ -2,7 +2,7 @@ use Rattle.rules.specs.State.{shape_at}
 use Rattle.rules.specs.Checks.{to_size_check}
 use Rattle.rules.specs.declared.Stop.TheVariants.{InputSize}
 use Rattle.state_rules.specs.Setups.{setup_from}
-use Rattle.open_roles.specs.SizeLaws.{size_fits, size-other}
+use Rattle.open_roles.specs.SizeLaws.{size_fits, size_other}
 use Rattle.open_roles.proofs.sizes.to_size.Goals as goal
 
 pub returns-then-fits : goal.returns-then-fits
@@ -11,4 +11,4 @@ returns-then-fits c = let a = c.args in size_fits (InputSize a.o.to.params.size)
 
 pub returns : goal.returns
 unfolding to_size_check
-returns c = let a = c.args in size-other (InputSize a.o.to.params.size) a.o.to.params 2 (shape_at (setup_from a.r.now []) a.roles.input).size c.size_in-wanted.result c.size_in-wanted.ensures.0 c.fits2.result c.fits2.ensures c.if-fits.false
+returns c = let a = c.args in size_other (InputSize a.o.to.params.size) a.o.to.params 2 (shape_at (setup_from a.r.now []) a.roles.input).size c.size_in-wanted.result c.size_in-wanted.ensures.0 c.fits2.result c.fits2.ensures c.if-fits.false

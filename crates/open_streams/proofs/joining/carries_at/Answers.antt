@@ -1,7 +1,7 @@
 -- One law for each way out.
 use Rattle.std.proofs.Common.{sym, ◌∙◌}
 use Rattle.state_rules.specs.Rows.{row_at, dec_fixed}
-use Rattle.open_streams.specs.Joining.{carries_single, carries-listener, carries-other, carries-any, carries-equal}
+use Rattle.open_streams.specs.Joining.{carries_single, carries_listener, carries-other, carries-any, carries-equal}
 use Rattle.open_streams.proofs.joining.carries_at.Goals as goal
 
 pub returns-then-not-multicast_at : goal.returns-then-not-multicast_at
@@ -15,7 +15,7 @@ returns-then-listens_at c = let a = c.args in
     let listener = c.listens_at in
     let found = c.input_at-found in
     let torpi = c.torpi_at-torpi in
-    carries-listener (dec_fixed (row_at a.t.now a.i)) a.listens a.input a.rpi found.result torpi.result many.result listener.result
+    carries_listener (dec_fixed (row_at a.t.now a.i)) a.listens a.input a.rpi found.result torpi.result many.result listener.result
     many.ensures listener.ensures found.ensures torpi.ensures c.if-not-multicast_at.false c.if-listens_at.true
 
 pub returns-then-found-input : goal.returns-then-found-input

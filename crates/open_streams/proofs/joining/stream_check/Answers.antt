@@ -1,9 +1,9 @@
-use Rattle.open_streams.specs.Joining.{listens-not, listens-joined, listens-many, listens-single}
+use Rattle.open_streams.specs.Joining.{listens_not, listens-joined, listens-many, listens-single}
 use Rattle.open_streams.proofs.joining.stream_check.Goals as goal
 
 pub returns-then-not-is_listener : goal.returns-then-not-is_listener
 returns-then-not-is_listener c = let a = c.args in
-    listens-not a.o a.kind a.stream c.is_listener.result c.is_listener.ensures c.if-not-is_listener.true
+    listens_not a.o a.kind a.stream c.is_listener.result c.is_listener.ensures c.if-not-is_listener.true
 
 pub returns-then-does_join : goal.returns-then-does_join
 returns-then-does_join c = let a = c.args in

@@ -2,12 +2,12 @@
 use Rattle.state_rules.specs.Rows.{fixeds_in}
 use Rattle.state_rules.specs.Setups.{setup_from}
 use Rattle.state_records.specs.Shapes.{shape_of}
-use Rattle.open_streams.specs.Owning.{owner-other, owner-free, owner-taken}
+use Rattle.open_streams.specs.Owning.{owner_other, owner-free, owner-taken}
 use Rattle.open_streams.proofs.owning.owner.Goals as goal
 
 pub returns-then-not-is_owner : goal.returns-then-not-is_owner
 returns-then-not-is_owner c = let a = c.args in
-    owner-other (setup_from a.r.now []) a.kind a.output (fixeds_in a.n a.t.now) c.is_owner.result c.is_owner.ensures c.if-not-is_owner.true
+    owner_other (setup_from a.r.now []) a.kind a.output (fixeds_in a.n a.t.now) c.is_owner.result c.is_owner.ensures c.if-not-is_owner.true
 
 pub returns-then-not-owned : goal.returns-then-not-owned
 returns-then-not-owned c = let a = c.args in
