@@ -58,7 +58,7 @@ def declared(source):
                 yield field.group(1)
             continue
         inside = depth + 1 if re.match(r"((pub|abbrev) )*(data|record)\b", bare) else 0
-        if depth > 2 or re.match(r"(pub )?(use|mod|module|unfolding|import)\b", bare):
+        if re.match(r"(pub )?(use|mod|module|unfolding|import)\b", bare):
             continue
         head = HEAD.match(bare)
         if head and (depth == 0 or in_module(source, line)):
@@ -66,8 +66,9 @@ def declared(source):
 
 
 def in_module(source, line):
-    """Whether an indented line can be a declaration: its file has a module with parameters, and the line is marked or begins a lemma."""
-    return bool(re.search(r"(?m)^(pub )?module ", source)) and bool(re.match(r"  ((pub|abbrev|unfoldable) )*[^\s(){}]+ : ", line)) and not line.startswith("   ")
+    """Whether an indented line is a declaration: it is marked, or a clause of the same name stands below it at the same place."""
+    m = re.match(r"(\s+)((?:(?:pub|abbrev|unfoldable) )*)([^\s(){}]+) : ", line)
+    return bool(m) and bool(m.group(2) or re.search(r"(?m)^" + m.group(1) + re.escape(m.group(3)) + r"(?= )[^:\n]* =(\s|$)", source))
 
 
 def respelled(name):

@@ -17,7 +17,7 @@ use Rattle.state_image.specs.Fits.{Suits}
 use Rattle.state_image.specs.ViewLaws.{suits_view}
 use Rattle.state_image.specs.Passes.{tested_store}
 use Rattle.state_image.specs.Kept.{suits_content, suits_events, records_drop}
-use Rattle.state_image.specs.Lift.{lifted, lifted_out, lifted-tested}
+use Rattle.state_image.specs.Lift.{lifted, lifted_out, lifted_tested}
 use Rattle.state_searches.specs.Searches.{change_at_place}
 
 either_suits : (b : Bool) (l : List ℕ) (x y : State) → Suits x l → Suits y l → Suits (cond b x y) l
@@ -55,7 +55,7 @@ module _ (l : List ℕ) (t : tested l ≡ true) where
   input_suits n bytes = filled_suits bytes (place_of is_input (view l).setup n)
 
   pub input_tested : (n : ℕ) (bytes : List ℕ) → tested (lifted (set_input_call n bytes) l).1 ≡ true
-  input_tested n bytes = lifted-tested (set_input_call n bytes) l t (input_suits n bytes)
+  input_tested n bytes = lifted_tested (set_input_call n bytes) l t (input_suits n bytes)
 
   read_suits : (o : Option ℕ) → Suits (output_read (view l) o) l
   read_suits none = w

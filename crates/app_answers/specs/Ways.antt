@@ -25,10 +25,10 @@ fits_not room bs a h = rw (lt-leb (length bs) room h)
 
 module _ (s out : List ℕ) (t : tested s ≡ true) where
   module _ (call : ℕ → State → Answer) where
-    pub read-wrote : (n : ℕ) (o bs : List ℕ) → call (length out) (view s) ≡ Wrote bs → n ≡ length bs → o ≡ sets out 0 bs
+    pub read_wrote : (n : ℕ) (o bs : List ℕ) → call (length out) (view s) ≡ Wrote bs → n ≡ length bs → o ≡ sets out 0 bs
         → (2 ^ 8 * n, o) ≡ lifted_read call s out
     unfolding answerNumber
-    read-wrote n o bs e p q =
+    read_wrote n o bs e p q =
         read_done call s out t (2 ^ 8 * n) o (ap (λ (k : ℕ). 2 ^ 8 * k) p ∙ ap answerNumber (sym e)) (q ∙ ap (λ (a : Answer). sets out 0 (answerBytes a)) (sym e))
 
     pub read_no : (w : No) → call (length out) (view s) ≡ Refused w → (noNumber w, out) ≡ lifted_read call s out
@@ -41,16 +41,16 @@ module _ (s out : List ℕ) (t : tested s ≡ true) where
   read_same call call' e = rw t (ap (λ (a : Answer). (answerNumber a, sets out 0 (answerBytes a))) e)
 
   module _ (call : ℕ → State → Answer × State) where
-    pub out-wrote : (n : ℕ) (s' o bs : List ℕ) (st : State) → call (length out) (view s) ≡ (Wrote bs, st) → n ≡ length bs → s' ≡ store st s → o ≡ sets out 0 bs
+    pub out_wrote : (n : ℕ) (s' o bs : List ℕ) (st : State) → call (length out) (view s) ≡ (Wrote bs, st) → n ≡ length bs → s' ≡ store st s → o ≡ sets out 0 bs
         → (2 ^ 8 * n, (s', o)) ≡ lifted_out call s out
     unfolding answerNumber
-    out-wrote n s' o bs st e p q r =
+    out_wrote n s' o bs st e p q r =
         out_done call s out t (2 ^ 8 * n) s' o (ap (λ (k : ℕ). 2 ^ 8 * k) p ∙ ap (λ (z : Answer × State). answerNumber z.0) (sym e))
         (q ∙ ap (λ (z : Answer × State). store z.1 s) (sym e)) (r ∙ ap (λ (z : Answer × State). sets out 0 (answerBytes z.0)) (sym e))
 
-    pub out-no : Bytes s → (w : No) → call (length out) (view s) ≡ (Refused w, view s) → (noNumber w, (s, out)) ≡ lifted_out call s out
+    pub out_no : Bytes s → (w : No) → call (length out) (view s) ≡ (Refused w, view s) → (noNumber w, (s, out)) ≡ lifted_out call s out
     unfolding answerNumber
-    out-no b w e =
+    out_no b w e =
         out_done call s out t (noNumber w) s out (ap (λ (z : Answer × State). answerNumber z.0) (sym e))
         (sym (store_view s t b) ∙ ap (λ (z : Answer × State). store z.1 s) (sym e)) (ap (λ (z : Answer × State). sets out 0 (answerBytes z.0)) (sym e))
 
@@ -60,15 +60,15 @@ module _ (s out : List ℕ) (t : tested s ≡ true) where
 
 module _ (s : List ℕ) (t : tested s ≡ true) where
   module _ (call : State → Answer × State) where
-    pub left-done : (s' : List ℕ) (st : State) → call (view s) ≡ (Done, st) → s' ≡ store st s → (0, s') ≡ lifted call s
+    pub left_done : (s' : List ℕ) (st : State) → call (view s) ≡ (Done, st) → s' ≡ store st s → (0, s') ≡ lifted call s
     unfolding answerNumber
-    left-done s' st e q =
+    left_done s' st e q =
         (λ i. (0, (q ∙ ap (λ (z : Answer × State). store z.1 s) (sym e)) i)) ∙ ap (λ (z : Answer × State). (answerNumber z.0, store (call (view s)).1 s)) (sym e)
         ∙ sym (lifted_passes call s t)
 
-    pub left-no : Bytes s → (w : No) → call (view s) ≡ (Refused w, view s) → (noNumber w, s) ≡ lifted call s
+    pub left_no : Bytes s → (w : No) → call (view s) ≡ (Refused w, view s) → (noNumber w, s) ≡ lifted call s
     unfolding answerNumber
-    left-no b w e =
+    left_no b w e =
         (λ i. (noNumber w, (sym (store_view s t b) ∙ ap (λ (z : Answer × State). store z.1 s) (sym e)) i))
         ∙ ap (λ (z : Answer × State). (answerNumber z.0, store (call (view s)).1 s)) (sym e)
         ∙ sym (lifted_passes call s t)

@@ -9,7 +9,7 @@ use Rattle.rules.specs.Host.{stats_bytes, stats_answer}
 use Rattle.state_rules.specs.Places.{produced_of, late_of, max_late_of}
 use Rattle.state_rules.specs.Image.{view, tested}
 use Rattle.state_image.specs.Lift.{lifted_read}
-use Rattle.app_answers.specs.Ways.{fits_in, fits_not, read-wrote, read_no}
+use Rattle.app_answers.specs.Ways.{fits_in, fits_not, read_wrote, read_no}
 
 -- three numbers of 8 bytes, one behind the other
 length_three : (a b c : ℕ) → length (le_bytes 8 a ++ le_bytes 8 b ++ le_bytes 8 c) ≡ 24
@@ -34,7 +34,7 @@ module _ (s out : List ℕ) (t : tested s ≡ true) where
   unfolding stats_answer view
   stats_wrote h o₁ o₂ o₃ a b c ea eb ec e₁ e₂ e₃ =
       let n = length_three (produced_of s) (late_of s) (max_late_of s) in
-      read-wrote s out t stats_answer 24 o₃ (stats_bytes (view s).counters)
+      read_wrote s out t stats_answer 24 o₃ (stats_bytes (view s).counters)
       (fits_in (length out) (stats_bytes (view s).counters) (Wrote (stats_bytes (view s).counters)) (omega arith))
       (sym n)
       (three_put out o₁ o₂ o₃ a b c e₁ e₂ e₃ ∙ (λ i. sets out 0 (le_bytes 8 (ea i) ++ le_bytes 8 (eb i) ++ le_bytes 8 (ec i))))

@@ -18,7 +18,7 @@ use Rattle.state_image.specs.Holds.{Holds, holds_tested}
 use Rattle.state_image.specs.Changes.{bytes_as, bytes_put}
 use Rattle.state_image.specs.Lift.{lifted}
 use Rattle.app_answers.specs.Places.{input_set_at}
-use Rattle.app_answers.specs.Ways.{left-done, left-no, left_same}
+use Rattle.app_answers.specs.Ways.{left_done, left_no, left_same}
 use Rattle.state_searches.specs.Searches.{change_at_place}
 use Rattle.app_answers.specs.Assemblies.{in_contents, size_is, setup_size_lem}
 
@@ -29,15 +29,15 @@ module _ (s : List ℕ) (t : tested s ≡ true) (b : Bytes s) (i : ℕ) (p : i <
   -- ---- set_input
 
   module _ (d : List ℕ) (n : ℕ) (en : n ≡ (shape_in s i).size) where
-    pub input-long : n < length d → (7, s) ≡ lifted (input_set_at i d) s
-    input-long g =
+    pub input_long : n < length d → (7, s) ≡ lifted (input_set_at i d) s
+    input_long g =
         let m = (setup_size_lem s t b i p) in
-        left-no s t (input_set_at i d) b TooLong
+        left_no s t (input_set_at i d) b TooLong
         (ap (λ (x : Bool). settled (cond x Done (Refused TooLong)) (input_set d (view s) (some i)) (view s)) (lt-leb (length d) (shape_at (view s).setup i).size (omega arith)))
 
-    pub input-set : length d ≤ n → (s₁ s₂ : List ℕ) → s₁ ≡ sets s (data_from + i * 512) d → s₂ ≡ sets s₁ (data_from + i * 512 + length d) (replicate (n - length d) 0)
+    pub input_set_lem : length d ≤ n → (s₁ s₂ : List ℕ) → s₁ ≡ sets s (data_from + i * 512) d → s₂ ≡ sets s₁ (data_from + i * 512 + length d) (replicate (n - length d) 0)
         → (0, s₂) ≡ lifted (input_set_at i d) s
-    input-set g s₁ s₂ e₁ e₂ =
+    input_set_lem g s₁ s₂ e₁ e₂ =
         let m = (setup_size_lem s t b i p) in
         let q = (size_is s t b i p) in
         let zs : List ℕ = replicate (n - length d) 0 in
@@ -45,7 +45,7 @@ module _ (s : List ℕ) (t : tested s ≡ true) (b : Bytes s) (i : ℕ) (p : i <
         let left : store (bytes_as i (d ++ zs) (view s)) s ≡ store (input_set d (view s) (some i)) s =
         ap (λ (k : ℕ). store (bytes_as i (d ++ replicate (k - length d) 0) (view s)) s) (en ∙ sym m)
         ∙ ap (λ (z : List Content). store (with_contents z (view s)) s) (sym (change_at_place (filled (shape_at (view s).setup i).size d) no_content (view s).contents i)) in
-        left-done s t (input_set_at i d) s₂ (input_set d (view s) (some i))
+        left_done s t (input_set_at i d) s₂ (input_set d (view s) (some i))
         (ap (λ (x : Bool). settled (cond x Done (Refused TooLong)) (input_set d (view s) (some i)) (view s)) (le-leb (length d) (shape_at (view s).setup i).size (omega arith)))
         (e₂ ∙ ap (λ (z : List ℕ). sets z (data_from + i * 512 + length d) zs) e₁ ∙ sym (sets_append s (data_from + i * 512) d zs)
         ∙ bytes_put s (view s) s h i (d ++ zs) (in_contents s t b i p) (omega arith) ∙ left)
@@ -56,7 +56,7 @@ module _ (s d : List ℕ) (t : tested s ≡ true) (n : ℕ) (o : Option ℕ) (e 
   pub input_none : Bytes s → o ≡ none → (6, s) ≡ lifted (set_input_call n d) s
   unfolding set_input_call set_input_answer set_input_effect view
   input_none b q =
-      left-no s t (set_input_call n d) b NoAssembly
+      left_no s t (set_input_call n d) b NoAssembly
       (ap (λ (z : Option ℕ). settled (set_input_at (view s).setup d z) (input_set d (view s) z) (view s)) (e ∙ q))
 
   pub input_some : (i : ℕ) → o ≡ some i → (r : ℕ × List ℕ) → r ≡ lifted (input_set_at i d) s → r ≡ lifted (set_input_call n d) s

@@ -22,7 +22,7 @@ use Rattle.state_image.specs.Updates.{no_conn}
 use Rattle.state_image.specs.Lift.{lifted_read}
 use Rattle.state_records.specs.Fields.{length_info}
 use Rattle.state_records.specs.Shapes.{info_in}
-use Rattle.app_answers.specs.Ways.{fits_in, fits_not, read-wrote, read_no}
+use Rattle.app_answers.specs.Ways.{fits_in, fits_not, read_wrote, read_no}
 
 -- a connection's record
 unfoldable pub record_of : Setup → Conn → List ℕ
@@ -101,19 +101,19 @@ module _ (s : List ℕ) where
       ap length bytes_are ∙ length_joined (setup_of s) cs ∙ ap (λ (n : ℕ). n * 32) (length_rows row_size dec_conn (connections_of s) (table_in s))
 
   module _ (out : List ℕ) (t : tested s ≡ true) (n : ℕ) (en : n ≡ connections_of s) where
-    pub table-short : length out < n * 32 → (8, out) ≡ lifted_read connections_answer s out
+    pub table_short : length out < n * 32 → (8, out) ≡ lifted_read connections_answer s out
     unfolding connections_answer
-    table-short h =
+    table_short h =
         let k = length_bytes in
         read_no s out t connections_answer NoRoom (fits_not (length out) (connection_bytes (view s)) (Wrote (connection_bytes (view s))) (omega arith))
 
-    pub table-told : n * 32 ≤ length out → (x : List ℕ) (i : ℕ) → n ≤ i → x ≡ sets out 0 (tellings (setup_of s) i (conns_in (connections_of s) (table_in s)))
+    pub table_told : n * 32 ≤ length out → (x : List ℕ) (i : ℕ) → n ≤ i → x ≡ sets out 0 (tellings (setup_of s) i (conns_in (connections_of s) (table_in s)))
         → (2 ^ 8 * (n * 32), x) ≡ lifted_read connections_answer s out
     unfolding connections_answer
-    table-told h x i p e =
+    table_told h x i p e =
         let k = length_bytes in
         let m = length_rows row_size dec_conn (connections_of s) (table_in s) in
-        read-wrote s out t connections_answer (n * 32) x (connection_bytes (view s))
+        read_wrote s out t connections_answer (n * 32) x (connection_bytes (view s))
         (fits_in (length out) (connection_bytes (view s)) (Wrote (connection_bytes (view s))) (omega arith))
         (omega arith)
         (e ∙ ap (λ (z : List Conn). sets out 0 (joined (record_of (setup_of s)) z)) (take_all i cs (omega arith)) ∙ ap (sets out 0) (sym bytes_are))

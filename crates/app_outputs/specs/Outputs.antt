@@ -24,7 +24,7 @@ use Rattle.state_image.specs.Kept.{byte_of}
 use Rattle.state_image.specs.Changes.{mark_as}
 use Rattle.state_image.specs.Lift.{lifted_out, lifted_read}
 use Rattle.app_answers.specs.Places.{assembly_read_at, output_read_at}
-use Rattle.app_answers.specs.Ways.{fits_in, fits_not, read-wrote, read_no, read_same, out-wrote, out-no, out_same}
+use Rattle.app_answers.specs.Ways.{fits_in, fits_not, read_wrote, read_no, read_same, out_wrote, out_no, out_same}
 use Rattle.state_searches.specs.Searches.{change_at_place}
 use Rattle.app_answers.specs.Assemblies.{size_is, data_is, run_is}
 
@@ -43,37 +43,37 @@ module _ (s : List ℕ) (t : tested s ≡ true) (b : Bytes s) (i : ℕ) (p : i <
         let m = (size_is s t b i p) in
         read_no s out t (assembly_read_at i) NoRoom (fits_not (length out) c.bytes (Wrote c.bytes) (omega arith))
 
-    pub assembly-wrote : n ≤ length out → (d o : List ℕ) → d ≡ take n (drop (data_from + i * 512) s) → o ≡ sets out 0 d
+    pub assembly_wrote : n ≤ length out → (d o : List ℕ) → d ≡ take n (drop (data_from + i * 512) s) → o ≡ sets out 0 d
         → (2 ^ 8 * n, o) ≡ lifted_read (assembly_read_at i) s out
-    assembly-wrote g d o ed eo =
+    assembly_wrote g d o ed eo =
         let m = (size_is s t b i p) in
-        read-wrote s out t (assembly_read_at i) n o c.bytes (fits_in (length out) c.bytes (Wrote c.bytes) (omega arith)) (omega arith)
+        read_wrote s out t (assembly_read_at i) n o c.bytes (fits_in (length out) c.bytes (Wrote c.bytes) (omega arith)) (omega arith)
         (eo ∙ ap (sets out 0) (ed ∙ ap (λ (k : ℕ). take k (drop (data_from + i * 512) s)) en ∙ (data_is s t b i p)))
 
     -- ---- output
 
-    read-after : (a : Answer) → output_at (length out) (view s) (some i) ≡ a → output_read_at i (length out) (view s) ≡ settled a (output_read (view s) (some i)) (view s)
-    read-after a e = ap (λ (x : Answer). settled x (output_read (view s) (some i)) (view s)) e
+    read_after : (a : Answer) → output_at (length out) (view s) (some i) ≡ a → output_read_at i (length out) (view s) ≡ settled a (output_read (view s) (some i)) (view s)
+    read_after a e = ap (λ (x : Answer). settled x (output_read (view s) (some i)) (view s)) e
 
-    pub output-short : length out ≤ n → (8, (s, out)) ≡ lifted_out (output_read_at i) s out
-    output-short g =
+    pub output_short : length out ≤ n → (8, (s, out)) ≡ lifted_out (output_read_at i) s out
+    output_short g =
         let m = (size_is s t b i p) in
-        out-no s out t (output_read_at i) b NoRoom
-        (read-after (Refused NoRoom) (fits_not (length out) (output_bytes c) (Wrote (output_bytes c)) (omega arith)))
+        out_no s out t (output_read_at i) b NoRoom
+        (read_after (Refused NoRoom) (fits_not (length out) (output_bytes c) (Wrote (output_bytes c)) (omega arith)))
 
-    pub output-wrote : n < length out → (run : Bool) (d o₁ o₂ s₁ : List ℕ) → run ≡ run_in (mark_at s i) → d ≡ take n (drop (data_from + i * 512) s)
+    pub output_wrote : n < length out → (run : Bool) (d o₁ o₂ s₁ : List ℕ) → run ≡ run_in (mark_at s i) → d ≡ take n (drop (data_from + i * 512) s)
         → o₁ ≡ put 1 out 0 (bool_byte run) → o₂ ≡ sets o₁ 1 d → Becomes s s₁ (mark_as i run false)
         → (2 ^ 8 * (n + 1), (s₁, o₂)) ≡ lifted_out (output_read_at i) s out
     unfolding put le_bytes
-    output-wrote g run d o₁ o₂ s₁ er ed e₁ e₂ be =
+    output_wrote g run d o₁ o₂ s₁ er ed e₁ e₂ be =
         let m = (size_is s t b i p) in
         let r : run ≡ c.run = er ∙ run_is s t b i p in
         let number : bool_byte run ≡ of_bool c.run = byte_of run ∙ ap of_bool r in
         let bs : d ≡ c.bytes = ed ∙ ap (λ (k : ℕ). take k (drop (data_from + i * 512) s)) en ∙ (data_is s t b i p) in
         let left : store (mark_as i c.run false (view s)) s ≡ store (output_read (view s) (some i)) s =
         ap (λ (z : List Content). store (with_contents z (view s)) s) (sym (change_at_place read no_content (view s).contents i)) in
-        out-wrote s out t (output_read_at i) (n + 1) s₁ o₂ (output_bytes c) (output_read (view s) (some i))
-        (read-after (Wrote (output_bytes c)) (fits_in (length out) (output_bytes c) (Wrote (output_bytes c)) (omega arith)))
+        out_wrote s out t (output_read_at i) (n + 1) s₁ o₂ (output_bytes c) (output_read (view s) (some i))
+        (read_after (Wrote (output_bytes c)) (fits_in (length out) (output_bytes c) (Wrote (output_bytes c)) (omega arith)))
         (omega arith)
         (be (view s) s h ∙ ap (λ (x : Bool). store (mark_as i x false (view s)) s) r ∙ left)
         (e₂ ∙ (λ j. sets (e₁ j) 1 (bs j)) ∙ (λ j. sets (sets out 0 (number j ∷ [])) 1 c.bytes) ∙ sym (sets_append out 0 (of_bool c.run ∷ []) c.bytes))
@@ -93,7 +93,7 @@ module _ (s out : List ℕ) (t : tested s ≡ true) (n : ℕ) (o : Option ℕ) (
   pub output_none : Bytes s → o ≡ none → (6, (s, out)) ≡ lifted_out (output_call n) s out
   unfolding output_call output_answer output_effect view
   output_none b q =
-      out-no s out t (output_call n) b NoAssembly
+      out_no s out t (output_call n) b NoAssembly
       (ap (λ (z : Option ℕ). settled (output_at (length out) (view s) z) (output_read (view s) z) (view s)) (e ∙ q))
 
   pub output_some : (i : ℕ) → o ≡ some i → (r : ℕ × (List ℕ × List ℕ)) → r ≡ lifted_out (output_read_at i) s out → r ≡ lifted_out (output_call n) s out

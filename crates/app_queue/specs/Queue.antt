@@ -10,7 +10,7 @@ use mir.Val.{bool_byte}
 use Rattle.base_cells.specs.Numbers.{le, put, drop_take}
 use Rattle.base_cells.specs.Records.{to_bool}
 use Rattle.base_cells.specs.Back.{Bytes}
-use Rattle.base_tables.specs.Ring.{ringOf}
+use Rattle.base_tables.specs.Ring.{ring_of}
 use Rattle.rules.specs.State.{State}
 use Rattle.rules.specs.Answers.{Answer, Wrote, Refused, NoRoom, NothingThere, settled}
 use Rattle.rules.specs.Events.{oldest_gone}
@@ -22,7 +22,7 @@ use Rattle.state_image.specs.Fits.{is_long, first_slot}
 use Rattle.state_image.specs.Kept.{byte_of}
 use Rattle.state_image.specs.Taken.{taken_stored}
 use Rattle.state_image.specs.Lift.{lifted_out}
-use Rattle.app_answers.specs.Ways.{fits_in, fits_not, out-wrote, out-no}
+use Rattle.app_answers.specs.Ways.{fits_in, fits_not, out_wrote, out_no}
 
 -- a part of a part of a buffer
 pub part_of : (n k a m : ℕ) (l : List ℕ) → k + n ≤ m → take n (drop k (take m (drop a l))) ≡ take n (drop (a + k) l)
@@ -33,15 +33,15 @@ part_of n k a m l h =
     ∙ take-take n (m - k) (drop k (drop a l)) (omega arith)
     ∙ ap (take n) (drop-drop k a l)
 
-ring_none : (f n : ℕ) (r : List ℕ) → n < 1 → ringOf 32 record32 as_is f n r ≡ []
-unfolding ringOf
+ring_none : (f n : ℕ) (r : List ℕ) → n < 1 → ring_of 32 record32 as_is f n r ≡ []
+unfolding ring_of
 ring_none f zero r h = refl
 ring_none f (suc n) r h = absurd (omega arith)
 
-ring_first : (f n : ℕ) (r : List ℕ) → 1 ≤ n → ringOf 32 record32 as_is f n r ≡ take 32 (drop (f * 32) r) ∷ ringOf 32 record32 as_is ((f + 1) % 1024) (n - 1) r
-unfolding ringOf
+ring_first : (f n : ℕ) (r : List ℕ) → 1 ≤ n → ring_of 32 record32 as_is f n r ≡ take 32 (drop (f * 32) r) ∷ ring_of 32 record32 as_is ((f + 1) % 1024) (n - 1) r
+unfolding ring_of
 ring_first f zero r h = absurd (omega arith)
-ring_first f (suc n) r h = ap (λ (k : ℕ). take 32 (drop (f * 32) r) ∷ ringOf 32 record32 as_is ((f + 1) % 1024) k r) (let e : n ≡ suc n - 1 = omega arith in e)
+ring_first f (suc n) r h = ap (λ (k : ℕ). take 32 (drop (f * 32) r) ∷ ring_of 32 record32 as_is ((f + 1) % 1024) k r) (let e : n ≡ suc n - 1 = omega arith in e)
 
 -- what the call comes to, by its answer
 after : (room : ℕ) (st : State) (a : Answer) → next_event_answer room st ≡ a → next_event_call room st ≡ settled a (next_event_effect st) st
@@ -66,14 +66,14 @@ module _ (s out : List ℕ) (t : tested s ≡ true) (b : Bytes s) where
   pub event_none : waiting_of s < 1 → (9, (s, out)) ≡ lifted_out next_event_call s out
   unfolding next_event_answer view
   event_none h =
-      out-no s out t next_event_call b NothingThere
+      out_no s out t next_event_call b NothingThere
       (after (length out) (view s) (Refused NothingThere) (ap (event_at (length out)) (ring_none (first_of s) (waiting_of s) (ring_in s) h)))
 
   pub event_short : 1 ≤ waiting_of s → length out < 32 → (8, (s, out)) ≡ lifted_out next_event_call s out
   event_short h g =
       let n = length_oldest in
       let d : List ℕ = take 32 (drop (events_at + first_of s * 32) s) in
-      out-no s out t next_event_call b NoRoom
+      out_no s out t next_event_call b NoRoom
       (after (length out) (view s) (Refused NoRoom) (first_is h (length out) ∙ fits_not (length out) d (Wrote d) (omega arith)))
 
   pub event_taken : 1 ≤ waiting_of s → 32 ≤ length out → (f n : ℕ) (a : Bool) (d o s₁ : List ℕ) → f ≡ first_of s → n ≡ waiting_of s → a ≡ to_bool (fault_of s)
@@ -83,7 +83,7 @@ module _ (s out : List ℕ) (t : tested s ≡ true) (b : Bytes s) where
   event_taken h g f n a d o s₁ ef en ea ed eo es =
       let x : List ℕ = take 32 (drop (events_at + first_of s * 32) s) in
       let m = length_oldest in
-      out-wrote s out t next_event_call 32 s₁ o x (next_event_effect (view s))
+      out_wrote s out t next_event_call 32 s₁ o x (next_event_effect (view s))
       (after (length out) (view s) (Wrote x) (first_is h (length out) ∙ fits_in (length out) x (Wrote x) (omega arith)))
       (sym m)
       (es

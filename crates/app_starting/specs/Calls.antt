@@ -17,13 +17,13 @@ module _ (l block eds : List ℕ) (seed : ℕ) where
   other_size h = rw (ne_eqb (length l) state_size h) refl
 
   module _ (h : length l ≡ state_size) where
-    pub bad-setup : accepted block eds ≡ false → (2, l) ≡ setup_call l block eds seed
+    pub bad_setup : accepted block eds ≡ false → (2, l) ≡ setup_call l block eds seed
     unfolding setup_call answerNumber
-    bad-setup e = rw (eq-eqb (length l) state_size h, e) refl
+    bad_setup e = rw (eq-eqb (length l) state_size h, e) refl
 
-    pub set-up : accepted block eds ≡ true → (0, started block eds seed) ≡ setup_call l block eds seed
+    pub set_up : accepted block eds ≡ true → (0, started block eds seed) ≡ setup_call l block eds seed
     unfolding setup_call answerNumber
-    set-up e = rw (eq-eqb (length l) state_size h, e) refl
+    set_up e = rw (eq-eqb (length l) state_size h, e) refl
 
   -- whoever is answered 0 has the rules' fresh state, and it passes the state test
   pub setup_fresh : (setup_call l block eds seed).0 ≡ 0
@@ -32,7 +32,7 @@ module _ (l block eds : List ℕ) (seed : ℕ) where
       by_cases (eqb (length l) state_size)
       (λ a.
       by_cases (accepted block eds)
-      (λ e. let q = set-up (eqb-true (length l) state_size a) e in
+      (λ e. let q = set_up (eqb-true (length l) state_size a) e in
       (ap (λ (x : ℕ × List ℕ). tested x.1) (sym q) ∙ tested_started block eds seed e, ap (λ (x : ℕ × List ℕ). view x.1) (sym q) ∙ view_started block eds seed e))
-      (λ e. let q : 2 ≡ 0 = ap (λ (x : ℕ × List ℕ). x.0) (bad-setup (eqb-true (length l) state_size a) e) ∙ z in absurd (omega arith)))
+      (λ e. let q : 2 ≡ 0 = ap (λ (x : ℕ × List ℕ). x.0) (bad_setup (eqb-true (length l) state_size a) e) ∙ z in absurd (omega arith)))
       (λ a. let q : 1 ≡ 0 = ap (λ (x : ℕ × List ℕ). x.0) (other_size (eqb-false (length l) state_size a)) ∙ z in absurd (omega arith))

@@ -13,7 +13,7 @@ use borrow.Author.Tests.{eqb-false, leb-true, ltb-true, ltb-false}
 use Rattle.base_cells.specs.Numbers.{le, le_of, le_drop, le_same}
 use Rattle.base_cells.specs.Records.{enc_fields, dec_fields, to_bool, sum, dec_enc, length_enc_fields}
 use Rattle.base_tables.specs.Tables.{rows, length_rows, row_at_lem}
-use Rattle.base_tables.specs.Ring.{by_cases, ringOf}
+use Rattle.base_tables.specs.Ring.{by_cases, ring_of}
 use Rattle.base_tables.specs.Regions.{joined, Sized, none, one, start, length_joined, region_at}
 use Rattle.rules.specs.Lists.{any}
 use Rattle.rules.specs.State.{Shape, Setup, no_shape}
@@ -281,7 +281,7 @@ module _ (block eds : List ℕ) (seed : ℕ) (ok : accepted block eds ≡ true) 
       omega arith
 
   pub view_started : view (started block eds seed) ≡ fresh (setup_given block eds) seed
-  unfolding view fresh rows ringOf
+  unfolding view fresh rows ring_of
   view_started =
       let u : Setup = setup_of s in
       let c : contents_of (setup_of s).assemblies (marks_in s) (data_in s) ≡ map blank (setup_given block eds).assemblies =
@@ -293,7 +293,7 @@ module _ (block eds : List ℕ) (seed : ℕ) (ok : accepted block eds ≡ true) 
         setup = setup_started i;
         contents = c i;
         table = conns_in (number 5 i) (table_in s);
-        events = record { gone = number 4 i / 2 % 1024; waiting = ringOf 32 record32 as_is (number 4 i / 2 % 1024) (number 4 i / 2048) (ring_in s) };
+        events = record { gone = number 4 i / 2 % 1024; waiting = ring_of 32 record32 as_is (number 4 i / 2 % 1024) (number 4 i / 2048) (ring_in s) };
         fault = to_bool (number 4 i % 2);
         nextId = number 3 i;
         counters = record { produced = number 0 i; late = number 1 i; maxLate = number 2 i };

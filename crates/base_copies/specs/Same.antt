@@ -43,15 +43,15 @@ module _ (s d : List ℕ) (bs : Bytes s) (bd : Bytes d) (at j : ℕ) where
   bytes_same m k h e = sym (le_drop 8 s at k) ∙ le_same 8 (drop at s) (drop j d) k m h e ∙ le_drop 8 d j k
 
   module _ (a₀ b₀ : ℕ) (ea₀ : a₀ ≡ le 8 s at) (eb₀ : b₀ ≡ le 8 d j) where
-    first-same : at + 8 ≤ length s → j + 8 ≤ length d → a₀ ≡ b₀ → take 8 (drop at s) ≡ take 8 (drop j d)
-    first-same p q e = sym (bytes_le 7 s at bs p) ∙ ap (le_bytes 8) (sym ea₀ ∙ e ∙ eb₀) ∙ bytes_le 7 d j bd q
+    first_same : at + 8 ≤ length s → j + 8 ≤ length d → a₀ ≡ b₀ → take 8 (drop at s) ≡ take 8 (drop j d)
+    first_same p q e = sym (bytes_le 7 s at bs p) ∙ ap (le_bytes 8) (sym ea₀ ∙ e ∙ eb₀) ∙ bytes_le 7 d j bd q
 
-    first-number : (m : ℕ) → 8 ≤ m → take m (drop at s) ≡ take m (drop j d) → a₀ ≡ b₀
-    first-number m h e =
+    first_number : (m : ℕ) → 8 ≤ m → take m (drop at s) ≡ take m (drop j d) → a₀ ≡ b₀
+    first_number m h e =
         ea₀ ∙ ap (le 8 s) (let z : at ≡ at + 0 = omega arith in z) ∙ bytes_same m 0 h e ∙ ap (le 8 d) (let z : j + 0 ≡ j = omega arith in z) ∙ sym eb₀
 
-    pub number-told : at + 8 ≤ length s → j + 8 ≤ length d → Tells (eqb a₀ b₀) (take 8 (drop at s) ≡ take 8 (drop j d))
-    number-told p q = (λ t. first-same p q (eqb-true a₀ b₀ t), λ e. eq-eqb a₀ b₀ (first-number 8 (omega arith) e))
+    pub number_told : at + 8 ≤ length s → j + 8 ≤ length d → Tells (eqb a₀ b₀) (take 8 (drop at s) ≡ take 8 (drop j d))
+    number_told p q = (λ t. first_same p q (eqb-true a₀ b₀ t), λ e. eq-eqb a₀ b₀ (first_number 8 (omega arith) e))
 
 -- ---- four numbers at once
 
@@ -69,9 +69,9 @@ xor_none a b e = ap (λ (z : ℕ). bit_xor z b) e ∙ xor_self b
 
 module _ (s d : List ℕ) (bs : Bytes s) (bd : Bytes d) (at j a₀ b₀ a₁ b₁ a₂ b₂ a₃ b₃ : ℕ) (ea₀ : a₀ ≡ le 8 s at) (eb₀ : b₀ ≡ le 8 d j) where
   module _ (ea₁ : a₁ ≡ le 8 s (at + 8)) (eb₁ : b₁ ≡ le 8 d (j + 8)) (ea₂ : a₂ ≡ le 8 s (at + 16)) (eb₂ : b₂ ≡ le 8 d (j + 16)) where
-    pub block-told : a₃ ≡ le 8 s (at + 24) → b₃ ≡ le 8 d (j + 24) → at + 32 ≤ length s → j + 32 ≤ length d
+    pub block_told : a₃ ≡ le 8 s (at + 24) → b₃ ≡ le 8 d (j + 24) → at + 32 ≤ length s → j + 32 ≤ length d
         → Tells (eqb (bit_or (bit_or (bit_xor a₀ b₀) (bit_xor a₁ b₁)) (bit_or (bit_xor a₂ b₂) (bit_xor a₃ b₃))) 0) (take 32 (drop at s) ≡ take 32 (drop j d))
-    block-told ea₃ eb₃ p q =
+    block_told ea₃ eb₃ p q =
         let x : List ℕ = drop at s in
         let y : List ℕ = drop j d in
         let v₀ : ℕ = bit_xor a₀ b₀ in
@@ -84,13 +84,13 @@ module _ (s d : List ℕ) (bs : Bytes s) (bd : Bytes d) (at j a₀ b₀ a₁ b�
               let z = or_zero low high (eqb-true (bit_or low high) 0 t) in
               let l = or_zero v₀ v₁ z.0 in
               let h = or_zero v₂ v₃ z.1 in
-              let n₀ : take 8 x ≡ take 8 y = first-same s d bs bd at j a₀ b₀ ea₀ eb₀ (omega arith) (omega arith) (xor_eq a₀ b₀ l.0) in
+              let n₀ : take 8 x ≡ take 8 y = first_same s d bs bd at j a₀ b₀ ea₀ eb₀ (omega arith) (omega arith) (xor_eq a₀ b₀ l.0) in
               let n₁ : take 8 (drop 8 x) ≡ take 8 (drop 8 y) = numbers_same s d bs bd at j 8 (omega arith) (omega arith) (sym ea₁ ∙ xor_eq a₁ b₁ l.1 ∙ eb₁) in
               let n₂ : take 8 (drop 16 x) ≡ take 8 (drop 16 y) = numbers_same s d bs bd at j 16 (omega arith) (omega arith) (sym ea₂ ∙ xor_eq a₂ b₂ h.0 ∙ eb₂) in
               let n₃ : take 8 (drop 24 x) ≡ take 8 (drop 24 y) = numbers_same s d bs bd at j 24 (omega arith) (omega arith) (sym ea₃ ∙ xor_eq a₃ b₃ h.1 ∙ eb₃) in
               more_same x y 24 8 (more_same x y 16 8 (more_same x y 8 8 n₀ n₁) n₂) n₃,
           λ e.
-              let n₀ : v₀ ≡ 0 = xor_none a₀ b₀ (first-number s d bs bd at j a₀ b₀ ea₀ eb₀ 32 (omega arith) e) in
+              let n₀ : v₀ ≡ 0 = xor_none a₀ b₀ (first_number s d bs bd at j a₀ b₀ ea₀ eb₀ 32 (omega arith) e) in
               let n₁ : v₁ ≡ 0 = xor_none a₁ b₁ (ea₁ ∙ bytes_same s d bs bd at j 32 8 (omega arith) e ∙ sym eb₁) in
               let n₂ : v₂ ≡ 0 = xor_none a₂ b₂ (ea₂ ∙ bytes_same s d bs bd at j 32 16 (omega arith) e ∙ sym eb₂) in
               let n₃ : v₃ ≡ 0 = xor_none a₃ b₃ (ea₃ ∙ bytes_same s d bs bd at j 32 24 (omega arith) e ∙ sym eb₃) in
@@ -109,20 +109,20 @@ module _ (s d : List ℕ) (at j : ℕ) where
       tells_false (λ e. absurd (n (sym (get_or-drop at s j 0) ∙ sym (get_or-take (length d) (drop at s) j 0 h) ∙ ap (λ (z : List ℕ). get_or z j 0) e)))
 
   module _ (same : take j (drop at s) ≡ take j d) where
-    pub part-agrees : (k : ℕ) (r : Bool) → Tells r (take k (drop (at + j) s) ≡ take k (drop j d)) → r ≡ true → take (j + k) (drop at s) ≡ take (j + k) d
-    part-agrees k r t e = more_same (drop at s) d j k same (ap (take k) (drop-drop j at s) ∙ t.0 e)
+    pub part_agrees : (k : ℕ) (r : Bool) → Tells r (take k (drop (at + j) s) ≡ take k (drop j d)) → r ≡ true → take (j + k) (drop at s) ≡ take (j + k) d
+    part_agrees k r t e = more_same (drop at s) d j k same (ap (take k) (drop-drop j at s) ∙ t.0 e)
 
-    pub byte-agrees : j < length d → at + length d ≤ length s → get_or s (at + j) 0 ≡ get_or d j 0 → take (j + 1) (drop at s) ≡ take (j + 1) d
-    byte-agrees h p e =
+    pub byte_agrees : j < length d → at + length d ≤ length s → get_or s (at + j) 0 ≡ get_or d j 0 → take (j + 1) (drop at s) ≡ take (j + 1) d
+    byte_agrees h p e =
         ap (λ (n : ℕ). take n (drop at s)) (add-one j)
         ∙ take-suc (drop at s) j 0 (rw length-drop (omega arith))
         ∙ ap₂ (λ (u : List ℕ) (v : ℕ). u ++ (v ∷ [])) same (get_or-drop at s j 0 ∙ e)
         ∙ sym (take-suc d j 0 h)
         ∙ ap (λ (n : ℕ). take n d) (sym (add-one j))
 
-    pub last-told : (i k : ℕ) → i ≤ j → length d ≡ i + k → (r : Bool) → Tells r (take k (drop (at + i) s) ≡ take k (drop i d))
+    pub last_told : (i k : ℕ) → i ≤ j → length d ≡ i + k → (r : Bool) → Tells r (take k (drop (at + i) s) ≡ take k (drop i d))
         → Tells r (take (length d) (drop at s) ≡ d)
-    last-told i k h n r t = (
+    last_told i k h n r t = (
       λ e. last_same (drop at s) d i j k h n same (ap (take k) (drop-drop i at s) ∙ t.0 e),
       λ e. t.1 (ap (take k) (sym (drop-drop i at s)) ∙ part_same (drop at s) d i k (omega arith) e),
     )

@@ -96,34 +96,34 @@ module _ {A : Type 0} (size : ℕ) (enc : A → List ℕ) where
         ∙ covered f' es (sets r (f * size) (enc e)) j x y)
 
     -- one more behind the last of 1,024: the oldest goes
-    pub ring-full : (f : ℕ) (x : A) (es : List A) (e : A) (r : List ℕ) → f < 1024 → length es ≡ 1023
+    pub ring_full : (f : ℕ) (x : A) (es : List A) (e : A) (r : List ℕ) → f < 1024 → length es ≡ 1023
         → store_ring ((f + 1) % 1024) (es ++ (e ∷ [])) r ≡ sets (store_ring f (x ∷ es) r) (f * size) (enc e)
     unfolding store_ring
-    ring-full f x es e r h n =
+    ring_full f x es e r h n =
         ring_push ((f + 1) % 1024) es e r (omega arith)
         ∙ ap (λ (k : ℕ). sets (store_ring ((f + 1) % 1024) es r) (k * size) (enc e)) (omega arith)
         ∙ sym (covered ((f + 1) % 1024) es r f x e)
 
   module _ (dec : List ℕ → A) where
-    unfoldable pub ringOf : ℕ → ℕ → List ℕ → List A
-    ringOf f zero r = []
-    ringOf f (suc n) r = dec (take size (drop (f * size) r)) ∷ ringOf ((f + 1) % 1024) n r
+    unfoldable pub ring_of : ℕ → ℕ → List ℕ → List A
+    ring_of f zero r = []
+    ring_of f (suc n) r = dec (take size (drop (f * size) r)) ∷ ring_of ((f + 1) % 1024) n r
 
-    pub length-ringOf : (f n : ℕ) (r : List ℕ) → length (ringOf f n r) ≡ n
-    unfolding ringOf
-    length-ringOf f zero r = refl
-    length-ringOf f (suc n) r = ap suc (length-ringOf ((f + 1) % 1024) n r)
+    pub length_ring_of : (f n : ℕ) (r : List ℕ) → length (ring_of f n r) ≡ n
+    unfolding ring_of
+    length_ring_of f zero r = refl
+    length_ring_of f (suc n) r = ap suc (length_ring_of ((f + 1) % 1024) n r)
 
     -- the ring's own records over it: nothing changes
-    pub store-ring : (f n : ℕ) (r : List ℕ) → f < 1024 → 1024 * size ≤ length r
+    pub store_ring_lem : (f n : ℕ) (r : List ℕ) → f < 1024 → 1024 * size ≤ length r
         → ((i : ℕ) → i < 1024 → enc (dec (take size (drop (i * size) r))) ≡ take size (drop (i * size) r))
-        → store_ring f (ringOf f n r) r ≡ r
-    unfolding store_ring ringOf
-    store-ring f zero r h g q = refl
-    store-ring f (suc n) r h g q =
+        → store_ring f (ring_of f n r) r ≡ r
+    unfolding store_ring ring_of
+    store_ring_lem f zero r h g q = refl
+    store_ring_lem f (suc n) r h g q =
         let m : suc f * size ≤ 1024 * size = mul-le-mul_right size h in
         let m' : f * size + size ≤ length r = let e = suc-mul f size in omega arith in
         let s : sets r (f * size) (enc (dec (take size (drop (f * size) r)))) ≡ r =
         ap (sets r (f * size)) (q f h) ∙ sets_same r (f * size) size m' in
-        ap (store_ring ((f + 1) % 1024) (ringOf ((f + 1) % 1024) n r)) s
-        ∙ store-ring ((f + 1) % 1024) n r (omega arith) g q
+        ap (store_ring ((f + 1) % 1024) (ring_of ((f + 1) % 1024) n r)) s
+        ∙ store_ring_lem ((f + 1) % 1024) n r (omega arith) g q

@@ -10,7 +10,7 @@ use Rattle.std.proofs.Math.ListN.{length, take}
 use Rattle.std.proofs.Math.Seq.{sets, length-sets}
 use Rattle.std.proofs.lemmas.Bool.{eqb-false}
 use Rattle.base_cells.specs.Numbers.{take_sets, drop_sets, slice_sets, drop_take}
-use Rattle.base_tables.specs.Ring.{by_cases, store_ring, ringOf}
+use Rattle.base_tables.specs.Ring.{by_cases, store_ring, ring_of}
 
 module _ {A : Type 0} (size : ℕ) (enc : A → List ℕ) (whole : (x : A) → length (enc x) ≡ size) where
   apart : (i j : ℕ) → i < j → i * size + size ≤ j * size
@@ -38,8 +38,8 @@ module _ {A : Type 0} (size : ℕ) (enc : A → List ℕ) (whole : (x : A) → l
       ∙ other r f j e (λ q. n 0 (omega arith) (omega arith))
 
   pub ring_read : (dec : List ℕ → A) (f : ℕ) (es : List A) (r : List ℕ) → f < 1024 → length es ≤ 1024 → 1024 * size ≤ length r
-      → ringOf size enc dec f (length es) (store_ring size enc f es r) ≡ map (λ x. dec (enc x)) es
-  unfolding store_ring ringOf
+      → ring_of size enc dec f (length es) (store_ring size enc f es r) ≡ map (λ x. dec (enc x)) es
+  unfolding store_ring ring_of
   ring_read dec f [] r h n g = refl
   ring_read dec f (e ∷ es) r h n g =
       let f' : ℕ = (f + 1) % 1024 in

@@ -30,69 +30,69 @@ module _ {A : Type 0} (size : ℕ) (enc : A → List ℕ) where
 
   module _ (dec : List ℕ → A) where
     -- the region's own rows over it: nothing changes
-    pub store-rows : (n : ℕ) (r : List ℕ) → ((i : ℕ) → i < n → enc (dec (take size (drop (i * size) r))) ≡ take size (drop (i * size) r))
+    pub store_rows_lem : (n : ℕ) (r : List ℕ) → ((i : ℕ) → i < n → enc (dec (take size (drop (i * size) r))) ≡ take size (drop (i * size) r))
         → store_rows n (rows size dec n r) r ≡ r
     unfolding store_rows rows
-    store-rows zero r h = refl
-    store-rows (suc n) r h =
+    store_rows_lem zero r h = refl
+    store_rows_lem (suc n) r h =
         let a : enc (dec (take size r)) ≡ take size r = rw zero-mul at (h 0 (omega arith)) in
         let b : (i : ℕ) → i < n → enc (dec (take size (drop (i * size) (drop size r)))) ≡ take size (drop (i * size) (drop size r)) =
         λ i g. rw (drop-drop (i * size) size r, add_comm size (i * size), ← suc-mul i size) (h (suc i) (omega arith)) in
-        ap₂ ◌++◌ a (store-rows n (drop size r) b) ∙ take-append-drop size r
+        ap₂ ◌++◌ a (store_rows_lem n (drop size r) b) ∙ take-append-drop size r
 
   module _ (whole : (x : A) → length (enc x) ≡ size) where
-    pub length-storeRows : (n : ℕ) (xs : List A) (r : List ℕ) → n * size ≤ length r → length xs * size ≤ length r
+    pub length_store_rows : (n : ℕ) (xs : List A) (r : List ℕ) → n * size ≤ length r → length xs * size ≤ length r
         → length (store_rows n xs r) ≡ length r
     unfolding store_rows
-    length-storeRows zero [] r h g = refl
-    length-storeRows (suc n) [] r h g =
+    length_store_rows zero [] r h g = refl
+    length_store_rows (suc n) [] r h g =
         let h' : n * size + size ≤ length r = rw suc-mul at h in
         let l' : length (drop size r) ≡ length r - size = length-drop size r in
-        let ih = length-storeRows n [] (drop size r) (omega arith) (omega (arith, zero-mul size)) in
+        let ih = length_store_rows n [] (drop size r) (omega arith) (omega (arith, zero-mul size)) in
         length-append (replicate size 0) (store_rows n [] (drop size r)) ∙ omega (arith, length-replicate {A = ℕ} size 0)
-    length-storeRows zero (x ∷ xs) r h g =
+    length_store_rows zero (x ∷ xs) r h g =
         let g' : length xs * size + size ≤ length r = rw suc-mul at g in
         let l' : length (drop size r) ≡ length r - size = length-drop size r in
-        let ih = length-storeRows 0 xs (drop size r) (omega (arith, zero-mul size)) (omega arith) in
+        let ih = length_store_rows 0 xs (drop size r) (omega (arith, zero-mul size)) (omega arith) in
         length-append (enc x) (store_rows 0 xs (drop size r)) ∙ omega (arith, whole x)
-    length-storeRows (suc n) (x ∷ xs) r h g =
+    length_store_rows (suc n) (x ∷ xs) r h g =
         let h' : n * size + size ≤ length r = rw suc-mul at h in
         let g' : length xs * size + size ≤ length r = rw suc-mul at g in
         let l' : length (drop size r) ≡ length r - size = length-drop size r in
-        let ih = length-storeRows n xs (drop size r) (omega arith) (omega arith) in
+        let ih = length_store_rows n xs (drop size r) (omega arith) (omega arith) in
         length-append (enc x) (store_rows n xs (drop size r)) ∙ omega (arith, whole x)
 
     -- the bytes of row i
-    pub row-stored : (n : ℕ) (xs : List A) (r : List ℕ) (i : ℕ) (d : A) → i < length xs
+    pub row_stored : (n : ℕ) (xs : List A) (r : List ℕ) (i : ℕ) (d : A) → i < length xs
         → take size (drop (i * size) (store_rows n xs r)) ≡ enc (get_or xs i d)
     unfolding store_rows
-    row-stored n (x ∷ xs) r zero d h = rw zero-mul (take_at (enc x) (store_rows (less n) xs (drop size r)) size (whole x))
-    row-stored n (x ∷ xs) r (suc i) d h =
+    row_stored n (x ∷ xs) r zero d h = rw zero-mul (take_at (enc x) (store_rows (less n) xs (drop size r)) size (whole x))
+    row_stored n (x ∷ xs) r (suc i) d h =
         rw (suc-mul, add_comm (i * size) size, ← drop-drop (i * size) size, drop_at (enc x) (store_rows (less n) xs (drop size r)) size (whole x))
-        (row-stored (less n) xs (drop size r) i d (omega arith))
+        (row_stored (less n) xs (drop size r) i d (omega arith))
 
     -- what is stored is read back
-    pub rows-stored : (dec : List ℕ → A) → ((x : A) → dec (enc x) ≡ x) → (n : ℕ) (xs : List A) (r : List ℕ)
+    pub rows_stored : (dec : List ℕ → A) → ((x : A) → dec (enc x) ≡ x) → (n : ℕ) (xs : List A) (r : List ℕ)
         → rows size dec (length xs) (store_rows n xs r) ≡ xs
     unfolding store_rows rows
-    rows-stored dec de n [] r = refl
-    rows-stored dec de n (x ∷ xs) r =
+    rows_stored dec de n [] r = refl
+    rows_stored dec de n (x ∷ xs) r =
         let s : List ℕ = store_rows (less n) xs (drop size r) in
         ap₂ ◌∷◌ (ap dec (take_at (enc x) s size (whole x)) ∙ de x)
-        (ap (rows size dec (length xs)) (drop_at (enc x) s size (whole x)) ∙ rows-stored dec de (less n) xs (drop size r))
+        (ap (rows size dec (length xs)) (drop_at (enc x) s size (whole x)) ∙ rows_stored dec de (less n) xs (drop size r))
 
     -- a run of stores inside row i, which make of its bytes those of y
-    pub storeRows-set : (n : ℕ) (xs : List A) (r : List ℕ) (i off : ℕ) (bs : List ℕ) (y d : A) → i < length xs → off + length bs ≤ size
+    pub store_rows_set : (n : ℕ) (xs : List A) (r : List ℕ) (i off : ℕ) (bs : List ℕ) (y d : A) → i < length xs → off + length bs ≤ size
         → enc y ≡ sets (enc (get_or xs i d)) off bs
         → sets (store_rows n xs r) (i * size + off) bs ≡ store_rows n (set xs i y) r
     unfolding store_rows
-    storeRows-set n (x ∷ xs) r zero off bs y d h f e =
+    store_rows_set n (x ∷ xs) r zero off bs y d h f e =
         let s : List ℕ = store_rows (less n) xs (drop size r) in
         ap (λ (k : ℕ). sets (enc x ++ s) k bs) (omega (arith, zero-mul size))
         ∙ sets_left (enc x) s off bs (omega (arith, whole x))
         ∙ ap (λ (z : List ℕ). z ++ s) (sym e)
-    storeRows-set n (x ∷ xs) r (suc i) off bs y d h f e =
+    store_rows_set n (x ∷ xs) r (suc i) off bs y d h f e =
         let s : List ℕ = store_rows (less n) xs (drop size r) in
         ap (λ (k : ℕ). sets (enc x ++ s) k bs) (let m = suc-mul i size in omega arith)
         ∙ sets_right (enc x) s size (whole x) (i * size + off) bs
-        ∙ ap (λ (z : List ℕ). enc x ++ z) (storeRows-set (less n) xs (drop size r) i off bs y d (omega arith) f e)
+        ∙ ap (λ (z : List ℕ). enc x ++ z) (store_rows_set (less n) xs (drop size r) i off bs y d (omega arith) f e)

@@ -106,23 +106,23 @@ module _ (l : List ℕ) where
   -- ---- the calls
 
   module _ (ok : tested l ≡ true) where
-    pub close-suits : (request : List ℕ) (room : ℕ) → Suits (close_call request room (view l)).1 l
+    pub close_suits : (request : List ℕ) (room : ℕ) → Suits (close_call request room (view l)).1 l
     unfolding close_call close_effect
-    close-suits request room =
+    close_suits request room =
         either_way (λ (z : State). Suits z l) (is_yes (close_answer request room (view l))) {x = close_by (view l) (close_of request)} {y = view l} (go (close_of request)) (suits_view l ok)
       where
         go : (q : CloseAnswer) → Suits (close_by (view l) q) l
         go NoClose = suits_view l ok
         go (Close t) = suits_closed t (view l) (suits_view l ok)
 
-    pub close-accepted : (request : List ℕ) (room : ℕ) → tested (store (close_call request room (view l)).1 l) ≡ true
-    close-accepted request room = tested_store (close_call request room (view l)).1 l (close-suits request room)
+    pub close_accepted : (request : List ℕ) (room : ℕ) → tested (store (close_call request room (view l)).1 l) ≡ true
+    close_accepted request room = tested_store (close_call request room (view l)).1 l (close_suits request room)
 
-    pub expire-suits : (t : ℕ) → Suits (expire_call t (view l)).1 l
+    pub expire_suits : (t : ℕ) → Suits (expire_call t (view l)).1 l
     unfolding expire_call expire_effect
-    expire-suits t =
+    expire_suits t =
         either_way (λ (z : State). Suits z l) (is_yes (expire_answer t (view l))) {x = expire_effect t (view l)} {y = view l}
         (suits_repeat (length (view l).table) t (view l) (suits_view l ok)) (suits_view l ok)
 
-    pub expire-accepted : (t : ℕ) → tested (store (expire_call t (view l)).1 l) ≡ true
-    expire-accepted t = tested_store (expire_call t (view l)).1 l (expire-suits t)
+    pub expire_accepted : (t : ℕ) → tested (store (expire_call t (view l)).1 l) ≡ true
+    expire_accepted t = tested_store (expire_call t (view l)).1 l (expire_suits t)

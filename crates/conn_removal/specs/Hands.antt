@@ -42,8 +42,8 @@ module _ (multicast : Bool) (id : ToId) (x : Sent) (s : List ℕ) where
       (λ st l o. ap (λ (b : Bool). with_table (cond (b && produces x.due) (change_first (in_stream id) (with_sent x) st.table) st.table) st) (sym e))
 
   module _ (em : multicast ≡ true) where
-    pub hands-silent : produces x.due ≡ false → Turns s s (handed multicast id x)
-    hands-silent e =
+    pub hands_silent : produces x.due ≡ false → Turns s s (handed multicast id x)
+    hands_silent e =
         turn_none s (handed multicast id x)
         (λ st l o. (λ j. with_table (cond (sym em j && sym e j) (change_first (in_stream id) (with_sent x) st.table) st.table) st))
 
@@ -52,8 +52,8 @@ module _ (multicast : Bool) (id : ToId) (x : Sent) (s : List ℕ) where
       handing st = λ j. with_table (cond (sym em j && sym ep j) (change_first (in_stream id) (with_sent x) st.table) st.table) st
 
       module _ (n : ℕ) (y : Found) (en : n ≡ connections_of s) (ey : y ≡ found_of (place (in_stream id) (conns_in n (table_in s)))) where
-        pub hands-nowhere : y ≡ Nowhere → Turns s s (handed multicast id x)
-        hands-nowhere e =
+        pub hands_nowhere : y ≡ Nowhere → Turns s s (handed multicast id x)
+        hands_nowhere e =
             turn_none s (handed multicast id x)
             (λ st l o.
             ap (λ (z : List Conn). with_table z st)
@@ -102,8 +102,8 @@ module _ (k : Kind) (i : ℕ) (s : List ℕ) where
     idling : (st : State) → with_contents (change_at i idle st.contents) st ≡ idled k i st
     idling st = ap (λ (b : Bool). with_contents (cond b (change_at i idle st.contents) st.contents) st) (sym ek)
 
-    pub idles-past : n ≤ i → Turns s s (idled k i)
-    idles-past h =
+    pub idles_past : n ≤ i → Turns s s (idled k i)
+    idles_past h =
         turn_none s (idled k i)
         (λ st l o. ap (λ (z : List Content). with_contents z st) (sym (change_past idle st.contents i (let q = assemblies_held s st l o.holds in omega arith))) ∙ idling st)
 

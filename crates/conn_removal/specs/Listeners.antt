@@ -4,7 +4,7 @@ use Rattle.std.proofs.Math.Option.{Option, none, some}
 use Rattle.std.proofs.Common.{ap, sym, subst, ◌∙◌, arith, eq-eqb}
 use Rattle.base_cells.specs.Records.{of_bool}
 use Rattle.rules.specs.Lists.{maybe, find, place, any, keep, without_first}
-use Rattle.rules_laws.specs.ListLaws.{by_cases, clash, find_passes, keep_all, all_to, none_found, without-keep-out}
+use Rattle.rules_laws.specs.ListLaws.{by_cases, clash, find_passes, keep_all, all_to, none_found, without_keep_out}
 use Rattle.rules.specs.State.{State, with_table, is_listener}
 use Rattle.rules.specs.Events.{event_record, appended, pushed, pushed_all}
 use Rattle.rules.specs.Removal.{in_stream, feeds, closed_events}
@@ -76,7 +76,7 @@ unfolding pushed event_record appended pushed_all
 all_found id st c e =
     let p : Conn → Bool = in_stream id in
     let a : keep (λ x. not (p x)) (without_first p st.table) ≡ keep (λ x. not (p x)) st.table =
-    without-keep-out p (λ x. not (p x)) c st.table e (ap not (find_passes p c st.table e)) in
+    without_keep_out p (λ x. not (p x)) c st.table e (ap not (find_passes p c st.table e)) in
     let b : c ∷ keep p (without_first p st.table) ≡ keep p st.table = sym (keep_first p c st.table e) in
     λ j.
     record {
@@ -242,14 +242,14 @@ module _ (k : Kind) (multicast : Bool) (id : ToId) (s : List ℕ) where
 
   module _ (r : Bool) (er : r ≡ feeder k multicast) (e : r ≡ true) (n : ℕ) (x : Found) (en : n ≡ connections_of s)
       (ex : x ≡ found_of (place (feeds id) (conns_in n (table_in s)))) where
-    pub ends-fed : (i : ℕ) → x ≡ At i → Turns s s (ended k multicast id)
-    ends-fed i ei =
+    pub ends_fed : (i : ℕ) → x ≡ At i → Turns s s (ended k multicast id)
+    ends_fed i ei =
         turn_none s (ended k multicast id)
         (λ st l o. ended_when k multicast id st false
         (ends_is st.table true true (sym er ∙ e) (place_any (feeds id) no_conn st.table i (found_there (feeds id) s n x en ex i ei st l o))))
 
-    pub ends-all : x ≡ Nowhere → (s' : List ℕ) → Turns s s' (all_closed id) → Turns s s' (ended k multicast id)
-    ends-all ei s' d =
+    pub ends_all : x ≡ Nowhere → (s' : List ℕ) → Turns s s' (all_closed id) → Turns s s' (ended k multicast id)
+    ends_all ei s' d =
         turn_as s s' (all_closed id) (ended k multicast id) d
         (λ st l o. ended_when k multicast id st true
         (ends_is st.table true false (sym er ∙ e) (place_never (feeds id) st.table (found_nowhere (feeds id) s n x en ex ei st l o))))

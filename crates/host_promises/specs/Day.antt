@@ -40,13 +40,13 @@ use Rattle.state_rules.specs.Image.{view}
 use Rattle.state_image.specs.Lift.{lifted, lifted_out}
 use Rattle.rules_lastword.specs.Clearing.{Heard_lately}
 use Rattle.app_starting.specs.Block.{dec_shape, marked_block, setup_given, kind_given, accepted, started, setup_call}
-use Rattle.app_starting.specs.Calls.{set-up}
+use Rattle.app_starting.specs.Calls.{set_up}
 use Rattle.adapter.specs.Origins.{origin_of}
 use Rattle.host_runs.specs.Contracts.{Said, Met}
 use Rattle.host_runs.specs.HostCalls.{HostCall, contract_of, call_of, CCall}
 use Rattle.host_runs.specs.Runs.{Turn, Ran, none, one, held, run_is_ruled}
 use Rattle.host_promises.specs.Owners.{Owner, run_read}
-use Rattle.host_promises.specs.Lane.{last_word, said_by, few_calls, Gives, output-is-the-last-word, run-byte-was-heard}
+use Rattle.host_promises.specs.Lane.{last_word, said_by, few_calls, Gives, output_is_the_last_word, run_byte_was_heard}
 
 -- ---- the setup: output 150 of 2 bytes, input 101 of 1, configuration 5 of 2; no EDS
 
@@ -65,7 +65,7 @@ block_says = refl
 
 -- a buffer of zeros is set up, which is answered 0
 begins : (0, started block [] 4) ≡ setup_call (replicate state_size 0) block [] 4
-begins = set-up (replicate state_size 0) block [] 4 (length-replicate {A = ℕ} state_size 0) block_accepted
+begins = set_up (replicate state_size 0) block [] 4 (length-replicate {A = ℕ} state_size 0) block_accepted
 
 -- ---- the calls, on whatever bytes they find
 
@@ -127,7 +127,7 @@ module _ (s s₁ s₂ s₃ : List ℕ) (a b c : Said) (set : (0, s) ≡ setup_ca
   unfolding place_of
   its_word =
       let there : place_of is_output (setup_given block []) 150 ≡ some 0 = ap (λ (u : Setup). place_of is_output u 150) block_says in
-      output-is-the-last-word (replicate state_size 0) block [] 4 s set (omega arith) 150 0 there ran_before (refl, (refl, tt))
+      output_is_the_last_word (replicate state_size 0) block [] 4 s set (omega arith) 150 0 there ran_before (refl, (refl, tt))
       (few_calls before (omega arith)) (replicate 3 0) s₃ c reading
 
 -- ---- with the expiry call before the read, the run byte means that the owner was heard
@@ -145,7 +145,7 @@ module _ (s s₁ s₂ s₃ s₄ : List ℕ) (a b d c : Said) (set : (0, s) ≡ s
       let y : answer (call_of reads) (run (call_of opens ∷ call_of hears ∷ call_of expires ∷ []) (fresh (setup_given block []) 4)) ≡ Wrote (1 ∷ 0xAA ∷ 0xBB ∷ []) =
       ap (λ (u : Setup). answer (call_of reads) (run (call_of opens ∷ call_of hears ∷ call_of expires ∷ []) (fresh u 4))) block_says ∙ computed.2 in
       let there : place_of is_output (setup_given block []) 150 ≡ some 0 = ap (λ (u : Setup). place_of is_output u 150) block_says in
-      run-byte-was-heard (replicate state_size 0) block [] 4 s set (omega arith) 150 0 there
+      run_byte_was_heard (replicate state_size 0) block [] 4 s set (omega arith) 150 0 there
       (one (CCall.On opens) a opening (one (CCall.On hears) b hearing none)) (refl, (refl, tt)) (few_calls ((CCall.On opens, a) ∷ (CCall.On hears, b) ∷ []) (omega arith))
       3000 s₃ d expiring (ap (λ (n : ℕ). n % 256) (f.0 ∙ ap answerNumber x)) (replicate 3 0) s₄ c reading
       (ap (λ (n : ℕ). n % 256) (f.1.0.0 ∙ ap answerNumber y)) (ap (λ (l : List ℕ). get_or l 0 0) (f.1.0.1 ∙ ap (λ (z : Answer). sets (replicate 3 0) 0 (answerBytes z)) y))

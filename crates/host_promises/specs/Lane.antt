@@ -16,7 +16,7 @@ use Rattle.rules.specs.Calls.{Call, answer, next, run}
 use Rattle.state_rules.specs.Image.{view, tested}
 use Rattle.rules_steps.specs.Steps.{log, News, Opening, Closing, Hearing, Expiring, Nothing, news, learnt, history, history_next, run_next}
 use Rattle.rules_lastword.specs.Words.{Word, word_of, no_word, in_run, holds, opens, early}
-use Rattle.rules_lastword.specs.LastWord.{lane-obeys, host-reads-the-word}
+use Rattle.rules_lastword.specs.LastWord.{lane_obeys, host_reads_the_word}
 use Rattle.rules_lastword.specs.Clearing.{Heard_lately, in_run_was_heard}
 use Rattle.app_starting.specs.Block.{setup_given, setup_call}
 use Rattle.host_runs.specs.Contracts.{Said, Met, Told}
@@ -171,61 +171,61 @@ module _ (l block eds : List ℕ) (seed : ℕ) (s : List ℕ) (e : (0, s) ≡ se
 
   -- the state is the rules', and so are the history's words
   module _ {ts : List Turn} {s' : List ℕ} (r : Ran ts s s') (same : One_setup ts) where
-    as-run : view s' ≡ run (calls_of ts) (fresh u seed)
-    as-run = let f = run_is_ruled l block eds seed s e r in f.holds ∙ run_same ts (fresh u seed) f.answers same
+    as_run : view s' ≡ run (calls_of ts) (fresh u seed)
+    as_run = let f = run_is_ruled l block eds seed s e r in f.holds ∙ run_same ts (fresh u seed) f.answers same
 
-    as-opens : history opens (log (calls_of ts) (fresh u seed)) 0 ≡ opens_in ts
-    as-opens = sym (history_same opens opens_look ts (fresh u seed) 0 (run_is_ruled l block eds seed s e r).answers same)
+    as_opens : history opens (log (calls_of ts) (fresh u seed)) 0 ≡ opens_in ts
+    as_opens = sym (history_same opens opens_look ts (fresh u seed) 0 (run_is_ruled l block eds seed s e r).answers same)
 
-    as-word : (n i : ℕ) → history (word_of u n (shape_at u i).size) (log (calls_of ts) (fresh u seed)) no_word ≡ last_word u n i ts
-    as-word n i =
+    as_word : (n i : ℕ) → history (word_of u n (shape_at u i).size) (log (calls_of ts) (fresh u seed)) no_word ≡ last_word u n i ts
+    as_word n i =
         let size = (shape_at u i).size in
         sym (history_same (word_of u n size) (word_looks u n size) ts (fresh u seed) no_word (run_is_ruled l block eds seed s e r).answers same)
 
   module _ (n i : ℕ) (there : place_of is_output u n ≡ some i) where
     -- WHAT OUTPUT ANSWERS is the last word of its live owner
-    pub output-is-the-last-word : {ts : List Turn} {s' : List ℕ} → Ran ts s s' → One_setup ts → early (opens_in ts) ≡ true
+    pub output_is_the_last_word : {ts : List Turn} {s' : List ℕ} → Ran ts s s' → One_setup ts → early (opens_in ts) ≡ true
         → (out s'' : List ℕ) (a : Said) → Met (contract_of (HostCall.Output n out)) s' s'' a → Gives (said_by u i (last_word u n i ts)) out a
-    output-is-the-last-word {ts} {s'} r same few out s'' a m =
+    output_is_the_last_word {ts} {s'} r same few out s'' a m =
         let f = run_is_ruled l block eds seed s e r in
         let told = (agrees (CCall.On (HostCall.Output n out)) s' f.passes s'' a m).answers in
-        let few' = ap early (as-opens r same) ∙ few in
+        let few' = ap early (as_opens r same) ∙ few in
         let x : answer (Calls.ReadOutput n (length out)) (view s') ≡ fitting (length out) (said_by u i (last_word u n i ts)) (Wrote (said_by u i (last_word u n i ts))) =
-        ap (answer (Calls.ReadOutput n (length out))) (as-run r same)
-        ∙ host-reads-the-word u n i there seed small (calls_of ts) few' (length out)
-        ∙ ap (λ (w : Word). fitting (length out) (said_by u i w) (Wrote (said_by u i w))) (as-word r same n i) in
+        ap (answer (Calls.ReadOutput n (length out))) (as_run r same)
+        ∙ host_reads_the_word u n i there seed small (calls_of ts) few' (length out)
+        ∙ ap (λ (w : Word). fitting (length out) (said_by u i w) (Wrote (said_by u i w))) (as_word r same n i) in
         gives (said_by u i (last_word u n i ts)) out a (subst (λ (y : Answer). Told y out a) x told)
 
     -- AND IT WAS HEARD: after an expiry call at time t, answered yes, the run byte 1 means that a frame of the owner was recorded, the last one
     -- at most its timeout before t
-    pub run-byte-was-heard : {ts : List Turn} {s' : List ℕ} → Ran ts s s' → One_setup ts → early (opens_in ts) ≡ true
+    pub run_byte_was_heard : {ts : List Turn} {s' : List ℕ} → Ran ts s s' → One_setup ts → early (opens_in ts) ≡ true
         → (t : ℕ) (s'' : List ℕ) (a : Said) → Met (contract_of (HostCall.Expire t)) s' s'' a → a.number % 256 ≡ 0
         → (out s''' : List ℕ) (b : Said) → Met (contract_of (HostCall.Output n out)) s'' s''' b → b.number % 256 ≡ 0 → get_or b.output 0 0 ≡ 1
         → Heard_lately t (last_word u n i (ts ++ ((CCall.On (HostCall.Expire t), a) ∷ [])))
-    run-byte-was-heard {ts} {s'} r same few t s'' a m y out s''' b k z one_byte =
+    run_byte_was_heard {ts} {s'} r same few t s'' a m y out s''' b k z one_byte =
         let cs : List Call = calls_of ts in
         let c : Call = Calls.Expire t in
         let st : State = fresh u seed in
         let r' = ran_more (CCall.On (HostCall.Expire t)) a r m in
         let same' = setup_more ts (CCall.On (HostCall.Expire t)) a same refl in
         let more = calls_more ts (HostCall.Expire t) a in
-        let few₀ : early (history opens (log cs st) 0) ≡ true = ap early (as-opens r same) ∙ few in
+        let few₀ : early (history opens (log cs st) 0) ≡ true = ap early (as_opens r same) ∙ few in
         let few₁ : early (history opens (log (cs ++ (c ∷ [])) st) 0) ≡ true =
-        ap early (history_next opens cs c st 0 ∙ no-open (is_yes (answer c (run cs st))) t (history opens (log cs st) 0)) ∙ few₀ in
-        let w = as-word r' same' n i in
+        ap early (history_next opens cs c st 0 ∙ no_open (is_yes (answer c (run cs st))) t (history opens (log cs st) 0)) ∙ few₀ in
+        let w = as_word r' same' n i in
         let few₂ : early (opens_in (ts ++ ((CCall.On (HostCall.Expire t), a) ∷ []))) ≡ true =
-        ap early (sym (as-opens r' same') ∙ ap (λ (x : List Call). history opens (log x st) 0) more) ∙ few₁ in
-        let says = first_is_run _ _ out b (output-is-the-last-word r' same' few₂ out s''' b k) z one_byte in
+        ap early (sym (as_opens r' same') ∙ ap (λ (x : List Call). history opens (log x st) 0) more) ∙ few₁ in
+        let says = first_is_run _ _ out b (output_is_the_last_word r' same' few₂ out s''' b k) z one_byte in
         let w' = ap (λ (x : List Call). history (word_of u n (shape_at u i).size) (log x st) no_word) (sym more) ∙ w in
         let runs : (content_at (next c (run cs st)) i).run ≡ true =
-        ap (λ (x : State). (content_at x i).run) (sym (run_next cs c st)) ∙ (lane-obeys u n i there seed small (cs ++ (c ∷ [])) few₁).run ∙ ap in_run w' ∙ says in
-        subst (Heard_lately t) w' (in_run_was_heard u n i there seed small cs few₀ t (in-time (run_is_ruled l block eds seed s e r).passes) runs)
+        ap (λ (x : State). (content_at x i).run) (sym (run_next cs c st)) ∙ (lane_obeys u n i there seed small (cs ++ (c ∷ [])) few₁).run ∙ ap in_run w' ∙ says in
+        subst (Heard_lately t) w' (in_run_was_heard u n i there seed small cs few₀ t (in_time (run_is_ruled l block eds seed s e r).passes) runs)
       where
-        no-open : (q : Bool) (t d : ℕ) → learnt opens (cond q (Expiring t) Nothing) d ≡ d
-        no-open true t d = refl
-        no-open false t d = refl
+        no_open : (q : Bool) (t d : ℕ) → learnt opens (cond q (Expiring t) Nothing) d ≡ d
+        no_open true t d = refl
+        no_open false t d = refl
 
-        in-time : tested s' ≡ true → timely t ≡ true
-        in-time ok =
+        in_time : tested s' ≡ true → timely t ≡ true
+        in_time ok =
             by_cases (timely t) (λ (q : timely t ≡ true). q)
             (λ q. absurd (let x : a.number ≡ 3 = (agrees (CCall.On (HostCall.Expire t)) s' ok s'' a m).answers ∙ late_refused t (view s') q in omega arith))

@@ -87,11 +87,11 @@ low_is_yes (Refused Answers.NothingThere) = refl
 low_is_yes (Failed s) = ap (λ (n : ℕ). eqb n 0) (low_words (words_of s))
 
 seen_yes : (x : Answer) (a : Said) → a.number ≡ answerNumber x → is_yes (seen a) ≡ is_yes x
-seen_yes x a e = as-tested (eqb (a.number % 256) 0) ∙ ap (λ (n : ℕ). eqb (n % 256) 0) e ∙ low_is_yes x
+seen_yes x a e = as_tested (eqb (a.number % 256) 0) ∙ ap (λ (n : ℕ). eqb (n % 256) 0) e ∙ low_is_yes x
   where
-    as-tested : (b : Bool) → is_yes (cond b (Wrote a.output) (Refused NotParsed)) ≡ b
-    as-tested true = refl
-    as-tested false = refl
+    as_tested : (b : Bool) → is_yes (cond b (Wrote a.output) (Refused NotParsed)) ≡ b
+    as_tested true = refl
+    as_tested false = refl
 
 -- ---- the O→T id of an accepted open stands in the output
 
@@ -124,11 +124,11 @@ unfolding open_call open_answer
 open_stands t service request g out st = either_way (Stands out) (timely t) (asked_stands g request out st (open_asked service request)) (λ y. clash true refl (sym y))
 
 id_seen : (a : Said) → is_yes (seen a) ≡ true → answerBytes (seen a) ≡ a.output
-id_seen a = by-test (eqb (a.number % 256) 0)
+id_seen a = by_test (eqb (a.number % 256) 0)
   where
-    by-test : (b : Bool) → is_yes (cond b (Wrote a.output) (Refused NotParsed)) ≡ true → answerBytes (cond b (Wrote a.output) (Refused NotParsed)) ≡ a.output
-    by-test true y = refl
-    by-test false y = clash true refl (sym y)
+    by_test : (b : Bool) → is_yes (cond b (Wrote a.output) (Refused NotParsed)) ≡ true → answerBytes (cond b (Wrote a.output) (Refused NotParsed)) ≡ a.output
+    by_test true y = refl
+    by_test false y = clash true refl (sym y)
 
 -- ---- a reading that looks at no more of an accepted open's answer than the id in it
 abbrev pub Looks : {G : Type 0} → Reading G → Type 0

@@ -18,7 +18,7 @@ use Rattle.state_rules.specs.Image.{view, store, tested}
 use Rattle.state_image.specs.ViewLaws.{store_view}
 use Rattle.state_image.specs.Lift.{lifted_fails, lifted_passes, out_fails, read_fails}
 use Rattle.app_starting.specs.Block.{accepted}
-use Rattle.app_starting.specs.Calls.{other_size, bad-setup, set-up}
+use Rattle.app_starting.specs.Calls.{other_size, bad_setup, set_up}
 use Rattle.msg_positions.specs.Positions.{dec_upload}
 use Rattle.msg_answering.specs.Positions.{position_tested, whole_tested}
 use Rattle.msg_answering.specs.Lifted.{lifted_message}
@@ -73,8 +73,8 @@ module _ (s s' : List ℕ) (a : Said) (b : Bytes s) (n : No a) where
   sets_no block eds seed m =
       by_cases (eqb (length s) state_size)
       (λ y. by_cases (accepted block eds)
-      (λ z. absurd (n (ap (λ (x : ℕ × List ℕ). x.0 % 256) (m ∙ sym (set-up s block eds seed (eqb-true (length s) state_size y) z)))))
-      (λ z. ap (λ (x : ℕ × List ℕ). x.1) (m ∙ sym (bad-setup s block eds seed (eqb-true (length s) state_size y) z))))
+      (λ z. absurd (n (ap (λ (x : ℕ × List ℕ). x.0 % 256) (m ∙ sym (set_up s block eds seed (eqb-true (length s) state_size y) z)))))
+      (λ z. ap (λ (x : ℕ × List ℕ). x.1) (m ∙ sym (bad_setup s block eds seed (eqb-true (length s) state_size y) z))))
       (λ y. ap (λ (x : ℕ × List ℕ). x.1) (m ∙ sym (other_size s block eds seed (eqb-false (length s) state_size y))))
 
   stored : tested s ≡ true → (st : State) → st ≡ view s → store st s ≡ s
@@ -113,9 +113,9 @@ module _ (s s' : List ℕ) (a : Said) (b : Bytes s) (n : No a) where
     abbrev reply : Answer
     reply = message_answer local mask message (length out) (view s) (dec_upload upload)
 
-    replies-no : Met (Replies local mask message upload out) s s' a → (a.output ≡ out) × (Bytes upload → a.position ≡ upload)
+    replies_no : Met (Replies local mask message upload out) s s' a → (a.output ≡ out) × (Bytes upload → a.position ≡ upload)
     unfolding lifted_message message_call
-    replies-no m =
+    replies_no m =
         by_cases (tested s)
         (λ t. by_cases (position_tested (view s).setup upload)
         (λ p. let e = (rw (t, p) at m).0 in
@@ -132,7 +132,7 @@ module _ (s s' : List ℕ) (a : Said) (b : Bytes s) (n : No a) where
   by_kind (Writes call out) leaves m = writes_no call out leaves m
   by_kind (Reads call out) leaves m = (m.1, reads_no call out m)
   by_kind (Says call out) leaves m = (m.1, says_nothing call out m)
-  by_kind (Replies local mask message upload out) leaves m = (m.1, replies-no local mask message upload out m)
+  by_kind (Replies local mask message upload out) leaves m = (m.1, replies_no local mask message upload out m)
 
   -- A REFUSAL CHANGES NOTHING
   pub refusal : (c : CCall) → Met (contract c) s s' a → (s' ≡ s) × Unwritten (contract c) a

@@ -11,7 +11,7 @@ use Rattle.msg_positions.specs.Positions.{dec_upload}
 use Rattle.state_rules.specs.Image.{view, tested}
 use Rattle.msg_answering.specs.Positions.{position_tested}
 use Rattle.msg_answering.specs.Lifted.{lifted_message}
-use Rattle.msg_answering.specs.Accepted.{zeros_pass, message-accepted, message-bytes}
+use Rattle.msg_answering.specs.Accepted.{zeros_pass, message_accepted, message_bytes}
 use Rattle.host_runs.specs.Contracts.{Said, Met}
 use Rattle.host_runs.specs.HostCalls.{HostCall, contract_of, CCall}
 use Rattle.host_runs.specs.Steps.{same_next, suits, agrees}
@@ -60,8 +60,8 @@ served (asks local mask message out a {s} {s'} {p = p} bs m r) ok b t =
     let k : position_tested (view s').setup a.position ≡ true =
     ap (λ (u : Setup). position_tested u a.position) (setup_stays c s ok s' a m)
     ∙ ap (position_tested (view s).setup) q
-    ∙ message-accepted s ok bs local mask message p out b t in
-    let f = served r g.passes (subst Bytes (sym q) (message-bytes s ok bs local mask message p out b t)) k in
+    ∙ message_accepted s ok bs local mask message p out b t in
+    let f = served r g.passes (subst Bytes (sym q) (message_bytes s ok bs local mask message p out b t)) k in
     (f.0, (not_1 (view s) local mask message p (length out) a.number (g.answers.0 t).0.0, f.1))
 
 zero_bytes : (n i : ℕ) → get_or (replicate n 0) i 0 < 256

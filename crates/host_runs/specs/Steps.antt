@@ -16,16 +16,16 @@ use Rattle.state_rules.specs.Image.{view, store, tested}
 use Rattle.state_image.specs.Fits.{Suits, is_long}
 use Rattle.state_image.specs.ViewLaws.{suits_view, view_store}
 use Rattle.state_image.specs.Passes.{tested_store}
-use Rattle.state_image.specs.Lift.{lifted_out, lifted_read, lifted_passes, lifted-tested, lifted-view}
+use Rattle.state_image.specs.Lift.{lifted_out, lifted_read, lifted_passes, lifted_tested, lifted_view}
 use Rattle.app_starting.specs.Block.{accepted}
 use Rattle.app_starting.specs.Fresh.{view_started, tested_started}
-use Rattle.app_starting.specs.Calls.{bad-setup, set-up}
+use Rattle.app_starting.specs.Calls.{bad_setup, set_up}
 use Rattle.msg_answering.specs.Lifted.{lifted_message}
 use Rattle.app_answers.specs.Left.{input_suits, output_suits, event_suits}
 use Rattle.io_receiving.specs.Accepted.{receive_suits}
 use Rattle.io_producing.specs.Accepted.{produce_suits}
-use Rattle.conn_ending.specs.Accepted.{close-suits, expire-suits}
-use Rattle.open_answering.specs.Accepted.{open-suits}
+use Rattle.conn_ending.specs.Accepted.{close_suits, expire_suits}
+use Rattle.open_answering.specs.Accepted.{open_suits}
 use Rattle.adapter.specs.Origins.{origin_of}
 use Rattle.host_runs.specs.Contracts.{Said, Contract, Sets, Changes, Writes, Reads, Says, Replies, Met, next_by, answer_by, Answers}
 use Rattle.host_runs.specs.HostCalls.{HostCall, contract_of, call_of, CCall, contract, next_c, answer_c}
@@ -55,14 +55,14 @@ module _ (s : List ℕ) (ok : tested s ≡ true) (s' : List ℕ) (a : Said) wher
   sets_up block eds seed m =
       by_cases (accepted block eds)
       (λ y.
-      let e = m ∙ sym (set-up s block eds seed (is_long s ok) y) in
+      let e = m ∙ sym (set_up s block eds seed (is_long s ok) y) in
       record {
         passes = ap (λ (z : ℕ × List ℕ). tested z.1) e ∙ tested_started block eds seed y;
         holds = rw y (ap (λ (z : ℕ × List ℕ). view z.1) e ∙ view_started block eds seed y);
         answers = rw y (ap (λ (z : ℕ × List ℕ). z.0) e);
       })
       (λ n.
-      let e = m ∙ sym (bad-setup s block eds seed (is_long s ok) n) in
+      let e = m ∙ sym (bad_setup s block eds seed (is_long s ok) n) in
       record {
         passes = ap (λ (z : ℕ × List ℕ). tested z.1) e ∙ ok;
         holds = rw n (ap (λ (z : ℕ × List ℕ). view z.1) e);
@@ -73,8 +73,8 @@ module _ (s : List ℕ) (ok : tested s ≡ true) (s' : List ℕ) (a : Said) wher
   changes call w m =
       let e = ap (λ (z : ℕ × List ℕ). z.1) m in
       record {
-        passes = ap tested e ∙ lifted-tested call s ok w;
-        holds = ap view e ∙ lifted-view call s ok w;
+        passes = ap tested e ∙ lifted_tested call s ok w;
+        holds = ap view e ∙ lifted_view call s ok w;
         answers = ap (λ (z : ℕ × List ℕ). z.0) (m ∙ lifted_passes call s ok);
       }
 
@@ -164,12 +164,12 @@ module _ (s : List ℕ) (ok : tested s ≡ true) where
   suits (HostCall.Connections out) = suits_view s ok
   suits (HostCall.Stats out) = suits_view s ok
   suits (HostCall.Open time service request peer local mask given address port ioport out) =
-      open-suits s ok time service request (origin_of peer local mask given address port ioport) (length out)
+      open_suits s ok time service request (origin_of peer local mask given address port ioport) (length out)
   suits (HostCall.OpenRefusal service request out) = suits_view s ok
-  suits (HostCall.Close request out) = close-suits s ok request (length out)
+  suits (HostCall.Close request out) = close_suits s ok request (length out)
   suits (HostCall.Receive time from frame) = receive_suits s ok time from frame
   suits (HostCall.Produce time out) = produce_suits s ok time (length out)
-  suits (HostCall.Expire time) = expire-suits s ok time
+  suits (HostCall.Expire time) = expire_suits s ok time
   suits (HostCall.NextDeadline out) = suits_view s ok
   suits (HostCall.Message local mask message upload out) = suits_view s ok
 

@@ -72,13 +72,13 @@ module _ (s out : List ℕ) (n : ℕ) (en : n ≡ connections_of s) where
   pub short : (n ≢ 0) → length out < 8 → Answers deadline_answer s out 8 out
   unfolding deadline_answer answerNumber
   short z p st l h =
-      some_waits st.table (let k = conns_held s st l h in by-ne (length st.table) (λ e. z (en ∙ k ∙ e)))
+      some_waits st.table (let k = conns_held s st l h in by_ne (length st.table) (λ e. z (en ∙ k ∙ e)))
       (λ o. Answered (maybe (Refused NothingThere) (λ t. fitting (length out) (le_bytes 8 t) (Wrote (le_bytes 8 t))) o) out 8 out)
       (λ x.
       let k : length (le_bytes 8 x) ≡ 8 = length_le_bytes 8 x in
       let b : nat_le (length (le_bytes 8 x)) (length out) ≡ false = lt-leb (length (le_bytes 8 x)) (length out) (omega arith) in
       record { number = rw b; bytes = rw b })
     where
-      by-ne : (k : ℕ) → (k ≢ 0) → 0 < k
-      by-ne zero f = absurd (f refl)
-      by-ne (suc k) f = omega arith
+      by_ne : (k : ℕ) → (k ≢ 0) → 0 < k
+      by_ne zero f = absurd (f refl)
+      by_ne (suc k) f = omega arith

@@ -25,17 +25,17 @@ use Rattle.io_producing.specs.Passes.{packet_at, Sends}
 
 module _ (t i : ℕ) (s : List ℕ) (p : i < connections_of s) where
   module _ (x : Sent) (ex : x ≡ dec_sent (row_at (table_in s) i)) (b : Bool) (eb : b ≡ due_by t x.due) where
-    sent-held : (st : State) (l : List ℕ) → Holds s st l → (get_or st.table i no_conn).sent ≡ x
-    sent-held st l h = sym (ex ∙ ap (λ (c : Conn). c.sent) (row_held i s p st l h))
+    sent_held : (st : State) (l : List ℕ) → Holds s st l → (get_or st.table i no_conn).sent ≡ x
+    sent_held st l h = sym (ex ∙ ap (λ (c : Conn). c.sent) (row_held i s p st l h))
 
-    due-held : (st : State) (l : List ℕ) → Holds s st l → due t (get_or st.table i no_conn) ≡ b
-    due-held st l h = ap (λ (y : Sent). due_by t y.due) (sent-held st l h) ∙ sym eb
+    due_held : (st : State) (l : List ℕ) → Holds s st l → due t (get_or st.table i no_conn) ≡ b
+    due_held st l h = ap (λ (y : Sent). due_by t y.due) (sent_held st l h) ∙ sym eb
 
     -- not due: the row and the output stay
-    pub send-none : b ≡ false → (at : ℕ) (o : List ℕ) → Sends t i at s s o o 0
-    send-none e at o st l h q =
+    pub send_none : b ≡ false → (at : ℕ) (o : List ℕ) → Sends t i at s s o o 0
+    send_none e at o st l h q =
         let c : Conn = get_or st.table i no_conn in
-        let d : due t c ≡ false = due-held st l h ∙ e in
+        let d : due t c ≡ false = due_held st l h ∙ e in
         let k : packet_at t i st ≡ [] = no_packet t st.contents c d in
         let y : sends t c ≡ c = ap (λ (z : Bool). cond z (with_sent (sent t c) c) c) d in
         record {
@@ -48,32 +48,32 @@ module _ (t i : ℕ) (s : List ℕ) (p : i < connections_of s) where
       fixed_held : (st : State) (l : List ℕ) → Holds s st l → (get_or st.table i no_conn).fixed ≡ f
       fixed_held st l h = sym (ef ∙ ap (λ (c : Conn). c.fixed) (row_held i s p st l h))
 
-      packet-held : (st : State) (l : List ℕ) → Holds s st l → packet_at t i st ≡ packet_of f (stepped t f.torpi x) (take n (drop a s))
-      packet-held st l h =
-          due_packet t st.contents (get_or st.table i no_conn) (due-held st l h ∙ yes')
-          ∙ (λ j. packet_of (fixed_held st l h j) (stepped t (fixed_held st l h j).torpi (sent-held st l h j)) (input_bytes st.contents (fixed_held st l h j)))
+      packet_held : (st : State) (l : List ℕ) → Holds s st l → packet_at t i st ≡ packet_of f (stepped t f.torpi x) (take n (drop a s))
+      packet_held st l h =
+          due_packet t st.contents (get_or st.table i no_conn) (due_held st l h ∙ yes')
+          ∙ (λ j. packet_of (fixed_held st l h j) (stepped t (fixed_held st l h j).torpi (sent_held st l h j)) (input_bytes st.contents (fixed_held st l h j)))
           ∙ ap (packet_of f (stepped t f.torpi x)) (sym (d st l h))
 
-      size-held : (st : State) (l : List ℕ) → Holds s st l → length (packet_at t i st) ≡ 33 + n
-      size-held st l h =
-          ap length (packet-held st l h)
+      size_held : (st : State) (l : List ℕ) → Holds s st l → length (packet_at t i st) ≡ 33 + n
+      size_held st l h =
+          ap length (packet_held st l h)
           ∙ length_packet f (stepped t f.torpi x) (take n (drop a s))
           ∙ ap (λ (m : ℕ). 33 + m) (length-take-le n (drop a s) (rw length-drop (omega arith)))
 
       -- no room: this cannot be where there is room
-      pub send-short : (at : ℕ) (o o' s' : List ℕ) (r : ℕ) → at ≤ length o → length o - at < 33 + n → Sends t i at s s' o o' r
-      send-short at o o' s' r q w st l h v = absurd (let e = size-held st l h in omega arith)
+      pub send_short : (at : ℕ) (o o' s' : List ℕ) (r : ℕ) → at ≤ length o → length o - at < 33 + n → Sends t i at s s' o o' r
+      send_short at o o' s' r q w st l h v = absurd (let e = size_held st l h in omega arith)
 
-      pub send-some : (at : ℕ) (o part : List ℕ) → at ≤ length o → 33 + n ≤ length o - at → (y : Sent) → y ≡ stepped t f.torpi x
+      pub send_some : (at : ℕ) (o part : List ℕ) → at ≤ length o → 33 + n ≤ length o - at → (y : Sent) → y ≡ stepped t f.torpi x
           → (d' : List ℕ) → d' ≡ take n (drop a s) → part ≡ sets (take (length o - at) (drop at o)) 0 (packet_of f y d')
           → (s' : List ℕ) → Becomes s s' (sent_as i y) → Sends t i at s s' o (put_mid at (length o - at) o part) (33 + n)
-      send-some at o part q w y ey d' ed ep s' b' st l h v =
+      send_some at o part q w y ey d' ed ep s' b' st l h v =
           let c : Conn = get_or st.table i no_conn in
-          let m = size-held st l h in
+          let m = size_held st l h in
           let sc : with_sent y c ≡ sends t c =
-          sym (ap (λ (z : Bool). cond z (with_sent (sent t c) c) c) (due-held st l h ∙ yes')
-          ∙ ap (λ (z : Sent). with_sent z c) (sent_is t c ∙ (λ j. stepped t (fixed_held st l h j).torpi (sent-held st l h j)) ∙ sym ey)) in
-          let pk : packet_of f y d' ≡ packet_at t i st = (λ j. packet_of f (ey j) (ed j)) ∙ sym (packet-held st l h) in
+          sym (ap (λ (z : Bool). cond z (with_sent (sent t c) c) c) (due_held st l h ∙ yes')
+          ∙ ap (λ (z : Sent). with_sent z c) (sent_is t c ∙ (λ j. stepped t (fixed_held st l h j).torpi (sent_held st l h j)) ∙ sym ey)) in
+          let pk : packet_of f y d' ≡ packet_at t i st = (λ j. packet_of f (ey j) (ed j)) ∙ sym (packet_held st l h) in
           record {
             is = b' st l h ∙ ap (λ (z : Conn). store (with_table (set st.table i z) st) l) sc;
             out = ap (put_mid at (length o - at) o) (ep ∙ ap (sets (take (length o - at) (drop at o)) 0) pk) ∙ lent o at (length o - at) (packet_at t i st) (omega arith) (omega arith);

@@ -39,20 +39,20 @@ module _ (p : Conn → List ℕ) where
   joined_append (x ∷ xs) ys = ap (λ (z : List ℕ). p x ++ z) (joined_append xs ys) ∙ sym (append_assoc (p x) (joined p xs) (joined p ys))
 
   module _ (cs : List Conn) (i : ℕ) (h : i < length cs) where
-    joined-more : joined p (take (i + 1) cs) ≡ joined p (take i cs) ++ p (get_or cs i no_conn)
-    joined-more =
+    joined_more : joined p (take (i + 1) cs) ≡ joined p (take i cs) ++ p (get_or cs i no_conn)
+    joined_more =
         ap (λ (k : ℕ). joined p (take k cs)) (add-one i)
         ∙ ap (joined p) (take-suc cs i no_conn h)
         ∙ joined_append (take i cs) (get_or cs i no_conn ∷ [])
         ∙ ap (λ (z : List ℕ). joined p (take i cs) ++ z) (append-nil (p (get_or cs i no_conn)))
 
-    joined-room : length (joined p (take i cs)) + length (p (get_or cs i no_conn)) ≤ length (joined p cs)
-    joined-room =
+    joined_room : length (joined p (take i cs)) + length (p (get_or cs i no_conn)) ≤ length (joined p cs)
+    joined_room =
         let a : List ℕ = joined p (take (i + 1) cs) in
         let b : List ℕ = joined p (drop (i + 1) cs) in
         let e : length (joined p cs) ≡ length a + length b =
         ap (λ (z : List Conn). length (joined p z)) (sym (take-append-drop (i + 1) cs)) ∙ ap length (joined_append (take (i + 1) cs) (drop (i + 1) cs)) ∙ length-append a b in
-        let g : length a ≡ length (joined p (take i cs)) + length (p (get_or cs i no_conn)) = ap length joined-more ∙ length-append (joined p (take i cs)) (p (get_or cs i no_conn)) in
+        let g : length a ≡ length (joined p (take i cs)) + length (p (get_or cs i no_conn)) = ap length joined_more ∙ length-append (joined p (take i cs)) (p (get_or cs i no_conn)) in
         omega arith
 
 -- ---- the state and the output so far
@@ -105,10 +105,10 @@ send_turn t i at r s₀ s s' o₀ o o' p g d st l h q =
     let same : packet_at t i (after t i st) ≡ pk (get_or cs i no_conn) = ap pk (now_at t i cs here) in
     let lo : length o ≡ length o₀ = ap length w.out ∙ length-sets o₀ 0 (before t i st) in
     let fits : at + length (packet_at t i (after t i st)) ≤ length o =
-    let u = joined-room pk cs i here in let v = ap length same in let z = w.place in let n = ap length (packets_is t st.contents cs) in omega arith in
+    let u = joined_room pk cs i here in let v = ap length same in let z = w.place in let n = ap length (packets_is t st.contents cs) in omega arith in
     let y = d (after t i st) l w.held fits in
     let nx : sent_row t i (after t i st) ≡ after t (i + 1) st = ap (λ (z : List Conn). with_table z st) (now_set t i cs here) in
-    let more = joined-more pk cs i here in
+    let more = joined_more pk cs i here in
     let at₀ : at ≡ 0 + length (before t i st) = let z = w.place in omega arith in
     record {
       held = record { is = y.is ∙ ap (λ (z : State). store z l) nx; suits = subst (λ (z : State). Suits z l) nx (suits_row (after t i st) l w.held.suits i (sends t (get_or (after t i st).table i no_conn)) (send_fixed t (get_or (after t i st).table i no_conn))) };

@@ -59,24 +59,24 @@ module _ (t : ℕ) (f : Frame) (i : ℕ) (st : State) where
     unfolding hear
     row_is = rw nw (ap (λ (z : Heard). with_heard z (get_or st.table i no_conn)) ey)
 
-    plain-state : has_cip f (get_or st.table i no_conn) ≡ false → heard_at t f i st ≡ heard_as i y st
+    plain_state : has_cip f (get_or st.table i no_conn) ≡ false → heard_at t f i st ≡ heard_as i y st
     unfolding taken
-    plain-state e =
+    plain_state e =
         let c : Conn = get_or st.table i no_conn in
         untaken ((λ j. nw j && e j && not (repeats f c.heard) && right_size st.setup f c.fixed))
         (set st.table i (with_heard y c)) (ap (set st.table i) row_is)
 
-    again-state : has_cip f (get_or st.table i no_conn) ≡ true → repeats f (get_or st.table i no_conn).heard ≡ true → heard_at t f i st ≡ heard_as i y st
+    again_state : has_cip f (get_or st.table i no_conn) ≡ true → repeats f (get_or st.table i no_conn).heard ≡ true → heard_at t f i st ≡ heard_as i y st
     unfolding taken
-    again-state e g =
+    again_state e g =
         let c : Conn = get_or st.table i no_conn in
         untaken ((λ j. nw j && e j && not (g j) && right_size st.setup f c.fixed))
         (set st.table i (with_heard y c)) (ap (set st.table i) row_is)
 
-    offer-state : has_cip f (get_or st.table i no_conn) ≡ true → repeats f (get_or st.table i no_conn).heard ≡ false
+    offer_state : has_cip f (get_or st.table i no_conn) ≡ true → repeats f (get_or st.table i no_conn).heard ≡ false
         → heard_at t f i st ≡ offered f (get_or st.table i no_conn).fixed.output (heard_as i y st)
     unfolding taken heard_at offered accepted pushed_all
-    offer-state e g =
+    offer_state e g =
         let c : Conn = get_or st.table i no_conn in
         let o : ℕ = c.fixed.output in
         let u = st.setup in
@@ -122,24 +122,24 @@ module _ (s : List ℕ) (st : State) (l : List ℕ) (h : Holds s st l) (i : ℕ)
     fixed_is : (get_or st.table i no_conn).fixed ≡ x
     fixed_is = sym (ex ∙ ap (λ (z : Conn). z.fixed) is_conn)
 
-    cip-is : has_cip f (get_or st.table i no_conn) ≡ b
-    cip-is = (λ j. is_owner (fixed_is j).kind && leb 2 (length (ed j))) ∙ sym eb
+    cip_is : has_cip f (get_or st.table i no_conn) ≡ b
+    cip_is = (λ j. is_owner (fixed_is j).kind && leb 2 (length (ed j))) ∙ sym eb
 
-    until-is : t + timeout_of (get_or st.table i no_conn).fixed.otrpi (get_or st.table i no_conn).fixed.multiplier ≡ u
-    until-is = (λ j. t + timeout_of (fixed_is j).otrpi (fixed_is j).multiplier) ∙ sym eu
+    until_is : t + timeout_of (get_or st.table i no_conn).fixed.otrpi (get_or st.table i no_conn).fixed.multiplier ≡ u
+    until_is = (λ j. t + timeout_of (fixed_is j).otrpi (fixed_is j).multiplier) ∙ sym eu
 
-    plain-is : b ≡ false → recorded t f (get_or st.table i no_conn) ≡ record { until = u; any = true; sequence = q; anycip = y.anycip; cip = y.cip }
+    plain_is : b ≡ false → recorded t f (get_or st.table i no_conn) ≡ record { until = u; any = true; sequence = q; anycip = y.anycip; cip = y.cip }
     unfolding recorded
-    plain-is e =
-        let n : has_cip f c ≡ false = cip-is ∙ e in
+    plain_is e =
+        let n : has_cip f c ≡ false = cip_is ∙ e in
         let a : (has_cip f c || c.heard.anycip) ≡ y.anycip = λ j. n j || (heard_is j).anycip in
         let k : cond (has_cip f c) (le 2 f.payload 0) c.heard.cip ≡ y.cip = λ j. cond (n j) (le 2 f.payload 0) (heard_is j).cip in
-        λ j. record { until = until-is j; any = true; sequence = eq j; anycip = a j; cip = k j }
+        λ j. record { until = until_is j; any = true; sequence = eq j; anycip = a j; cip = k j }
 
-    pub hear-plain : b ≡ false → (s₁ : List ℕ) → Becomes s s₁ (heard_as i (record { until = u; any = true; sequence = q; anycip = y.anycip; cip = y.cip }))
+    pub hear_plain : b ≡ false → (s₁ : List ℕ) → Becomes s s₁ (heard_as i (record { until = u; any = true; sequence = q; anycip = y.anycip; cip = y.cip }))
         → s₁ ≡ store (heard_at t f i st) l
-    hear-plain e s₁ be =
-        be st l h ∙ ap (λ (z : State). store z l) (sym (plain-state t f i st (newer_is ∙ nw) (record { until = u; any = true; sequence = q; anycip = y.anycip; cip = y.cip }) (plain-is e) (cip-is ∙ e)))
+    hear_plain e s₁ be =
+        be st l h ∙ ap (λ (z : State). store z l) (sym (plain_state t f i st (newer_is ∙ nw) (record { until = u; any = true; sequence = q; anycip = y.anycip; cip = y.cip }) (plain_is e) (cip_is ∙ e)))
 
     module _ (aye : b ≡ true) (v : ℕ) (ev : v ≡ le 2 d 0) (s₁ : List ℕ) (be : Becomes s s₁ (heard_as i (record { until = u; any = true; sequence = q; anycip = true; cip = v })))
         (r : Bool) (er : r ≡ y.anycip && eqb y.cip v) where
@@ -149,26 +149,26 @@ module _ (s : List ℕ) (st : State) (l : List ℕ) (h : Holds s st l) (i : ℕ)
       whole_is : recorded t f (get_or st.table i no_conn) ≡ record { until = u; any = true; sequence = q; anycip = true; cip = v }
       unfolding recorded
       whole_is =
-          let n : has_cip f c ≡ true = cip-is ∙ aye in
+          let n : has_cip f c ≡ true = cip_is ∙ aye in
           let a : (has_cip f c || c.heard.anycip) ≡ true = λ j. n j || c.heard.anycip in
           let k : cond (has_cip f c) (le 2 f.payload 0) c.heard.cip ≡ v = (λ j. cond (n j) (le 2 (ed j) 0) c.heard.cip) ∙ sym ev in
-          λ j. record { until = until-is j; any = true; sequence = eq j; anycip = a j; cip = k j }
+          λ j. record { until = until_is j; any = true; sequence = eq j; anycip = a j; cip = k j }
 
-      repeats-is : repeats f (get_or st.table i no_conn).heard ≡ r
-      repeats-is = (λ j. (heard_is j).anycip && eqb (heard_is j).cip (le 2 (ed j) 0)) ∙ ap (λ (z : ℕ). y.anycip && eqb y.cip z) (sym ev) ∙ sym er
+      repeats_is : repeats f (get_or st.table i no_conn).heard ≡ r
+      repeats_is = (λ j. (heard_is j).anycip && eqb (heard_is j).cip (le 2 (ed j) 0)) ∙ ap (λ (z : ℕ). y.anycip && eqb y.cip z) (sym ev) ∙ sym er
 
-      pub hear-again : r ≡ true → s₁ ≡ store (heard_at t f i st) l
-      hear-again e =
+      pub hear_again : r ≡ true → s₁ ≡ store (heard_at t f i st) l
+      hear_again e =
           be st l h
-          ∙ ap (λ (z : State). store z l) (sym (again-state t f i st (newer_is ∙ nw) new whole_is (cip-is ∙ aye) (repeats-is ∙ e)))
+          ∙ ap (λ (z : State). store z l) (sym (again_state t f i st (newer_is ∙ nw) new whole_is (cip_is ∙ aye) (repeats_is ∙ e)))
 
-      pub hear-offered : r ≡ false → (s₂ : List ℕ) → Offers x.output d s₁ s₂ → s₂ ≡ store (heard_at t f i st) l
-      hear-offered e s₂ bo =
+      pub hear_offered : r ≡ false → (s₂ : List ℕ) → Offers x.output d s₁ s₂ → s₂ ≡ store (heard_at t f i st) l
+      hear_offered e s₂ bo =
           let st₁ : State = heard_as i new st in
           let w : Suits st₁ l = suits_row st l h.suits i (with_heard new c) refl in
           bo f ed st₁ l (record { is = be st l h; suits = w })
           ∙ ap (λ (z : Fixed). store (offered f z.output st₁) l) (sym fixed_is)
-          ∙ ap (λ (z : State). store z l) (sym (offer-state t f i st (newer_is ∙ nw) new whole_is (cip-is ∙ aye) (repeats-is ∙ e)))
+          ∙ ap (λ (z : State). store z l) (sym (offer_state t f i st (newer_is ∙ nw) new whole_is (cip_is ∙ aye) (repeats_is ∙ e)))
 
 -- ---- hear_from
 

@@ -112,14 +112,14 @@ module _ (s : List ℕ) (o : ℕ) (p : o < assemblies_of s) (d : List ℕ) (was 
     run_is : run ≡ run_bit f
     run_is = er ∙ ap (λ (z : List ℕ). eqb (get_or z 2 0 % 2) 1) (sym ef)
 
-    was-is : was ≡ (content_at st o).run
-    was-is = ew ∙ run_held s st l h o there
+    was_is : was ≡ (content_at st o).run
+    was_is = ew ∙ run_held s st l h o there
 
-    test-is : b ≡ changes f (content_at st o)
+    test_is : b ≡ changes f (content_at st o)
     unfolding changes
-    test-is =
+    test_is =
         eb
-        ∙ (λ j. (rep st l h long).changed j || not (beq (was-is j) (run_is j)))
+        ∙ (λ j. (rep st l h long).changed j || not (beq (was_is j) (run_is j)))
         ∙ (λ j. not (same (content_at st o).bytes (data_is j)) || not (beq (content_at st o).run (run_bit f)))
         ∙ not_and (same (content_at st o).bytes (data_of f)) (beq (content_at st o).run (run_bit f))
 
@@ -130,13 +130,13 @@ module _ (s : List ℕ) (o : ℕ) (p : o < assemblies_of s) (d : List ℕ) (was 
         same_eq (content_at st o).bytes (drop 6 d) (not_false_is (same (content_at st o).bytes (drop 6 d)) (sym (rep st l h long).changed ∙ c)) in
         let k : bytes_as o (drop 6 d) st ≡ st =
         ap (λ (z : List ℕ). bytes_as o z st) (sym w) ∙ ap (λ (z : List Content). with_contents z st) (set-get_or st.contents o no_content) in
-        (rep st l h long).is ∙ ap (λ (z : State). store z l) (k ∙ sym (same_state f o st (sym test-is ∙ e)))
+        (rep st l h long).is ∙ ap (λ (z : State). store z l) (k ∙ sym (same_state f o st (sym test_is ∙ e)))
 
     held : Holds s₁ (bytes_as o (drop 6 d) st) l
     held = record { is = (rep st l h long).is; suits = suits_content st l h.suits o (record { bytes = drop 6 d; run = old.run; notified = old.notified }) long }
 
-    marked-is : mark_as o run true (bytes_as o (drop 6 d) st) ≡ fresh f o st
-    marked-is =
+    marked_is : mark_as o run true (bytes_as o (drop 6 d) st) ≡ fresh f o st
+    marked_is =
         let x : Content = record { bytes = drop 6 d; run = old.run; notified = old.notified } in
         let g : get_or (set st.contents o x) o no_content ≡ x = get_or-set_same st.contents o x no_content there in
         ap (λ (z : List Content). with_contents z st)
@@ -146,22 +146,22 @@ module _ (s : List ℕ) (o : ℕ) (p : o < assemblies_of s) (d : List ℕ) (was 
 
     module _ (s₂ : List ℕ) (be : Becomes s₁ s₂ (mark_as o run true)) (e : b ≡ true) where
       is₂ : s₂ ≡ store (fresh f o st) l
-      is₂ = be (bytes_as o (drop 6 d) st) l held ∙ ap (λ (z : State). store z l) marked-is
+      is₂ = be (bytes_as o (drop 6 d) st) l held ∙ ap (λ (z : State). store z l) marked_is
 
       -- whether an event waits already
       module _ (waits : Bool) (ew' : waits ≡ notified_in (mark_at s o)) where
         told_is : waits ≡ (content_at st o).notified
         told_is = ew' ∙ notified_held s st l h o there
 
-        pub take-quiet : waits ≡ true → s₂ ≡ store (accepted f o st) l
-        take-quiet y = is₂ ∙ ap (λ (z : State). store z l) (sym (quiet_state f o st (sym test-is ∙ e) (sym told_is ∙ y)))
+        pub take_quiet : waits ≡ true → s₂ ≡ store (accepted f o st) l
+        take_quiet y = is₂ ∙ ap (λ (z : State). store z l) (sym (quiet_state f o st (sym test_is ∙ e) (sym told_is ∙ y)))
 
-        pub take-told : waits ≡ false → (v : ℕ) → v ≡ (shape_in s o).instance → (s₃ : List ℕ) → Becomes s₂ s₃ (event_told (OutputChanged v)) → s₃ ≡ store (accepted f o st) l
-        take-told y v ev s₃ bp =
+        pub take_told : waits ≡ false → (v : ℕ) → v ≡ (shape_in s o).instance → (s₃ : List ℕ) → Becomes s₂ s₃ (event_told (OutputChanged v)) → s₃ ≡ store (accepted f o st) l
+        take_told y v ev s₃ bp =
             let w : Suits (fresh f o st) l = suits_content st l h.suits o (record { bytes = data_of f; run = run_bit f; notified = true }) (ap length (sym data_is) ∙ long) in
             bp (fresh f o st) l (record { is = is₂; suits = w })
             ∙ ap (λ (z : ℕ). store (event_told (OutputChanged z) (fresh f o st)) l) (ev ∙ ap (λ (z : Shape). z.instance) (shape_held s st l h o p))
-            ∙ ap (λ (z : State). store z l) (sym (told_state f o st (sym test-is ∙ e) (sym told_is ∙ y)))
+            ∙ ap (λ (z : State). store z l) (sym (told_state f o st (sym test_is ∙ e) (sym told_is ∙ y)))
 
 -- ---- offer
 
@@ -175,8 +175,8 @@ module _ (s : List ℕ) (o : ℕ) (d : List ℕ) (n : ℕ) (en : n ≡ assemblie
       h.is ∙ ap (λ (z : State). store z l) (sym (rw t))
 
   module _ (p : o < n) (v : ℕ) (ev : v ≡ (shape_in s o).size) where
-    in-range : (st : State) (l : List ℕ) → Holds s st l → ltb o (length st.setup.assemblies) ≡ true
-    in-range st l h =
+    in_range : (st : State) (l : List ℕ) → Holds s st l → ltb o (length st.setup.assemblies) ≡ true
+    in_range st l h =
         let a = assemblies_held s st l h in
         let c = h.suits.fits.contents in
         lt-ltb o (length st.setup.assemblies) (omega arith)
@@ -184,17 +184,17 @@ module _ (s : List ℕ) (o : ℕ) (d : List ℕ) (n : ℕ) (en : n ≡ assemblie
     size_is : (st : State) (l : List ℕ) → Holds s st l → v ≡ (shape_at st.setup o).size
     size_is st l h = ev ∙ ap (λ (z : Shape). z.size) (shape_held s st l h o (omega arith))
 
-    pub offer-other : (length d ≡ v + 6 → ⊥) → Offers o d s s
+    pub offer_other : (length d ≡ v + 6 → ⊥) → Offers o d s s
     unfolding offered
-    offer-other ne f ef st l h =
+    offer_other ne f ef st l h =
         let e : eqb (length f.payload) ((shape_at st.setup o).size + 6) ≡ false =
         ne_eqb (length f.payload) ((shape_at st.setup o).size + 6) (λ q. ne (let a = ap length ef in let b = size_is st l h in omega arith)) in
-        h.is ∙ ap (λ (z : State). store z l) (sym (rw (in-range st l h, e)))
+        h.is ∙ ap (λ (z : State). store z l) (sym (rw (in_range st l h, e)))
 
-    pub offer-taken : length d ≡ v + 6 → (s₂ : List ℕ) → TakesIn o d s s₂ → Offers o d s s₂
+    pub offer_taken : length d ≡ v + 6 → (s₂ : List ℕ) → TakesIn o d s s₂ → Offers o d s s₂
     unfolding offered
-    offer-taken q s₂ b f ef st l h =
+    offer_taken q s₂ b f ef st l h =
         let e : eqb (length f.payload) ((shape_at st.setup o).size + 6) ≡ true =
         eq-eqb (length f.payload) ((shape_at st.setup o).size + 6) (let a = ap length ef in let w = size_is st l h in omega arith) in
         b f ef st l h (let w = size_is st l h in let z = h.suits.fits.sized o in omega arith)
-        ∙ ap (λ (z : State). store z l) (sym (rw (in-range st l h, e)))
+        ∙ ap (λ (z : State). store z l) (sym (rw (in_range st l h, e)))

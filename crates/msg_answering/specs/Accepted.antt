@@ -28,12 +28,12 @@ use Rattle.rules.specs.Attributes.{Outcome}
 use Rattle.rules.specs.Upload.{clamped, started, initiate, turn_of, advanced, transfer_for, transfer, position_tests, position_ok, upload_ok}
 use Rattle.rules.specs.Objects.{eds_instance, initiate_upload, upload_transfer, eds_file, file}
 use Rattle.rules.specs.Message.{file_in, of_class, of_object, of_request, message_outcome, message_answer, message_call}
-use Rattle.rules_laws.specs.ReplyLaws.{position-kept}
+use Rattle.rules_laws.specs.ReplyLaws.{position_kept}
 use Rattle.state_rules.specs.Places.{setup_in, assemblies_of}
 use Rattle.state_rules.specs.Image.{view, tested}
 use Rattle.msg_positions.specs.Positions.{w_position, dec_upload, last_number, any_last, last_offset, list_position, held_in, list_upload, enc_upload, plain, plain_list}
 use Rattle.msg_positions.specs.PositionLaws.{read_none, read_under}
-use Rattle.msg_answering.specs.Positions.{position_tested, position_ok_lem, eds_none, eds_some, eds-long, mark-small, sized_tested}
+use Rattle.msg_answering.specs.Positions.{position_tested, position_ok_lem, eds_none, eds_some, eds_long, mark_small, sized_tested}
 use Rattle.msg_answering.specs.Lifted.{lifted_message, message_on}
 
 -- ---- a position whose numbers fit their bytes
@@ -155,35 +155,35 @@ module _ (st : State) (local mask : ℕ) (limited : st.setup.transferLimit ≤ 2
   either_small false x y h g = g
 
   module _ (up : Upload) (h : Small up) where
-    file-small : (service instance : ℕ) (a : FirstAttribute) (bytes : List ℕ) (eds : Option (List ℕ)) → st.setup.eds ≡ eds
+    file_small : (service instance : ℕ) (a : FirstAttribute) (bytes : List ℕ) (eds : Option (List ℕ)) → st.setup.eds ≡ eds
         → Small (file_in st.setup service instance a bytes up eds).1
     unfolding file eds_file
-    file-small service instance a bytes none e = h
-    file-small service instance a bytes (some eds) e =
+    file_small service instance a bytes none e = h
+    file_small service instance a bytes (some eds) e =
         either_small (eqb instance 0) _ _ h
         (either_small (eqb instance eds_instance) _ _
         (either_small (eqb service initiate_upload) _ _ (initiate_small eds up h bytes)
         (either_small (eqb service upload_transfer) _ _ (transfer_small eds (short eds e) up h bytes) h))
         h)
 
-    object-small : (service : ℕ) (a : FirstAttribute) (bytes : List ℕ) (o : Object) → Small (of_object st local mask service a bytes up o).1
+    object_small : (service : ℕ) (a : FirstAttribute) (bytes : List ℕ) (o : Object) → Small (of_object st local mask service a bytes up o).1
     unfolding of_class
-    object-small service a bytes NoObject = h
-    object-small service a bytes (Named class instance) =
+    object_small service a bytes NoObject = h
+    object_small service a bytes (Named class instance) =
         either_small (eqb class 0x01) _ _ h
         (either_small (eqb class 0x04) _ _ h
         (either_small (eqb class 0xF5) _ _ h
         (either_small (eqb class 0xF6) _ _ h
-        (either_small (eqb class 0x37) _ _ (file-small service instance a bytes st.setup.eds refl)
+        (either_small (eqb class 0x37) _ _ (file_small service instance a bytes st.setup.eds refl)
         (either_small (eqb class 0x02) _ _ h h)))))
 
     request_small : (message : List ℕ) (r : RequestAnswer) → Small (of_request st local mask message up r).1
     request_small message (Unparsed service) = h
-    request_small message (Parsed r) = object-small r.service r.attribute (drop r.datastart message) r.object
+    request_small message (Parsed r) = object_small r.service r.attribute (drop r.datastart message) r.object
 
-    message-small : (message : List ℕ) (room : ℕ) → Small (message_call local mask message room st up).1
+    message_small : (message : List ℕ) (room : ℕ) → Small (message_call local mask message room st up).1
     unfolding message_call message_outcome
-    message-small message room = either_way Small (is_yes (message_answer local mask message room st up)) (request_small message (request_of message)) h
+    message_small message room = either_way Small (is_yes (message_answer local mask message room st up)) (request_small message (request_of message)) h
 
 -- ---- MESSAGE
 
@@ -205,32 +205,32 @@ module _ (s : List ℕ) (t : tested s ≡ true) (b : Bytes s) where
       by true q = let c : some eds ≡ none = sym e ∙ eds_none s (eqb-true (le 4 (setup_in s) 4) 0 q) in absurd (let z : ◌≡◌ {A = ℕ} 0 1 = cc in omega arith)
       by false q =
           let c = some_is (sym e ∙ eds_some s (eqb-false (le 4 (setup_in s) 4) 0 q)) in
-          let n = ap length c ∙ eds-long s t in
-          let m = mark-small s t in
+          let n = ap length c ∙ eds_long s t in
+          let m = mark_small s t in
           omega arith
 
   module _ (local mask : ℕ) (message upload out : List ℕ) (c : Bytes upload) (p : position_tested (view s).setup upload ≡ true) where
     left : Upload
     left = (message_on local mask message s upload out).1
 
-    left-ok : upload_ok (view s).setup left ≡ true
+    left_ok : upload_ok (view s).setup left ≡ true
     unfolding left message_call
-    left-ok =
+    left_ok =
         either_way (λ (x : Upload). upload_ok (view s).setup x ≡ true) (is_yes (message_answer local mask message (length out) (view s) (dec_upload upload)))
-        (position-kept (view s) local mask (sized_tested s t b) (dec_upload upload) (position_ok_lem (view s).setup upload p) message) (position_ok_lem (view s).setup upload p)
+        (position_kept (view s) local mask (sized_tested s t b) (dec_upload upload) (position_ok_lem (view s).setup upload p) message) (position_ok_lem (view s).setup upload p)
 
-    left-small : Small left
+    left_small : Small left
     unfolding left
-    left-small = message-small (view s) local mask limit_small eds_small (dec_upload upload) (small_read upload c) message (length out)
+    left_small = message_small (view s) local mask limit_small eds_small (dec_upload upload) (small_read upload c) message (length out)
 
     left_is : (lifted_message local mask message s upload out).1.0 ≡ enc_upload left
     unfolding lifted_message left
     left_is = rw (t, p)
 
     -- THE POSITION LEFT PASSES ITS TEST
-    pub message-accepted : position_tested (view s).setup (lifted_message local mask message s upload out).1.0 ≡ true
-    message-accepted = ap (position_tested (view s).setup) left_is ∙ written_passes (view s).setup left left-ok left-small
+    pub message_accepted : position_tested (view s).setup (lifted_message local mask message s upload out).1.0 ≡ true
+    message_accepted = ap (position_tested (view s).setup) left_is ∙ written_passes (view s).setup left left_ok left_small
 
     -- and is made of bytes
-    pub message-bytes : Bytes (lifted_message local mask message s upload out).1.0
-    message-bytes = subst Bytes (sym left_is) (bytes_written left left-small)
+    pub message_bytes : Bytes (lifted_message local mask message s upload out).1.0
+    message_bytes = subst Bytes (sym left_is) (bytes_written left left_small)

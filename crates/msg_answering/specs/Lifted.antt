@@ -34,9 +34,9 @@ module _ (local mask : ℕ) (message l upload out : List ℕ) where
   message_untested e = rw e
 
   module _ (t : tested l ≡ true) where
-    pub message-misplaced : position_tested (view l).setup upload ≡ false → (1, (upload, out)) ≡ lifted_message local mask message l upload out
+    pub message_misplaced : position_tested (view l).setup upload ≡ false → (1, (upload, out)) ≡ lifted_message local mask message l upload out
     unfolding lifted_message
-    message-misplaced e = rw (t, e)
+    message_misplaced e = rw (t, e)
 
     module _ (p : position_tested (view l).setup upload ≡ true) where
       passes : lifted_message local mask message l upload out ≡ (answerNumber (message_on local mask message l upload out).0, (enc_upload (message_on local mask message l upload out).1, sets out 0 (answerBytes (message_on local mask message l upload out).0)))
@@ -55,11 +55,11 @@ module _ (local mask : ℕ) (message l upload out : List ℕ) where
           ∙ sym (answered (Refused NoRoom) (dec_upload upload) (no_room (view l) local mask message (length out) (dec_upload upload) h))
 
       -- a reply
-      pub message-replied : 516 ≤ length out → (n : ℕ) (p' o : List ℕ)
+      pub message_replied : 516 ≤ length out → (n : ℕ) (p' o : List ℕ)
           → (n, (p', o)) ≡ replied (service_of (request_of message)) (message_outcome (view l) local mask message (dec_upload upload)) out
           → (2 ^ 8 * n, (p', o)) ≡ lifted_message local mask message l upload out
       unfolding answerNumber message_reply
-      message-replied h n p' o e =
+      message_replied h n p' o e =
           (λ i. (2 ^ 8 * (e i).0, ((e i).1.0, (e i).1.1)))
           ∙ sym (answered (Wrote (message_reply (view l) local mask message (dec_upload upload))) (message_outcome (view l) local mask message (dec_upload upload)).1
           (always_replied (view l) local mask message (length out) (dec_upload upload) h))

@@ -58,18 +58,18 @@ module _ (s : List ℕ) where
   limit_is = refl
 
   module _ (t : tested s ≡ true) where
-    pub mark-small : le 4 (setup_in s) 4 ≤ 65536
-    mark-small = short_eds (setup_in s) (is_sound s t)
+    pub mark_small : le 4 (setup_in s) 4 ≤ 65536
+    mark_small = short_eds (setup_in s) (is_sound s t)
 
-    pub eds-long : length (take (le 4 (setup_in s) 4 - 1) (eds_in s)) ≡ le 4 (setup_in s) 4 - 1
-    eds-long = length-take-le (mark - 1) (eds_in s) (let a = mark-small in let b = length_eds_in s (is_long s t) in omega arith)
+    pub eds_long : length (take (le 4 (setup_in s) 4 - 1) (eds_in s)) ≡ le 4 (setup_in s) 4 - 1
+    eds_long = length-take-le (mark - 1) (eds_in s) (let a = mark_small in let b = length_eds_in s (is_long s t) in omega arith)
 
     -- the EDS as it is lent
-    pub eds-lent : take (le 4 (setup_in s) 4 - 1) (drop eds_at s) ≡ take (le 4 (setup_in s) 4 - 1) (eds_in s)
-    eds-lent = sym (take-take (mark - 1) 65536 (drop eds_at s) (let a = mark-small in omega arith))
+    pub eds_lent : take (le 4 (setup_in s) 4 - 1) (drop eds_at s) ≡ take (le 4 (setup_in s) 4 - 1) (eds_in s)
+    eds_lent = sym (take-take (mark - 1) 65536 (drop eds_at s) (let a = mark_small in omega arith))
 
-    pub names-short : le 1 (setup_in s) 3 ≤ 32
-    names-short = short_eds_name (setup_in s) (is_sound s t)
+    pub names_short : le 1 (setup_in s) 3 ≤ 32
+    names_short = short_eds_name (setup_in s) (is_sound s t)
 
   -- the test, with an EDS and without
   pub test_none : (l : List ℕ) (limit : ℕ) (x : Bool) → le 4 (setup_in s) 4 ≡ 0 → limit ≡ le 1 (setup_in s) 1 → x ≡ upload_tested limit false 0 l → x ≡ position_tested (view s).setup l
@@ -80,26 +80,26 @@ module _ (s : List ℕ) where
   pub test_some : tested s ≡ true → (l : List ℕ) (limit size : ℕ) (x : Bool) → (le 4 (setup_in s) 4 ≡ 0 → ⊥) → limit ≡ le 1 (setup_in s) 1 → size ≡ le 4 (setup_in s) 4 - 1
       → x ≡ upload_tested limit true size l → x ≡ position_tested (view s).setup l
   test_some t l limit size x h e g f =
-      f ∙ (λ i. upload_tested ((e ∙ sym limit_is) i) true ((g ∙ sym (eds-long t)) i) l)
+      f ∙ (λ i. upload_tested ((e ∙ sym limit_is) i) true ((g ∙ sym (eds_long t)) i) l)
       ∙ same_test (view s).setup (view s).setup.transferLimit true (length eds_bytes) l (ok_some (view s).setup eds_bytes (dec_upload l) (eds_some h))
 
   -- ---- File, with an EDS and without
 
   module _ (service instance : ℕ) (a : FirstAttribute) (bytes : List ℕ) (up : Upload) (out : List ℕ) (x : Given × (List ℕ × List ℕ)) where
-    pub no-file : le 4 (setup_in s) 4 ≡ 0 → x ≡ stepped (Fails PathUnknown, up) out
+    pub no_file : le 4 (setup_in s) 4 ≡ 0 → x ≡ stepped (Fails PathUnknown, up) out
         → x ≡ stepped (file_in (view s).setup service instance a bytes up (view s).setup.eds) out
-    no-file h f = f ∙ ap (λ (o : Option (List ℕ)). stepped (file_in (view s).setup service instance a bytes up o) out) (sym (eds_none h))
+    no_file h f = f ∙ ap (λ (o : Option (List ℕ)). stepped (file_in (view s).setup service instance a bytes up o) out) (sym (eds_none h))
 
-    same-file : (eds : List ℕ) → file (setup_from (setup_in s) []) eds service instance a bytes up ≡ file (view s).setup eds service instance a bytes up
+    same_file : (eds : List ℕ) → file (setup_from (setup_in s) []) eds service instance a bytes up ≡ file (view s).setup eds service instance a bytes up
     unfolding file eds_file file_attributes view setup_of
-    same-file eds = refl
+    same_file eds = refl
 
-    pub the-file : tested s ≡ true → (le 4 (setup_in s) 4 ≡ 0 → ⊥) → (eds : List ℕ) → eds ≡ take (le 4 (setup_in s) 4 - 1) (drop eds_at s)
+    pub the_file : tested s ≡ true → (le 4 (setup_in s) 4 ≡ 0 → ⊥) → (eds : List ℕ) → eds ≡ take (le 4 (setup_in s) 4 - 1) (drop eds_at s)
         → x ≡ stepped (file (setup_from (setup_in s) []) eds service instance a bytes up) out
         → x ≡ stepped (file_in (view s).setup service instance a bytes up (view s).setup.eds) out
-    the-file t h eds e f =
-        f ∙ ap (λ (z : List ℕ). stepped (file (setup_from (setup_in s) []) z service instance a bytes up) out) (e ∙ eds-lent t)
-        ∙ ap (λ (z : Outcome × Upload). stepped z out) (same-file eds_bytes)
+    the_file t h eds e f =
+        f ∙ ap (λ (z : List ℕ). stepped (file (setup_from (setup_in s) []) z service instance a bytes up) out) (e ∙ eds_lent t)
+        ∙ ap (λ (z : Outcome × Upload). stepped z out) (same_file eds_bytes)
         ∙ ap (λ (o : Option (List ℕ)). stepped (file_in (view s).setup service instance a bytes up o) out) (sym (eds_some h))
 
 -- ---- what the test says

@@ -16,7 +16,7 @@ use Rattle.rules.specs.State.{State}
 use Rattle.rules.specs.Attributes.{Outcome, Fails}
 use Rattle.rules.specs.Upload.{upload_ok}
 use Rattle.rules.specs.Message.{of_class, of_object, of_request, service_of, reply_to, message_outcome, message_reply}
-use Rattle.rules_laws.specs.ReplyLaws.{Sized, reply-fits}
+use Rattle.rules_laws.specs.ReplyLaws.{Sized, reply_fits}
 use Rattle.msg_attributes.specs.declared.Given.{Given}
 use Rattle.msg_uploads.specs.Lent.{stepped}
 use Rattle.msg_answering.specs.Replies.{replied}
@@ -60,7 +60,7 @@ module _ (st : State) (local mask : ℕ) (m : List ℕ) (up : Upload) (v : Reque
   pub reply_short : Sized st → upload_ok st.setup up ≡ true → length (reply_to (service_of v) (of_request st local mask m up v).0) ≤ 516
   unfolding message_reply message_outcome
   reply_short sized ok =
-      let h = reply-fits st local mask sized up ok m in
+      let h = reply_fits st local mask sized up ok m in
       let q : length (reply_to (service_of (request_of m)) (of_request st local mask m up (request_of m)).0) ≡ length (reply_to (service_of v) (of_request st local mask m up v).0) =
       ap (λ (r : RequestAnswer). length (reply_to (service_of r) (of_request st local mask m up r).0)) e in
       omega (arith, h, q)

@@ -104,8 +104,8 @@ module _ (one instance : ℕ) (class here : Outcome) (out : List ℕ) (x : Given
     past : among one instance class here ≡ cond (eqb instance one) here (Fails ObjectUnknown)
     past = ap (λ (b : Bool). cond b class (cond (eqb instance one) here (Fails ObjectUnknown))) (ne_eqb instance 0 h)
 
-    pub among-here : instance ≡ one → x ≡ told here out → x ≡ told (among one instance class here) out
-    among-here e f = f ∙ sym (ap (λ (z : Outcome). told z out) (past ∙ ap (λ (b : Bool). cond b here (Fails ObjectUnknown)) (eq-eqb instance one e)))
+    pub among_here : instance ≡ one → x ≡ told here out → x ≡ told (among one instance class here) out
+    among_here e f = f ∙ sym (ap (λ (z : Outcome). told z out) (past ∙ ap (λ (b : Bool). cond b here (Fails ObjectUnknown)) (eq-eqb instance one e)))
 
     pub among_none : (instance ≡ one → ⊥) → x ≡ told (Fails ObjectUnknown) out → x ≡ told (among one instance class here) out
     among_none e f = f ∙ sym (ap (λ (z : Outcome). told z out) (past ∙ ap (λ (b : Bool). cond b here (Fails ObjectUnknown)) (ne_eqb instance one e)))

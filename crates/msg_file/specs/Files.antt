@@ -69,9 +69,9 @@ module _ (u : Setup) (eds : List ℕ) (a : FirstAttribute) (bytes : List ℕ) (u
     abbrev alone : Outcome × Upload
     alone = (single service a (file_attributes u eds), up)
 
-    pub eds-initiate : service ≡ initiate_upload → x ≡ stepped (initiate u.transferLimit eds up bytes) out → x ≡ stepped (eds_file u eds service a bytes up) out
+    pub eds_initiate : service ≡ initiate_upload → x ≡ stepped (initiate u.transferLimit eds up bytes) out → x ≡ stepped (eds_file u eds service a bytes up) out
     unfolding eds_file
-    eds-initiate e f =
+    eds_initiate e f =
         f ∙ sym (ap (λ (b : Bool). stepped (cond b (initiate u.transferLimit eds up bytes) (cond (eqb service upload_transfer) (transfer eds up bytes) alone)) out) (eq-eqb service initiate_upload e))
 
     module _ (h : service ≡ initiate_upload → ⊥) where
@@ -79,12 +79,12 @@ module _ (u : Setup) (eds : List ℕ) (a : FirstAttribute) (bytes : List ℕ) (u
       unfolding eds_file
       past = ap (λ (b : Bool). cond b (initiate u.transferLimit eds up bytes) (cond (eqb service upload_transfer) (transfer eds up bytes) alone)) (ne_eqb service initiate_upload h)
 
-      pub eds-transfer : service ≡ upload_transfer → x ≡ stepped (transfer eds up bytes) out → x ≡ stepped (eds_file u eds service a bytes up) out
-      eds-transfer e f =
+      pub eds_transfer : service ≡ upload_transfer → x ≡ stepped (transfer eds up bytes) out → x ≡ stepped (eds_file u eds service a bytes up) out
+      eds_transfer e f =
           f ∙ sym (ap (λ (z : Outcome × Upload). stepped z out) (past ∙ ap (λ (b : Bool). cond b (transfer eds up bytes) alone) (eq-eqb service upload_transfer e)))
 
-      pub eds-alone : (service ≡ upload_transfer → ⊥) → x ≡ stepped (single service a (file_attributes u eds), up) out → x ≡ stepped (eds_file u eds service a bytes up) out
-      eds-alone e f =
+      pub eds_alone : (service ≡ upload_transfer → ⊥) → x ≡ stepped (single service a (file_attributes u eds), up) out → x ≡ stepped (eds_file u eds service a bytes up) out
+      eds_alone e f =
           f ∙ sym (ap (λ (z : Outcome × Upload). stepped z out) (past ∙ ap (λ (b : Bool). cond b (transfer eds up bytes) alone) (ne_eqb service upload_transfer e)))
 
     abbrev none : Outcome × Upload
@@ -94,9 +94,9 @@ module _ (u : Setup) (eds : List ℕ) (a : FirstAttribute) (bytes : List ℕ) (u
     class = (single service a class_attributes, up)
 
     module _ (instance : ℕ) where
-      pub file-class : instance ≡ 0 → x ≡ stepped (single service a class_attributes, up) out → x ≡ stepped (file u eds service instance a bytes up) out
+      pub file_class : instance ≡ 0 → x ≡ stepped (single service a class_attributes, up) out → x ≡ stepped (file u eds service instance a bytes up) out
       unfolding file
-      file-class e f =
+      file_class e f =
           f ∙ sym (ap (λ (b : Bool). stepped (cond b class (cond (eqb instance eds_instance) (eds_file u eds service a bytes up) none)) out) (eq-eqb instance 0 e))
 
       module _ (h : instance ≡ 0 → ⊥) where
@@ -104,10 +104,10 @@ module _ (u : Setup) (eds : List ℕ) (a : FirstAttribute) (bytes : List ℕ) (u
         unfolding file
         beyond = ap (λ (b : Bool). cond b class (cond (eqb instance eds_instance) (eds_file u eds service a bytes up) none)) (ne_eqb instance 0 h)
 
-        pub file-none : (instance ≡ eds_instance → ⊥) → x ≡ stepped (Fails ObjectUnknown, up) out → x ≡ stepped (file u eds service instance a bytes up) out
-        file-none e f =
+        pub file_none : (instance ≡ eds_instance → ⊥) → x ≡ stepped (Fails ObjectUnknown, up) out → x ≡ stepped (file u eds service instance a bytes up) out
+        file_none e f =
             f ∙ sym (ap (λ (z : Outcome × Upload). stepped z out) (beyond ∙ ap (λ (b : Bool). cond b (eds_file u eds service a bytes up) none) (ne_eqb instance eds_instance e)))
 
-        pub file-eds : instance ≡ eds_instance → x ≡ stepped (eds_file u eds service a bytes up) out → x ≡ stepped (file u eds service instance a bytes up) out
-        file-eds e f =
+        pub file_eds : instance ≡ eds_instance → x ≡ stepped (eds_file u eds service a bytes up) out → x ≡ stepped (file u eds service instance a bytes up) out
+        file_eds e f =
             f ∙ sym (ap (λ (z : Outcome × Upload). stepped z out) (beyond ∙ ap (λ (b : Bool). cond b (eds_file u eds service a bytes up) none) (eq-eqb instance eds_instance e)))

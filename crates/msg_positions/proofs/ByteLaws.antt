@@ -84,14 +84,14 @@ module _ (limit size : ℕ) (given : Bool) (p : Position) where
     pub no_size : p.size < 1 → false ≡ fits limit given size p
     no_size h = sym (tests ∙ all_fails (position_tests limit size p) 0 (lt-leb 1 p.size h))
 
-    pub over-limit : limit < p.size → false ≡ fits limit given size p
-    over-limit h = sym (tests ∙ all_fails (position_tests limit size p) 1 (lt-leb p.size limit h))
+    pub over_limit : limit < p.size → false ≡ fits limit given size p
+    over_limit h = sym (tests ∙ all_fails (position_tests limit size p) 1 (lt-leb p.size limit h))
 
     pub past_end : size < p.offset → false ≡ fits limit given size p
     past_end h = sym (tests ∙ all_fails (position_tests limit size p) 2 (lt-leb p.offset size h))
 
-    pub last-decides : 1 ≤ p.size → p.size ≤ limit → p.offset ≤ size → (r : Bool) → r ≡ last_ok size p.last → r ≡ fits limit given size p
-    last-decides a b c r e =
+    pub last_decides : 1 ≤ p.size → p.size ≤ limit → p.offset ≤ size → (r : Bool) → r ≡ last_ok size p.last → r ≡ fits limit given size p
+    last_decides a b c r e =
         e ∙ sym (tests ∙ rw (le-leb 1 p.size a, le-leb p.size limit b, le-leb p.offset size c) (only (last_ok size p.last)))
 
 pub last_within : (last : Last) (number offset size : ℕ) → last ≡ Was number offset → leb offset size ≡ last_ok size last

@@ -57,30 +57,30 @@ module _ (s : List ℕ) where
   status_fault f ef h = sym (extended true _ _ (fault_is ∙ sym ef ∙ h) refl refl)
 
   module _ (f : Bool) (ef : f ≡ to_bool (fault_of s)) (h : f ≡ false) where
-    pub status-none : connections_of s ≡ 0 → 3 ≡ extended_status (view s)
-    status-none g = sym (extended false true _ (fault_is ∙ sym ef ∙ h) (eq-eqb (length (view s).table) 0 (table_long ∙ g)) refl)
+    pub status_none : connections_of s ≡ 0 → 3 ≡ extended_status (view s)
+    status_none g = sym (extended false true _ (fault_is ∙ sym ef ∙ h) (eq-eqb (length (view s).table) 0 (table_long ∙ g)) refl)
 
     module _ (g : connections_of s ≡ 0 → ⊥) (x : Bool) (e : x ≡ running (view s)) where
       rest : (c : Bool) → x ≡ c → extended_status (view s) ≡ cond c 6 7
       rest c y =
           extended false false c (fault_is ∙ sym ef ∙ h) (ne_eqb (length (view s).table) 0 (λ k. g (sym table_long ∙ k))) (sym e ∙ y)
 
-      pub status-run : x ≡ true → 6 ≡ extended_status (view s)
-      status-run y = sym (rest true y)
+      pub status_run : x ≡ true → 6 ≡ extended_status (view s)
+      status_run y = sym (rest true y)
 
-      pub status-idle : x ≡ false → 7 ≡ extended_status (view s)
-      status-idle y = sym (rest false y)
+      pub status_idle : x ≡ false → 7 ≡ extended_status (view s)
+      status_idle y = sym (rest false y)
 
   -- ---- the whole
 
   module _ (x : ℕ) (o : Bool) (e : x ≡ extended_status (view s)) (f : o ≡ owned (view s)) where
-    pub status-owned : o ≡ true → 1 + 16 * x ≡ identity_status (view s)
+    pub status_owned : o ≡ true → 1 + 16 * x ≡ identity_status (view s)
     unfolding identity_status
-    status-owned h = λ i. of_bool ((sym h ∙ f) i) + 16 * e i
+    status_owned h = λ i. of_bool ((sym h ∙ f) i) + 16 * e i
 
-    pub status-free : o ≡ false → 16 * x ≡ identity_status (view s)
+    pub status_free : o ≡ false → 16 * x ≡ identity_status (view s)
     unfolding identity_status
-    status-free h = (let z : 16 * x ≡ 0 + 16 * x = omega arith in z) ∙ (λ i. of_bool ((sym h ∙ f) i) + 16 * e i)
+    status_free h = (let z : 16 * x ≡ 0 + 16 * x = omega arith in z) ∙ (λ i. of_bool ((sym h ∙ f) i) + 16 * e i)
 
 -- ---- the walks along the table
 

@@ -81,8 +81,8 @@ module _ (eds : List ℕ) (size number offset : ℕ) (last : Bool) (e : last ≡
     long : 2 + n + m ≡ length (transfer_reply eds size number offset)
     long = rw (← reply_is) (omega (arith, h, g, length-append (part_of eds size offset) (tail_of eds last)))
 
-    pub part-sent : (Gives (2 + n + m), d) ≡ told (rules.Gives (transfer_reply eds size number offset)) out
-    part-sent = gives out (transfer_reply eds size number offset) (2 + n + m) d long bytes
+    pub part_sent : (Gives (2 + n + m), d) ≡ told (rules.Gives (transfer_reply eds size number offset)) out
+    part_sent = gives out (transfer_reply eds size number offset) (2 + n + m) d long bytes
 
 -- the tail
 

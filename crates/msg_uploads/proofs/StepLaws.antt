@@ -58,8 +58,8 @@ module _ (p : Position) (number : ℕ) where
     unfolding turn_of
     turn_last = ap (λ (x : Last). turn_after x p.next number) e
 
-    pub turn-again : before ≡ number → Repeat offset ≡ turn_of p number
-    turn-again h = sym (turn_last ∙ simp (eq-eqb before number h))
+    pub turn_again : before ≡ number → Repeat offset ≡ turn_of p number
+    turn_again h = sym (turn_last ∙ simp (eq-eqb before number h))
 
-    pub turn-other : (before ≡ number → ⊥) → next_turn p.next number ≡ turn_of p number
-    turn-other h = sym (turn_last ∙ simp (ne_eqb before number h))
+    pub turn_other : (before ≡ number → ⊥) → next_turn p.next number ≡ turn_of p number
+    turn_other h = sym (turn_last ∙ simp (ne_eqb before number h))

@@ -62,10 +62,10 @@ module _ (len : ℕ) (p : Position) where
     abbrev under : Step
     under = step_for len p (get_or given 0 0) (turn_of p (get_or given 0 0))
 
-    pub transfer-idle : p.size ≡ 0 → record { sends = Nothing StateConflict; after = p } ≡ transfer_step len p given
-    transfer-idle e = sym (ap (λ (b : Bool). cond b idle under) (eq-eqb p.size 0 e)) ∙ some given h
+    pub transfer_idle : p.size ≡ 0 → record { sends = Nothing StateConflict; after = p } ≡ transfer_step len p given
+    transfer_idle e = sym (ap (λ (b : Bool). cond b idle under) (eq-eqb p.size 0 e)) ∙ some given h
 
-    pub transfer-under : (p.size ≡ 0 → ⊥) → (turn : Turn) → turn ≡ turn_of p (get_or given 0 0) → (r : Step) → r ≡ step_for len p (get_or given 0 0) turn
+    pub transfer_under : (p.size ≡ 0 → ⊥) → (turn : Turn) → turn ≡ turn_of p (get_or given 0 0) → (r : Step) → r ≡ step_for len p (get_or given 0 0) turn
         → r ≡ transfer_step len p given
-    transfer-under f turn e r q =
+    transfer_under f turn e r q =
         q ∙ ap (step_for len p (get_or given 0 0)) e ∙ sym (ap (λ (b : Bool). cond b idle under) (ne_eqb p.size 0 f)) ∙ some given h

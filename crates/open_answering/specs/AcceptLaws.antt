@@ -82,41 +82,41 @@ module _ (t : ℕ) (o : ForwardOpen) (g : Origin) (d : List ℕ) (p : Plan) (s o
       out_kept (plan_call t o g d p) s out ok b 8 (ap answerNumber a) (ap (λ (z : Answer). cond (is_yes z) (opened t o g d p (view s)) (view s)) (sym a)) (ap answerBytes (sym a))
 
   module _ (n m : ℕ) (en : n ≡ next_id_of s) (em : m ≡ after_id n) (x : Side) (ex : side_in x ≡ side_of o g m p.stream) where
-    n-is : n ≡ n₀
-    n-is = en ∙ next_id_held s (view s) s (holds_tested s ok b)
+    n_is : n ≡ n₀
+    n_is = en ∙ next_id_held s (view s) s (holds_tested s ok b)
 
-    pub side-here : side_in x ≡ side_at o g p n
-    side-here = ex ∙ ap (λ (k : ℕ). side_of o g k p.stream) em
+    pub side_here : side_in x ≡ side_at o g p n
+    side_here = ex ∙ ap (λ (k : ℕ). side_of o g k p.stream) em
 
-    side-is : side_in x ≡ side_at o g p n₀
-    side-is = side-here ∙ ap (side_at o g p) n-is
+    side_is : side_in x ≡ side_at o g p n₀
+    side_is = side_here ∙ ap (side_at o g p) n_is
 
     -- the next id is not 0
-    pub next-some : 0 < x.next
-    next-some =
+    pub next_some : 0 < x.next
+    next_some =
         let q : 0 < m = subst (λ (k : ℕ). 0 < k) (sym em) (after_some n) in
         subst (λ (z : Opening.Side). 0 < z.next) (sym ex) (side_some o g m q p.stream)
 
     reply_is : reply_from o n x ≡ reply_of o g p n₀
     unfolding reply_of
-    reply_is = λ j. openReplyAt (n-is j) (side-is j)
+    reply_is = λ j. open_reply_at (n_is j) (side_is j)
       where
-        openReplyAt : ℕ → Opening.Side → List ℕ
-        openReplyAt k z = Rattle.wire_rules.specs.Replies.open_reply (record { 0 = k }) z.toid o.triad o.ot.rpi z.torpi
+        open_reply_at : ℕ → Opening.Side → List ℕ
+        open_reply_at k z = Rattle.wire_rules.specs.Replies.open_reply (record { 0 = k }) z.toid o.triad o.ot.rpi z.torpi
 
-    pub accept-done : 26 ≤ length out → (c : Conn) → c ≡ new_conn t o g p n → (s' out' : List ℕ) → Opens c x.next p.stores d s s' → StoresFit p.stores d (view s)
+    pub accept_done : 26 ≤ length out → (c : Conn) → c ≡ new_conn t o g p n → (s' out' : List ℕ) → Opens c x.next p.stores d s s' → StoresFit p.stores d (view s)
         → out' ≡ sets out 0 (reply_from o n x) → (v : Bool) → v ≡ asks_multicast o → (r : ℕ) → r ≡ answerNumber (Accepted v x.dest [])
         → (r, (s', out')) ≡ lifted_out (plan_call t o g d p) s out
     unfolding plan_call
-    accept-done h c ec s' out' e f eo v ev r er =
+    accept_done h c ec s' out' e f eo v ev r er =
         let k = long in
         let st : State = view s in
         let a : yes ≡ plan_answer o g n₀ (length out) (Planned p) =
         ap (λ (u : Bool). cond u yes (Refused NoRoom)) (sym (le-leb (length (reply_of o g p n₀)) (length out) (omega arith))) in
-        let cc₀ : c ≡ new_conn t o g p n₀ = ec ∙ ap (new_conn t o g p) n-is in
+        let cc₀ : c ≡ new_conn t o g p n₀ = ec ∙ ap (new_conn t o g p) n_is in
         let i : s' ≡ store (opened_as c x.next p.stores d st) s = (e st s (holds_tested s ok b) f).is in
         out_done (plan_call t o g d p) s out ok r s' out'
-        (er ∙ (λ j. answerNumber (Accepted (ev j) (side-is j).dest [])) ∙ number_any (asks_multicast o) (side_at o g p n₀).dest (reply_of o g p n₀) ∙ ap answerNumber a)
-        (i ∙ (λ j. store (opened_as (cc₀ j) (side-is j).next p.stores d st) s) ∙ ap (λ (z : State). store z s) (opened_is t o g d p st)
+        (er ∙ (λ j. answerNumber (Accepted (ev j) (side_is j).dest [])) ∙ number_any (asks_multicast o) (side_at o g p n₀).dest (reply_of o g p n₀) ∙ ap answerNumber a)
+        (i ∙ (λ j. store (opened_as (cc₀ j) (side_is j).next p.stores d st) s) ∙ ap (λ (z : State). store z s) (opened_is t o g d p st)
         ∙ ap (λ (z : Answer). store (cond (is_yes z) (opened t o g d p st) st) s) a)
         (eo ∙ ap (sets out 0) reply_is ∙ ap (λ (z : Answer). sets out 0 (answerBytes z)) a)

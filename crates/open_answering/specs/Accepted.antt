@@ -60,26 +60,26 @@ module _ (l : List ℕ) where
       subst (λ (z : State). Suits z l) (opened_is t o g d p st) (suits_fault (stored_as p.stores d (placed c next st)) l w₂ false)
 
   module _ (ok : tested l ≡ true) where
-    suits-planned : (t : ℕ) (o : ForwardOpen) (g : Origin) (request : List ℕ) (v : Verdict) → verdict_of request o (view l) ≡ v
+    suits_planned : (t : ℕ) (o : ForwardOpen) (g : Origin) (request : List ℕ) (v : Verdict) → verdict_of request o (view l) ≡ v
         → Suits (plan_effect t o g (config_bytes request o) (view l) v) l
     unfolding verdict_of
-    suits-planned t o g request (Stopped x) e = suits_view l ok
-    suits-planned t o g request (Planned p) e =
+    suits_planned t o g request (Stopped x) e = suits_view l ok
+    suits_planned t o g request (Planned p) e =
         let path : List ℕ = path_bytes request o in
         let h = config_inside path (path_of path) refl in
         let k = length-drop (path_in (path_of path)).datastart path in
         let n : length (config_bytes request o) ≡ (path_in (path_of path)).datalen = length-take-le (path_in (path_of path)).datalen (drop (path_in (path_of path)).datastart path) (omega arith) in
         suits_opened t o g (config_bytes request o) p (view l) (suits_view l ok) (planned_row l ok o (path_of path) p e (config_bytes request o) n) (planned_room l ok o (path_of path) p e (config_bytes request o) n) (planned_fits l ok o (path_of path) p e (config_bytes request o) n)
 
-    pub open-suits : (t service : ℕ) (request : List ℕ) (g : Origin) (room : ℕ) → Suits (open_call t service request g room (view l)).1 l
+    pub open_suits : (t service : ℕ) (request : List ℕ) (g : Origin) (room : ℕ) → Suits (open_call t service request g room (view l)).1 l
     unfolding open_call open_effect
-    open-suits t service request g room =
+    open_suits t service request g room =
         either_way (λ (z : State). Suits z l) (is_yes (open_answer t service request g room (view l))) {x = asked_effect t g request (view l) (open_asked service request)} {y = view l}
         (go (open_asked service request)) (suits_view l ok)
       where
         go : (q : OpenAnswer) → Suits (asked_effect t g request (view l) q) l
         go NoOpen = suits_view l ok
-        go (Open o) = suits-planned t o g request (verdict_of request o (view l)) refl
+        go (Open o) = suits_planned t o g request (verdict_of request o (view l)) refl
 
-    pub open-accepted : (t service : ℕ) (request : List ℕ) (g : Origin) (room : ℕ) → tested (store (open_call t service request g room (view l)).1 l) ≡ true
-    open-accepted t service request g room = tested_store (open_call t service request g room (view l)).1 l (open-suits t service request g room)
+    pub open_accepted : (t service : ℕ) (request : List ℕ) (g : Origin) (room : ℕ) → tested (store (open_call t service request g room (view l)).1 l) ≡ true
+    open_accepted t service request g room = tested_store (open_call t service request g room (view l)).1 l (open_suits t service request g room)

@@ -95,21 +95,21 @@ module _ (t service : ℕ) (request : List ℕ) (g : Origin) (s out : List ℕ) 
       (ap (λ (z : Answer). cond (is_yes z) (open_effect t service request g (view s)) (view s)) (sym a)) (ap answerBytes (sym a))
 
   module _ (h : t ≤ 9223372036854775807) where
-    timely-answer : (q : OpenAnswer) → q ≡ open_asked service request → asked_answer g request (length out) (view s) q ≡ open_answer t service request g (length out) (view s)
+    timely_answer : (q : OpenAnswer) → q ≡ open_asked service request → asked_answer g request (length out) (view s) q ≡ open_answer t service request g (length out) (view s)
     unfolding open_answer
-    timely-answer q e = λ j. cond (sym (le-leb t 9223372036854775807 h) j) (asked_answer g request (length out) (view s) (e j)) (Refused BadTime)
+    timely_answer q e = λ j. cond (sym (le-leb t 9223372036854775807 h) j) (asked_answer g request (length out) (view s) (e j)) (Refused BadTime)
 
-    pub open-unread : tested s ≡ true → Bytes s → open_asked service request ≡ NoOpen → (4, (s, out)) ≡ lifted_out (open_call t service request g) s out
+    pub open_unread : tested s ≡ true → Bytes s → open_asked service request ≡ NoOpen → (4, (s, out)) ≡ lifted_out (open_call t service request g) s out
     unfolding open_call answerNumber
-    open-unread ok b e =
-        let a : Refused NotParsed ≡ open_answer t service request g (length out) (view s) = timely-answer NoOpen (sym e) in
+    open_unread ok b e =
+        let a : Refused NotParsed ≡ open_answer t service request g (length out) (view s) = timely_answer NoOpen (sym e) in
         out_kept (open_call t service request g) s out ok b 4 (ap answerNumber a)
         (ap (λ (z : Answer). cond (is_yes z) (open_effect t service request g (view s)) (view s)) (sym a)) (ap answerBytes (sym a))
 
-    pub open-read : (o : ForwardOpen) → open_asked service request ≡ Open o → (r : ℕ) (s' out' : List ℕ)
+    pub open_read : (o : ForwardOpen) → open_asked service request ≡ Open o → (r : ℕ) (s' out' : List ℕ)
         → (r, (s', out')) ≡ lifted_out (path_call t o g (path_bytes request o)) s out → (r, (s', out')) ≡ lifted_out (open_call t service request g) s out
     unfolding open_call open_effect verdict_of path_call
-    open-read o e r s' out' d =
-        let a = timely-answer (Open o) (sym e) in
+    open_read o e r s' out' d =
+        let a = timely_answer (Open o) (sym e) in
         d ∙ out_same (path_call t o g (path_bytes request o)) (open_call t service request g) s out
         (λ j. settled (a j) (asked_effect t g request (view s) (sym e j)) (view s))

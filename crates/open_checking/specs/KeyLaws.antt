@@ -32,18 +32,18 @@ module _ (ours : ℕ) (k : Key) where
   minor_zero h = sym (any_is true (sym (any_zero ours k.minor h)))
 
   module _ (g : k.minor ≡ 0 → ⊥) where
-    pub minor-ours : k.minor ≡ ours → true ≡ minor_is
-    minor-ours h = sym (any_is true (sym (any_ours ours k.minor g) ∙ eq-eqb k.minor ours h))
+    pub minor_ours : k.minor ≡ ours → true ≡ minor_is
+    minor_ours h = sym (any_is true (sym (any_ours ours k.minor g) ∙ eq-eqb k.minor ours h))
 
     module _ (h : k.minor ≡ ours → ⊥) (b : Bool) (e : b ≡ compatible_bit k.major) where
       other : minor_is ≡ (b && ltb k.minor ours)
       other = any_is false (sym (any_ours ours k.minor g) ∙ ne_eqb k.minor ours h) ∙ ap (λ (x : Bool). x && ltb k.minor ours) (sym e)
 
-      pub minor-below : b ≡ true → ltb k.minor ours ≡ minor_is
-      minor-below q = sym (other ∙ ap (λ (x : Bool). x && ltb k.minor ours) q)
+      pub minor_below : b ≡ true → ltb k.minor ours ≡ minor_is
+      minor_below q = sym (other ∙ ap (λ (x : Bool). x && ltb k.minor ours) q)
 
-      pub minor-no : b ≡ false → false ≡ minor_is
-      minor-no q = sym (other ∙ ap (λ (x : Bool). x && ltb k.minor ours) q)
+      pub minor_no : b ≡ false → false ≡ minor_is
+      minor_no q = sym (other ∙ ap (λ (x : Bool). x && ltb k.minor ours) q)
 
 -- the revision
 module _ (us : Identity) (k : Key) (asked : ℕ) (ea : asked ≡ major_of k.major) where
@@ -58,12 +58,12 @@ module _ (us : Identity) (k : Key) (asked : ℕ) (ea : asked ≡ major_of k.majo
   revision_any h = sym (split true (eqb asked us.major) (eq-eqb asked 0 h) refl)
 
   module _ (g : asked ≡ 0 → ⊥) (ours : ℕ) (eo : ours ≡ us.major) where
-    pub revision-no : (asked ≡ ours → ⊥) → false ≡ revision_ok us k
-    revision-no h = sym (split false false (ne_eqb asked 0 g) (ne_eqb asked us.major (λ q. h (q ∙ sym eo))))
+    pub revision_no : (asked ≡ ours → ⊥) → false ≡ revision_ok us k
+    revision_no h = sym (split false false (ne_eqb asked 0 g) (ne_eqb asked us.major (λ q. h (q ∙ sym eo))))
 
-    pub revision-minor : asked ≡ ours → (minor : ℕ) → minor ≡ us.minor → (b : Bool)
+    pub revision_minor : asked ≡ ours → (minor : ℕ) → minor ≡ us.minor → (b : Bool)
         → b ≡ (any_or minor k.minor || compatible_bit k.major && ltb k.minor minor) → b ≡ revision_ok us k
-    revision-minor h minor em b eb =
+    revision_minor h minor em b eb =
         eb ∙ (λ j. any_or (em j) k.minor || compatible_bit k.major && ltb k.minor (em j))
         ∙ sym (split false true (ne_eqb asked 0 g) (eq-eqb asked us.major (h ∙ eo)))
 
@@ -100,48 +100,48 @@ module _ (us : Identity) (k : Key) (vendor : ℕ) (ev : vendor ≡ us.vendor) (a
       ∙ then_no (must (any_or us.vendor k.vendor) vendor_stop) second vendor_stop (must_no (any_or us.vendor k.vendor) vendor_stop (vendor_is ∙ h))
 
   module _ (ha : a ≡ true) (product : ℕ) (ep : product ≡ us.product) (b : Bool) (eb : b ≡ any_or product k.product) where
-    past-vendor : (c : Option Stop) → c ≡ second → c ≡ key_stop us k
+    past_vendor : (c : Option Stop) → c ≡ second → c ≡ key_stop us k
     unfolding key_stop
-    past-vendor c e =
+    past_vendor c e =
         then_on (must (any_or us.vendor k.vendor) vendor_stop) second c (must_yes (any_or us.vendor k.vendor) vendor_stop (vendor_is ∙ ha)) e
 
     product_is : any_or us.product k.product ≡ b
     product_is = (λ j. any_or (sym ep j) k.product) ∙ sym eb
 
-    pub key-product : b ≡ false → some (KeyProduct k.product product) ≡ key_stop us k
-    key-product h =
+    pub key_product : b ≡ false → some (KeyProduct k.product product) ≡ key_stop us k
+    key_product h =
         (λ j. some (KeyProduct k.product (ep j)))
-        ∙ past-vendor (some product_stop)
+        ∙ past_vendor (some product_stop)
         (then_no (must (any_or us.product k.product) product_stop) third product_stop (must_no (any_or us.product k.product) product_stop (product_is ∙ h)))
 
     module _ (hb : b ≡ true) (device : ℕ) (ed : device ≡ us.device) (d : Bool) (eq : d ≡ any_or device k.device) where
-      past-product : (c : Option Stop) → c ≡ third → c ≡ key_stop us k
-      past-product c e =
-          past-vendor c
+      past_product : (c : Option Stop) → c ≡ third → c ≡ key_stop us k
+      past_product c e =
+          past_vendor c
           (then_on (must (any_or us.product k.product) product_stop) third c (must_yes (any_or us.product k.product) product_stop (product_is ∙ hb)) e)
 
-      device-is : any_or us.device k.device ≡ d
-      device-is = (λ j. any_or (sym ed j) k.device) ∙ sym eq
+      device_is : any_or us.device k.device ≡ d
+      device_is = (λ j. any_or (sym ed j) k.device) ∙ sym eq
 
-      pub key-device : d ≡ false → some (KeyDevice k.device device) ≡ key_stop us k
-      key-device h =
+      pub key_device : d ≡ false → some (KeyDevice k.device device) ≡ key_stop us k
+      key_device h =
           (λ j. some (KeyDevice k.device (ed j)))
-          ∙ past-product (some device_stop)
-          (then_no (must (any_or us.device k.device) device_stop) fourth device_stop (must_no (any_or us.device k.device) device_stop (device-is ∙ h)))
+          ∙ past_product (some device_stop)
+          (then_no (must (any_or us.device k.device) device_stop) fourth device_stop (must_no (any_or us.device k.device) device_stop (device_is ∙ h)))
 
       module _ (hd : d ≡ true) (q : Bool) (er : q ≡ revision_ok us k) where
-        past-device : (c : Option Stop) → c ≡ fourth → c ≡ key_stop us k
-        past-device c e =
-            past-product c
-            (then_on (must (any_or us.device k.device) device_stop) fourth c (must_yes (any_or us.device k.device) device_stop (device-is ∙ hd)) e)
+        past_device : (c : Option Stop) → c ≡ fourth → c ≡ key_stop us k
+        past_device c e =
+            past_product c
+            (then_on (must (any_or us.device k.device) device_stop) fourth c (must_yes (any_or us.device k.device) device_stop (device_is ∙ hd)) e)
 
-        pub key-yes : q ≡ true → none ≡ key_stop us k
-        key-yes h = past-device none (must_yes (revision_ok us k) revision_stop (sym er ∙ h))
+        pub key_yes : q ≡ true → none ≡ key_stop us k
+        key_yes h = past_device none (must_yes (revision_ok us k) revision_stop (sym er ∙ h))
 
-        pub key-revision : q ≡ false → (major minor : ℕ) → major ≡ us.major → minor ≡ us.minor
+        pub key_revision : q ≡ false → (major minor : ℕ) → major ≡ us.major → minor ≡ us.minor
             → some (KeyRevision k.major k.minor major minor) ≡ key_stop us k
-        key-revision h major minor em en =
-            (λ j. some (KeyRevision k.major k.minor (em j) (en j))) ∙ past-device (some revision_stop) (must_no (revision_ok us k) revision_stop (sym er ∙ h))
+        key_revision h major minor em en =
+            (λ j. some (KeyRevision k.major k.minor (em j) (en j))) ∙ past_device (some revision_stop) (must_no (revision_ok us k) revision_stop (sym er ∙ h))
 
 module _ (us : Identity) (p : ConnectionPath) where
   pub key_there : p.haskey ≡ true → (c : Option Stop) → c ≡ key_stop us p.key → c ≡ key_check us p

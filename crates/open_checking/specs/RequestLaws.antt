@@ -46,11 +46,11 @@ module _ (u : Setup) (o : ForwardOpen) (min max : ℕ) (em : min ≡ u.rpiMin) (
     unfolding rpi_check
     second c e = then_on (must (rpi_ok u o.ot.rpi) ot_stop) (must (rpi_ok u o.to.rpi) to_stop) c (must_yes (rpi_ok u o.ot.rpi) ot_stop (ot_is ∙ h)) e
 
-    pub rpi-to : d ≡ false → some (ToRpi o.to.rpi min max) ≡ rpi_check u o
-    rpi-to g = (λ j. some (ToRpi o.to.rpi (em j) (ex j))) ∙ second (some to_stop) (must_no (rpi_ok u o.to.rpi) to_stop (to_is ∙ g))
+    pub rpi_to : d ≡ false → some (ToRpi o.to.rpi min max) ≡ rpi_check u o
+    rpi_to g = (λ j. some (ToRpi o.to.rpi (em j) (ex j))) ∙ second (some to_stop) (must_no (rpi_ok u o.to.rpi) to_stop (to_is ∙ g))
 
-    pub rpi-yes : d ≡ true → none ≡ rpi_check u o
-    rpi-yes g = second none (must_yes (rpi_ok u o.to.rpi) to_stop (to_is ∙ g))
+    pub rpi_yes : d ≡ true → none ≡ rpi_check u o
+    rpi_yes g = second none (must_yes (rpi_ok u o.to.rpi) to_stop (to_is ∙ g))
 
 -- check 7
 module _ (o : ForwardOpen) (b : Bool) (eb : b ≡ is_point o.ot.params.net) where
@@ -64,24 +64,24 @@ module _ (o : ForwardOpen) (b : Bool) (eb : b ≡ is_point o.ot.params.net) wher
       (must_no (is_point o.ot.params.net) (OtType o.ot.params.net) (sym eb ∙ h))
 
   module _ (h : b ≡ true) (p : Bool) (ep : p ≡ is_point o.to.params.net) where
-    type-second : (c : Option Stop) → c ≡ to_type → c ≡ type_check o
+    type_second : (c : Option Stop) → c ≡ to_type → c ≡ type_check o
     unfolding type_check
-    type-second c e =
+    type_second c e =
         then_on (must (is_point o.ot.params.net) (OtType o.ot.params.net)) to_type c
         (must_yes (is_point o.ot.params.net) (OtType o.ot.params.net) (sym eb ∙ h)) e
 
-    pub type-point : p ≡ true → none ≡ type_check o
-    type-point g = type-second none (must_yes _ _ (ap (λ (x : Bool). x || is_multicast o.to.params.net) (sym ep ∙ g)))
+    pub type_point : p ≡ true → none ≡ type_check o
+    type_point g = type_second none (must_yes _ _ (ap (λ (x : Bool). x || is_multicast o.to.params.net) (sym ep ∙ g)))
 
     module _ (g : p ≡ false) (m : Bool) (em : m ≡ is_multicast o.to.params.net) where
-      type-is : (is_point o.to.params.net || is_multicast o.to.params.net) ≡ m
-      type-is = ap (λ (x : Bool). x || is_multicast o.to.params.net) (sym ep ∙ g) ∙ sym em
+      type_is : (is_point o.to.params.net || is_multicast o.to.params.net) ≡ m
+      type_is = ap (λ (x : Bool). x || is_multicast o.to.params.net) (sym ep ∙ g) ∙ sym em
 
-      pub type-many : m ≡ true → none ≡ type_check o
-      type-many k = type-second none (must_yes _ _ (type-is ∙ k))
+      pub type_many : m ≡ true → none ≡ type_check o
+      type_many k = type_second none (must_yes _ _ (type_is ∙ k))
 
-      pub type-to : m ≡ false → some (ToType o.to.params.net) ≡ type_check o
-      type-to k = type-second (some (ToType o.to.params.net)) (must_no _ _ (type-is ∙ k))
+      pub type_to : m ≡ false → some (ToType o.to.params.net) ≡ type_check o
+      type_to k = type_second (some (ToType o.to.params.net)) (must_no _ _ (type_is ∙ k))
 
 -- an RPI against the range
 pub below_min : (min max us : ℕ) → us < min → false ≡ (leb min us && leb us max)

@@ -45,11 +45,11 @@ module _ (r e : List ℕ) (table : List Fixed) (o : ForwardOpen) (p : Connection
   unfolding config_check
   config_same =
       ap (config_check bare p) roles_same
-      ∙ ap (λ (z : Option Stop). cond (eqb p.datalen 0) none z) (stop-same (roles_of whole p).config)
+      ∙ ap (λ (z : Option Stop). cond (eqb p.datalen 0) none z) (stop_same (roles_of whole p).config)
     where
-      stop-same : (i : Option ℕ) → config_stop bare p.datalen i ≡ config_stop whole p.datalen i
-      stop-same none = refl
-      stop-same (some i) = refl
+      stop_same : (i : Option ℕ) → config_stop bare p.datalen i ≡ config_stop whole p.datalen i
+      stop_same none = refl
+      stop_same (some i) = refl
 
   rpi_same : rpi_check bare o ≡ rpi_check whole o
   unfolding rpi_check

@@ -44,13 +44,13 @@ module _ (u : Setup) (p : ConnectionPath) where
     unfolding checks.points_check
     told = let b = then_none _ _ h in let c = then_none _ _ b.1 in let d = then_none _ _ c.1 in (must_none _ _ d.1, must_none _ _ d.0)
 
-    pub input-within : (checks.roles_of u p).input < length u.assemblies
+    pub input_within : (checks.roles_of u p).input < length u.assemblies
     unfolding checks.roles_of
-    input-within = found_within is_input u (checks.to_point p) told.0
+    input_within = found_within is_input u (checks.to_point p) told.0
 
-    pub output-within : is_owner (checks.roles_of u p).kind ≡ true → (checks.roles_of u p).output < length u.assemblies
+    pub output_within : is_owner (checks.roles_of u p).kind ≡ true → (checks.roles_of u p).output < length u.assemblies
     unfolding checks.roles_of
-    output-within y =
+    output_within y =
         let e : is_some (checks.place_of is_output u (checks.ot_point p)) ≡ true =
         ap (λ (x : Bool). not x || is_some (checks.place_of is_output u (checks.ot_point p))) (sym y) ∙ told.1 in
         rw y (found_within is_output u (checks.ot_point p) e)
@@ -71,10 +71,10 @@ placed r p x h e =
     let n = assemblies_counted r in
     record {
       input =
-          let a = input-within u p (sym h) in
+          let a = input_within u p (sym h) in
           let z : x.input ≡ (checks.roles_of u p).input = ap (λ (y : checks.Roles). y.input) e in omega arith;
       output = λ t.
-          let a = output-within u p (sym h) (ap (λ (y : checks.Roles). is_owner y.kind) (sym e) ∙ t) in
+          let a = output_within u p (sym h) (ap (λ (y : checks.Roles). is_owner y.kind) (sym e) ∙ t) in
           let z : x.output ≡ (checks.roles_of u p).output = ap (λ (y : checks.Roles). y.output) e in omega arith;
       config = λ i t. let a = config_within u p i (ap (λ (y : checks.Roles). y.config) (sym e) ∙ t) in omega arith;
     }

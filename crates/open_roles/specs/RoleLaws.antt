@@ -61,8 +61,8 @@ module _ (u : Setup) (point a : ℕ) (ea : a ≡ u.inputOnly) where
     unfolding checks.kind_of
     other k e = e ∙ if_not point u.inputOnly InputOnly (cond (eqb point u.listenOnly) ListenOnly Owner) (λ q. h (q ∙ sym ea))
 
-    pub kind-listen-only : point ≡ b → ListenOnly ≡ checks.kind_of u point
-    kind-listen-only g = other ListenOnly (if_is point u.listenOnly ListenOnly Owner (g ∙ eb))
+    pub kind_listen_only : point ≡ b → ListenOnly ≡ checks.kind_of u point
+    kind_listen_only g = other ListenOnly (if_is point u.listenOnly ListenOnly Owner (g ∙ eb))
 
     pub kind_owner : (point ≡ b → ⊥) → Owner ≡ checks.kind_of u point
     kind_owner g = other Owner (if_not point u.listenOnly ListenOnly Owner (λ q. g (q ∙ sym eb)))
@@ -84,9 +84,9 @@ module _ (r : List ℕ) (kind point : ℕ) where
     unfolding checks.place_of
     place_found i h = found i h
 
-    pub place-nowhere : f ≡ Nowhere → none ≡ checks.place_of (kind_test kind) (setup_from r []) point
+    pub place_nowhere : f ≡ Nowhere → none ≡ checks.place_of (kind_test kind) (setup_from r []) point
     unfolding checks.place_of
-    place-nowhere h = sym (ap ends.place_in h) ∙ e
+    place_nowhere h = sym (ap ends.place_in h) ∙ e
 
     pub place_small : (i : ℕ) → f ≡ At i → i < assemblies_of r
     place_small i h =
@@ -123,13 +123,13 @@ module _ (u : Setup) (p : ConnectionPath) (point : ℕ) (ep : point ≡ checks.t
       ∙ must_no have (NoInputPoint (checks.to_point p)) (ap (λ (o : Option ℕ). is_some o) (input_is ∙ ap place_in h))
 
   module _ (i : ℕ) (h : f ≡ Into i) where
-    pub input-there : none ≡ input_check u p
-    input-there = must_yes have (NoInputPoint (checks.to_point p)) (ap (λ (o : Option ℕ). is_some o) (input_is ∙ ap place_in h))
+    pub input_there : none ≡ input_check u p
+    input_there = must_yes have (NoInputPoint (checks.to_point p)) (ap (λ (o : Option ℕ). is_some o) (input_is ∙ ap place_in h))
 
-    pub input-roles : (kind : Kind) (output : ℕ) (config : Stores) → place_in config ≡ config_of u p
+    pub input_roles : (kind : Kind) (output : ℕ) (config : Stores) → place_in config ≡ config_of u p
         → roles_in (record { kind = kind; input = i; output = output; config = config }) ≡ roles_with u p kind output
     unfolding roles_with
-    input-roles kind output config e =
+    input_roles kind output config e =
         let g : some i ≡ checks.place_of is_input u (checks.to_point p) = sym (input_is ∙ ap place_in h) in
         λ j. record { kind = kind; input = checks.place_or0 (g j); output = output; config = e j }
 
@@ -165,16 +165,16 @@ module _ (u : Setup) (p : ConnectionPath) (a : Bool) (ea : a ≡ (p.hasclass && 
   points_class h = then_no (checks.must is_four class_stop) second class_stop (must_no is_four class_stop (sym ea ∙ h))
 
   module _ (ha : a ≡ true) (b : Bool) (eb : b ≡ (eqb p.count 2 || eqb p.count 3)) where
-    past-class : (c : Option Stop) → c ≡ second → c ≡ checks.points_check u p
+    past_class : (c : Option Stop) → c ≡ second → c ≡ checks.points_check u p
     unfolding checks.points_check
-    past-class c e = then_on (checks.must is_four class_stop) second c (must_yes is_four class_stop (sym ea ∙ ha)) e
+    past_class c e = then_on (checks.must is_four class_stop) second c (must_yes is_four class_stop (sym ea ∙ ha)) e
 
-    pub points-count : b ≡ false → some count_stop ≡ checks.points_check u p
-    points-count h = past-class (some count_stop) (then_no (checks.must is_counted count_stop) third count_stop (must_no is_counted count_stop (sym eb ∙ h)))
+    pub points_count : b ≡ false → some count_stop ≡ checks.points_check u p
+    points_count h = past_class (some count_stop) (then_no (checks.must is_counted count_stop) third count_stop (must_no is_counted count_stop (sym eb ∙ h)))
 
     module _ (hb : b ≡ true) (point : ℕ) (ep : point ≡ checks.ot_point p) (kind : Kind) (ek : kind ≡ checks.kind_of u point) (f : Stores) (ef : place_in f ≡ output_of u kind point) where
-      past-count : (c : Option Stop) → c ≡ third → c ≡ checks.points_check u p
-      past-count c e = past-class c (then_on (checks.must is_counted count_stop) third c (must_yes is_counted count_stop (sym eb ∙ hb)) e)
+      past_count : (c : Option Stop) → c ≡ third → c ≡ checks.points_check u p
+      past_count c e = past_class c (then_on (checks.must is_counted count_stop) third c (must_yes is_counted count_stop (sym eb ∙ hb)) e)
 
       kind_is : checks.kind_of u (checks.ot_point p) ≡ kind
       kind_is = ap (checks.kind_of u) (sym ep) ∙ sym ek
@@ -182,28 +182,28 @@ module _ (u : Setup) (p : ConnectionPath) (a : Bool) (ea : a ≡ (p.hasclass && 
       output_is : output_of u (checks.kind_of u (checks.ot_point p)) (checks.ot_point p) ≡ place_in f
       output_is = (λ j. output_of u (kind_is j) (sym ep j)) ∙ sym ef
 
-      has-output : (s : Stores) → f ≡ s → has_output ≡ is_some (place_in s)
-      has-output s h = output_some u (checks.kind_of u (checks.ot_point p)) (checks.ot_point p) ∙ ap (λ (o : Option ℕ). is_some o) (output_is ∙ ap place_in h)
+      has_output_lem : (s : Stores) → f ≡ s → has_output ≡ is_some (place_in s)
+      has_output_lem s h = output_some u (checks.kind_of u (checks.ot_point p)) (checks.ot_point p) ∙ ap (λ (o : Option ℕ). is_some o) (output_is ∙ ap place_in h)
 
-      pub points-output : f ≡ Nothing → some (NoOutputPoint point) ≡ checks.points_check u p
-      points-output h =
+      pub points_output : f ≡ Nothing → some (NoOutputPoint point) ≡ checks.points_check u p
+      points_output h =
           ap (λ (n : ℕ). some (NoOutputPoint n)) ep
-          ∙ past-count (some output_stop)
-          (then_no (checks.must has_output output_stop) (input_check u p) output_stop (must_no has_output output_stop (has-output Nothing h)))
+          ∙ past_count (some output_stop)
+          (then_no (checks.must has_output output_stop) (input_check u p) output_stop (must_no has_output output_stop (has_output_lem Nothing h)))
 
       module _ (i : ℕ) (h : f ≡ Into i) where
-        pub points-input : (c : Option Stop) → c ≡ input_check u p → c ≡ checks.points_check u p
-        points-input c e = past-count c (then_on (checks.must has_output output_stop) (input_check u p) c (must_yes has_output output_stop (has-output (Into i) h)) e)
+        pub points_input : (c : Option Stop) → c ≡ input_check u p → c ≡ checks.points_check u p
+        points_input c e = past_count c (then_on (checks.must has_output output_stop) (input_check u p) c (must_yes has_output output_stop (has_output_lem (Into i) h)) e)
 
-        roles-are : roles_with u p kind i ≡ checks.roles_of u p
+        roles_are : roles_with u p kind i ≡ checks.roles_of u p
         unfolding roles_with checks.roles_of
-        roles-are =
+        roles_are =
             let g : i ≡ cond (is_owner (checks.kind_of u (checks.ot_point p))) (checks.place_or0 (checks.place_of is_output u (checks.ot_point p))) 0 =
             ap checks.place_or0 (sym (output_is ∙ ap place_in h)) ∙ output_or u (checks.kind_of u (checks.ot_point p)) (checks.ot_point p) in
             λ j. record { kind = sym kind_is j; input = checks.place_or0 (checks.place_of is_input u (checks.to_point p)); output = g j; config = config_of u p }
 
-        pub points-roles : (x : Points) → roles_or (roles_with u p kind i) x ≡ roles_with u p kind i → roles_or (checks.roles_of u p) x ≡ checks.roles_of u p
-        points-roles x e = ap (λ (d : checks.Roles). roles_or d x) (sym roles-are) ∙ e ∙ roles-are
+        pub points_roles : (x : Points) → roles_or (roles_with u p kind i) x ≡ roles_with u p kind i → roles_or (checks.roles_of u p) x ≡ checks.roles_of u p
+        points_roles x e = ap (λ (d : checks.Roles). roles_or d x) (sym roles_are) ∙ e ∙ roles_are
 
 -- ---- what its answer says
 
@@ -212,8 +212,8 @@ module _ (u : Setup) (p : ConnectionPath) (x : Points) (e : said x ≡ checks.po
   points_stop s h = sym (ap said h) ∙ e
 
   module _ (y : Roles) (h : x ≡ Are y) where
-    pub points-hold : none ≡ checks.points_check u p
-    points-hold = sym (ap said h) ∙ e
+    pub points_hold : none ≡ checks.points_check u p
+    points_hold = sym (ap said h) ∙ e
 
     pub points_are : roles_or (checks.roles_of u p) x ≡ checks.roles_of u p → roles_in y ≡ checks.roles_of u p
     points_are g = sym (ap (roles_or (checks.roles_of u p)) h) ∙ g

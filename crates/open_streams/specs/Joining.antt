@@ -35,15 +35,15 @@ module _ (f : Fixed) (listens : Bool) (input rpi found torpi : ℕ) (many listen
   carries_listener h g = sym (carries_is ∙ rw (h, g))
 
   module _ (h : many ≡ true) (g : listener ≡ false) where
-    pub carries-other : (found ≡ input → ⊥) → false ≡ here
-    carries-other k = sym (carries_is ∙ rw (h, g, ne_eqb found input k))
+    pub carries_other : (found ≡ input → ⊥) → false ≡ here
+    carries_other k = sym (carries_is ∙ rw (h, g, ne_eqb found input k))
 
     module _ (k : found ≡ input) where
-      pub carries-any : listens ≡ true → true ≡ here
-      carries-any l = sym (carries_is ∙ rw (h, g, eq-eqb found input k, l))
+      pub carries_any : listens ≡ true → true ≡ here
+      carries_any l = sym (carries_is ∙ rw (h, g, eq-eqb found input k, l))
 
-      pub carries-equal : listens ≡ false → eqb torpi rpi ≡ here
-      carries-equal l = sym (carries_is ∙ rw (h, g, eq-eqb found input k, l))
+      pub carries_equal : listens ≡ false → eqb torpi rpi ≡ here
+      carries_equal l = sym (carries_is ∙ rw (h, g, eq-eqb found input k, l))
 
 -- a point-to-point connection carries for none
 pub carries_single : (f : Fixed) (listens : Bool) (input rpi : ℕ) → f.multicast ≡ false → false ≡ carries_for listens input rpi f
@@ -89,15 +89,15 @@ module _ (o : ForwardOpen) (k : Kind) (stream : Stream) (a : Bool) (ea : a ≡ i
   listens_not h = must_yes true why refl ∙ sym (stop_is false h)
 
   module _ (h : a ≡ true) (b : Bool) (eb : b ≡ joins stream) where
-    pub listens-joined : b ≡ true → none ≡ stream_stop o k stream
-    listens-joined g = must_yes (joins stream) why (sym eb ∙ g) ∙ sym (stop_is true h)
+    pub listens_joined : b ≡ true → none ≡ stream_stop o k stream
+    listens_joined g = must_yes (joins stream) why (sym eb ∙ g) ∙ sym (stop_is true h)
 
     module _ (g : b ≡ false) (m : Bool) (em : m ≡ asks_multicast o) where
       alone : (s : Stop) → s ≡ why → some s ≡ stream_stop o k stream
       alone s e = ap some e ∙ must_no (joins stream) why (sym eb ∙ g) ∙ sym (stop_is true h)
 
-      pub listens-many : m ≡ true → some NoStream ≡ stream_stop o k stream
-      listens-many e = alone NoStream (sym (ap (λ (x : Bool). cond x NoStream ListenPointToPoint) (sym em ∙ e)))
+      pub listens_many : m ≡ true → some NoStream ≡ stream_stop o k stream
+      listens_many e = alone NoStream (sym (ap (λ (x : Bool). cond x NoStream ListenPointToPoint) (sym em ∙ e)))
 
-      pub listens-single : m ≡ false → some ListenPointToPoint ≡ stream_stop o k stream
-      listens-single e = alone ListenPointToPoint (sym (ap (λ (x : Bool). cond x NoStream ListenPointToPoint) (sym em ∙ e)))
+      pub listens_single : m ≡ false → some ListenPointToPoint ≡ stream_stop o k stream
+      listens_single e = alone ListenPointToPoint (sym (ap (λ (x : Bool). cond x NoStream ListenPointToPoint) (sym em ∙ e)))

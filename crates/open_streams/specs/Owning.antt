@@ -38,11 +38,11 @@ module _ (u : Setup) (k : Kind) (output : ℕ) (table : List Fixed) (a : Bool) (
   owner_other h = must_yes true (Owned (shape_at u output).instance) refl ∙ sym (check_is false h)
 
   module _ (h : a ≡ true) (b : Bool) (eb : b ≡ any (owns output) table) where
-    pub owner-free : b ≡ false → none ≡ owner_check u (roles_with k 0 output) table
-    owner-free g = must_yes (not (any (owns output) table)) (Owned (shape_at u output).instance) (ap not (sym eb ∙ g)) ∙ sym (check_is true h)
+    pub owner_free : b ≡ false → none ≡ owner_check u (roles_with k 0 output) table
+    owner_free g = must_yes (not (any (owns output) table)) (Owned (shape_at u output).instance) (ap not (sym eb ∙ g)) ∙ sym (check_is true h)
 
-    pub owner-taken : b ≡ true → (n : ℕ) → n ≡ (shape_at u output).instance → some (Owned n) ≡ owner_check u (roles_with k 0 output) table
-    owner-taken g n e =
+    pub owner_taken : b ≡ true → (n : ℕ) → n ≡ (shape_at u output).instance → some (Owned n) ≡ owner_check u (roles_with k 0 output) table
+    owner_taken g n e =
         ap (λ (m : ℕ). some (Owned m)) e
         ∙ must_no (not (any (owns output) table)) (Owned (shape_at u output).instance) (ap not (sym eb ∙ g)) ∙ sym (check_is true h)
 

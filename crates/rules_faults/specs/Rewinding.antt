@@ -39,10 +39,10 @@ ends_alone {p} (done {l = l} e) a =
     sym (ListLaws.keep_all (λ c. not (p c)) l (ListLaws.all_to (λ c. p c ≡ false) (λ c. not (p c) ≡ true) (λ c n. ap not n) l (ListLaws.none_found p l e)))
 ends_alone {p} (step {l = l} c e d) a =
     let y = ListLaws.find_passes p c l e in
-    let m = ListLaws.all-find (λ c. p c ≡ true → c.fixed.multicast ≡ false) p c l e a y in
+    let m = ListLaws.all_find (λ c. p c ≡ true → c.fixed.multicast ≡ false) p c l e a y in
     let is : remove_first p l ≡ without_first p l = rw e (point_to_point_alone c (without_first p l) m) in
     let b = subst (All (λ c. p c ≡ true → c.fixed.multicast ≡ false)) (sym is) (ListLaws.all_without (λ c. p c ≡ true → c.fixed.multicast ≡ false) p l a) in
-    ends_alone d b ∙ ap (keep (λ c. not (p c))) is ∙ ListLaws.without-keep-out p (λ c. not (p c)) c l e (ap not y)
+    ends_alone d b ∙ ap (keep (λ c. not (p c))) is ∙ ListLaws.without_keep_out p (λ c. not (p c)) c l e (ap not y)
 
 pub expire_rewinds_none : (t : ℕ) (s : State) → timely t ≡ true → All (λ c. expired t c ≡ true → c.fixed.multicast ≡ false) s.table →
     (next (Calls.Expire t) s).table ≡ keep (λ c. not (expired t c)) s.table

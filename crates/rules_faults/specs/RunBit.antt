@@ -133,7 +133,7 @@ producing : (t : ℕ) (s : State) → Owned s → Owned (produce_effect t s)
 unfolding produce_effect
 producing t s h i =
     more s.setup s.table (map (sends t) s.table)
-    (λ j y. ListLaws.any-map (sends t) (owner_of j) (owner_of j) (λ c. ap (λ (x : Fixed). owns j x) (send_fixed t c)) s.table ∙ y) i (get_or s.contents i no_content) (h i)
+    (λ j y. ListLaws.any_map (sends t) (owner_of j) (owner_of j) (λ c. ap (λ (x : Fixed). owns j x) (send_fixed t c)) s.table ∙ y) i (get_or s.contents i no_content) (h i)
 
 noting : (s : State) → Owned s → Owned (next_event_effect s)
 unfolding next_event_effect

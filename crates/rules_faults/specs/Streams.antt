@@ -208,13 +208,13 @@ module _ (now : ℕ) (q : ForwardOpen) (g : Origin) (l : List Conn) (n : ℕ) (p
   joined_fed f e =
       let c = carries_is f (ListLaws.find_passes (carries q a.roles) f (fixeds l) e) in
       let feeding : Fixed → Bool = λ x. x.multicast && eqb x.toid.0 f.toid.0 && not (is_listener x.kind) in
-      sym (ListLaws.any-map (λ x. x.fixed) feeding (feeds f.toid) (λ x. refl) l) ∙
+      sym (ListLaws.any_map (λ x. x.fixed) feeding (feeds f.toid) (λ x. refl) l) ∙
       ListLaws.find_any (carries q a.roles) feeding f (fixeds l) e (cc (c.0, c.1, T_true (eqb f.toid.0 f.toid.0) (eqb_refl f.toid.0)))
 
   joined_sent : (f : Fixed) → find (carries q a.roles) (fixeds l) ≡ some f → any (source f.toid) l ≡ true
   joined_sent f e =
       let c = carries_is f (ListLaws.find_passes (carries q a.roles) f (fixeds l) e) in
-      ListLaws.all-find (λ x. x.multicast ≡ true → any (source x.toid) l ≡ true) (carries q a.roles) f (fixeds l) e
+      ListLaws.all_find (λ x. x.multicast ≡ true → any (source x.toid) l ≡ true) (carries q a.roles) f (fixeds l) e
       (ListLaws.all_mapped (λ x. x.fixed) (Fed l) (λ x. x.multicast ≡ true → any (source x.toid) l ≡ true) (λ x k. k.sender) l fed) c.0
 
   grown : (f : Conn → Bool) → any f l ≡ true → any f (l ++ (new_conn now q g p n ∷ [])) ≡ true
@@ -273,14 +273,14 @@ module _ (u : Conn → Conn) (same : (c : Conn) → (u c).fixed ≡ c.fixed) (sa
   map_fed : (l : List Conn) → All_fed l → All_fed (map u l)
   map_fed l a =
       ListLaws.all_mapped u (Fed l) (Fed (map u l))
-      (fed_same l (map u l) (λ j. sym (ListLaws.any-map u (feeds j) (feeds j) (feeds_same j) l)) (λ j. sym (ListLaws.any-map u (source j) (source j) (source_same j) l))) l a
+      (fed_same l (map u l) (λ j. sym (ListLaws.any_map u (feeds j) (feeds j) (feeds_same j) l)) (λ j. sym (ListLaws.any_map u (source j) (source j) (source_same j) l))) l a
 
   change_fed : (p : Conn → Bool) (l : List Conn) → All_fed l → All_fed (change_first p u l)
   change_fed p l a =
       let m = change_first p u l in
       let f : (j : ToId) → any (feeds j) l ≡ any (feeds j) m = λ j. sym (ListLaws.any_change (feeds j) p u (feeds_same j) l) in
       let g : (j : ToId) → any (source j) l ≡ any (source j) m = λ j. sym (ListLaws.any_change (source j) p u (source_same j) l) in
-      ListLaws.all-change (Fed m) p u (fed_same m m (λ j. refl) (λ j. refl)) l
+      ListLaws.all_change (Fed m) p u (fed_same m m (λ j. refl) (λ j. refl)) l
       (ListLaws.all_to (Fed l) (Fed m) (λ x k. record { joined = k.joined; feeder = λ y. sym (f x.fixed.toid) ∙ k.feeder y; sender = λ y. sym (g x.fixed.toid) ∙ k.sender y }) l a)
 
 abbrev Fed_state : State → Type 0

@@ -35,24 +35,24 @@ module _ (r : Fixed → Fixed → Bool) where
     to_same : (x : Fixed) (c : Conn) → r x (u c).fixed ≡ r x c.fixed
     to_same x c = ap (λ (f : Fixed). r x f) (same c)
 
-    pub apart-change : (p : Conn → Bool) (l : List Conn) → Apart l → Apart (change_first p u l)
-    apart-change p [] d = tt
-    apart-change p (x ∷ xs) d =
+    pub apart_change : (p : Conn → Bool) (l : List Conn) → Apart l → Apart (change_first p u l)
+    apart_change p [] d = tt
+    apart_change p (x ∷ xs) d =
         by_cases (p x)
         (λ e. rw e (ap (λ (f : Fixed). any (λ y. r f y.fixed) xs) (same x) ∙ d.0, d.1))
-        (λ e. rw e (ListLaws.any_change (λ y. r x.fixed y.fixed) p u (to_same x.fixed) xs ∙ d.0, apart-change p xs d.1))
+        (λ e. rw e (ListLaws.any_change (λ y. r x.fixed y.fixed) p u (to_same x.fixed) xs ∙ d.0, apart_change p xs d.1))
 
-    pub apart-map : (l : List Conn) → Apart l → Apart (map u l)
-    apart-map [] d = tt
-    apart-map (x ∷ xs) d = (
+    pub apart_map : (l : List Conn) → Apart l → Apart (map u l)
+    apart_map [] d = tt
+    apart_map (x ∷ xs) d = (
       ap (λ (f : Fixed). any (λ y. r f y.fixed) (map u xs)) (same x) ∙
-          ListLaws.any-map u (λ y. r x.fixed y.fixed) (λ y. r x.fixed y.fixed) (to_same x.fixed) xs ∙ d.0,
-      apart-map xs d.1,
+          ListLaws.any_map u (λ y. r x.fixed y.fixed) (λ y. r x.fixed y.fixed) (to_same x.fixed) xs ∙ d.0,
+      apart_map xs d.1,
     )
 
   pub apart_removal : (c : Conn) (l : List Conn) → Apart l → Apart (after_removal c l)
   apart_removal c l d =
-      let h = either_way Apart (hands_on c) (apart-change (with_sent c.sent) (λ x. refl) (in_stream c.fixed.toid) l d) d in
+      let h = either_way Apart (hands_on c) (apart_change (with_sent c.sent) (λ x. refl) (in_stream c.fixed.toid) l d) d in
       either_way Apart (ends_stream c (handed_over c l)) (apart_keep (λ x. not (in_stream c.fixed.toid x)) (handed_over c l) h) h
 
   -- one more at the end, to which none is so related

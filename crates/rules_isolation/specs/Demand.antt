@@ -117,7 +117,7 @@ covered_now A o (c ∷ cs) s h = h.0
 module _ (A : ℕ) (o : ℕ → Bool) (u : Setup) (sparing : Sparing o u) where
   covers_too : (s r : State) → Alike A o s r → Covers A o s.table → Covers A o r.table
   covers_too s r a c =
-      sym (Seen.blind_alike A (any (stray A o)) (λ l. ListLaws.any-map (hide A) (stray A o) (stray A o) (λ x. refl) l) s.table r.table a.table) ∙ c
+      sym (Seen.blind_alike A (any (stray A o)) (λ l. ListLaws.any_map (hide A) (stray A o) (stray A o) (λ x. refl) l) s.table r.table a.table) ∙ c
 
   itself_frame : (t : ℕ) (frame : List ℕ) (s : State) → Covers A o s.table → Alike A o (next (Calls.Receive t A frame) s) s
   unfolding receive_call

@@ -26,7 +26,7 @@ Blind P = (c : Conn) (s : Sent) → P c → P (with_sent s c)
 module _ (P : Conn → Type 0) (blind : Blind P) where
   pub all_removal : (c : Conn) (l : List Conn) → All P l → All P (after_removal c l)
   all_removal c l a =
-      let b = either_way (All P) (hands_on c) (ListLaws.all-change P (in_stream c.fixed.toid) (with_sent c.sent) (λ x. blind x _) l a) a in
+      let b = either_way (All P) (hands_on c) (ListLaws.all_change P (in_stream c.fixed.toid) (with_sent c.sent) (λ x. blind x _) l a) a in
       either_way (All P) (ends_stream c (handed_over c l)) (ListLaws.all_keep P (λ x. not (in_stream c.fixed.toid x)) (handed_over c l) b) b
 
   pub all_ends : {p : Conn → Bool} {l r : List Conn} → Ends p l r → All P l → All P r
@@ -36,7 +36,7 @@ module _ (P : Conn → Type 0) (blind : Blind P) where
   pub back_hand_over : (c : Conn) (l : List Conn) → All P (handed_over c l) → All P l
   back_hand_over c l a =
       by_cases (hands_on c)
-      (λ e. ListLaws.back-change P (in_stream c.fixed.toid) (with_sent c.sent) (λ x h. blind _ x.sent h) l (rw e at a))
+      (λ e. ListLaws.back_change P (in_stream c.fixed.toid) (with_sent c.sent) (λ x h. blind _ x.sent h) l (rw e at a))
       (λ e. rw e at a)
 
 pub to_id_is : (a b : ToId) → eqb a.0 b.0 ≡ true → a ≡ b
@@ -58,7 +58,7 @@ module _ (P : Conn → Type 0) (blind : Blind P) (p : Conn → Bool) (went : (c 
   back_removal c l e orphan a =
       let k = c.fixed.toid in
       let h = handed_over c (without_first p l) in
-      ListLaws.back-without P p went l
+      ListLaws.back_without P p went l
       (back_hand_over P blind c (without_first p l)
       (by_cases (ends_stream c h)
       (λ t. ListLaws.back_keep P (λ x. not (in_stream k x))
@@ -97,7 +97,7 @@ module _ (κ : ToId → Bool) where
       handed : keep outside (handed_over c l) ≡ keep outside l
       handed =
           either_way (λ t. keep outside t ≡ keep outside l) (hands_on c)
-          (ListLaws.keep-change-out (in_stream c.fixed.toid) outside (with_sent c.sent) (λ x. refl) (stream_out c.fixed.toid e) l)
+          (ListLaws.keep_change_out (in_stream c.fixed.toid) outside (with_sent c.sent) (λ x. refl) (stream_out c.fixed.toid e) l)
           refl
 
   feeds_in : (k : ToId) → κ k ≡ false → (x : Conn) → feeds k x ≡ true → outside x ≡ true
@@ -112,7 +112,7 @@ module _ (κ : ToId → Bool) where
       hands : keep outside (handed_over c l) ≡ handed_over c (keep outside l)
       hands =
           of_cond (keep outside) (hands_on c) (hands_on c) refl
-          (ListLaws.keep-change-in (in_stream c.fixed.toid) outside (with_sent c.sent) (λ x. refl) (stream_in c.fixed.toid e) l)
+          (ListLaws.keep_change_in (in_stream c.fixed.toid) outside (with_sent c.sent) (λ x. refl) (stream_in c.fixed.toid e) l)
           refl
 
       closes : (t : List Conn) → keep outside (without_listeners c t) ≡ without_listeners c (keep outside t)
@@ -129,32 +129,32 @@ module _ (κ : ToId → Bool) where
   module _ (p : Conn → Bool) (c : Conn) (l r : List Conn) (e : find p l ≡ some c) (before : Ends p (keep outside (remove_first p l)) (keep outside r)) where
     step_in : outside c ≡ true → keep outside (after_removal c (without_first p l)) ≡ after_removal c (keep outside (without_first p l)) → Ends p (keep outside l) (keep outside r)
     step_in o h =
-        let f = ListLaws.find-keep p outside c l e o in
-        let w = ListLaws.without-keep-in p outside c l e o in
+        let f = ListLaws.find_keep p outside c l e o in
+        let w = ListLaws.without_keep_in p outside c l e o in
         let same : keep outside (remove_first p l) ≡ remove_first p (keep outside l) = cc in
         step c f (rw same at before)
 
-    step-out : outside c ≡ false → keep outside (after_removal c (without_first p l)) ≡ keep outside (without_first p l) → Ends p (keep outside l) (keep outside r)
-    step-out o h =
-        let w = ListLaws.without-keep-out p outside c l e o in
+    step_out : outside c ≡ false → keep outside (after_removal c (without_first p l)) ≡ keep outside (without_first p l) → Ends p (keep outside l) (keep outside r)
+    step_out o h =
+        let w = ListLaws.without_keep_out p outside c l e o in
         let same : keep outside (remove_first p l) ≡ keep outside l = cc in
         rw same at before
 
-    keep-step : (m k : Bool) → c.fixed.multicast ≡ m → κ c.fixed.toid ≡ k → Ends p (keep outside l) (keep outside r)
-    keep-step false k m h = step_in (cc) (cc (removal_alone c (without_first p l) m, removal_alone c (keep outside (without_first p l)) m))
-    keep-step true false m h = step_in (cc) (removal_in c (without_first p l) h)
-    keep-step true true m h = step-out (cc) (removal_out c (without_first p l) h)
+    keep_step : (m k : Bool) → c.fixed.multicast ≡ m → κ c.fixed.toid ≡ k → Ends p (keep outside l) (keep outside r)
+    keep_step false k m h = step_in (cc) (cc (removal_alone c (without_first p l) m, removal_alone c (keep outside (without_first p l)) m))
+    keep_step true false m h = step_in (cc) (removal_in c (without_first p l) h)
+    keep_step true true m h = step_out (cc) (removal_out c (without_first p l) h)
 
   pub keep_ends : {p : Conn → Bool} {l r : List Conn} → Ends p l r → Ends p (keep outside l) (keep outside r)
   keep_ends {p} (done {l = l} e) = done (ListLaws.find_none_keep p outside l e)
-  keep_ends {p} (step {l = l} {r = r} c e d) = keep-step p c l r e (keep_ends d) c.fixed.multicast (κ c.fixed.toid) refl refl
+  keep_ends {p} (step {l = l} {r = r} c e d) = keep_step p c l r e (keep_ends d) c.fixed.multicast (κ c.fixed.toid) refl refl
 
 -- another test that agrees on the table
 pub same_test : (p q : Conn → Bool) → Blind (λ c. p c ≡ q c) → {l r : List Conn} → Ends p l r → All (λ c. p c ≡ q c) l → Ends q l r
-same_test p q b (done {l = l} e) a = let n : find q l ≡ none = cc (ListLaws.find-same p q l a) in done n
+same_test p q b (done {l = l} e) a = let n : find q l ≡ none = cc (ListLaws.find_same p q l a) in done n
 same_test p q b (step {l = l} c e d) a =
-    let f = ListLaws.find-same p q l a in
-    let w = ListLaws.without-same p q l a in
+    let f = ListLaws.find_same p q l a in
+    let w = ListLaws.without_same p q l a in
     let same : remove_first p l ≡ remove_first q l = cc in
     let a₁ : All (λ c. p c ≡ q c) (remove_first p l) = rw e (all_removal (λ c. p c ≡ q c) b c (without_first p l) (ListLaws.all_without (λ c. p c ≡ q c) p l a)) in
     let f₁ : find q l ≡ some c = cc in
@@ -171,30 +171,30 @@ module _ (w : Fixed → Heard → Heard) where
       hands : map rehear (handed_over c l) ≡ handed_over c (map rehear l)
       hands =
           of_cond (map rehear) (hands_on c) (hands_on c) refl
-          (sym (ListLaws.change-map rehear (in_stream c.fixed.toid) (in_stream c.fixed.toid) (λ x. refl) (with_sent c.sent) (with_sent c.sent) (λ x e. refl) l))
+          (sym (ListLaws.change_map rehear (in_stream c.fixed.toid) (in_stream c.fixed.toid) (λ x. refl) (with_sent c.sent) (with_sent c.sent) (λ x e. refl) l))
           refl
 
       closes : (t : List Conn) → map rehear (without_listeners c t) ≡ without_listeners c (map rehear t)
       closes t =
           of_cond (map rehear) (ends_stream c t) (ends_stream c (map rehear t))
-          (cc (ListLaws.any-map rehear (feeds c.fixed.toid) (feeds c.fixed.toid) (λ x. refl) t))
-          (sym (ListLaws.keep-map rehear (λ x. not (in_stream c.fixed.toid x)) (λ x. not (in_stream c.fixed.toid x)) (λ x. refl) t))
+          (cc (ListLaws.any_map rehear (feeds c.fixed.toid) (feeds c.fixed.toid) (λ x. refl) t))
+          (sym (ListLaws.keep_map rehear (λ x. not (in_stream c.fixed.toid x)) (λ x. not (in_stream c.fixed.toid x)) (λ x. refl) t))
           refl
 
   module _ (q : Conn → Bool) (unseen : (c : Conn) → q (rehear c) ≡ q c) where
-    remove-rehear-with : (l : List Conn) (o : Option Conn) → find q l ≡ o → map rehear (remove_first q l) ≡ remove_first q (map rehear l)
-    remove-rehear-with l none e = cc (ListLaws.find-map rehear q q unseen l)
-    remove-rehear-with l (some c) e =
-        cc (ListLaws.find-map rehear q q unseen l, ListLaws.without-map rehear q q unseen l, removal_rehear c (without_first q l))
+    remove_rehear_with : (l : List Conn) (o : Option Conn) → find q l ≡ o → map rehear (remove_first q l) ≡ remove_first q (map rehear l)
+    remove_rehear_with l none e = cc (ListLaws.find_map rehear q q unseen l)
+    remove_rehear_with l (some c) e =
+        cc (ListLaws.find_map rehear q q unseen l, ListLaws.without_map rehear q q unseen l, removal_rehear c (without_first q l))
 
-    pub remove-rehear : (l : List Conn) → map rehear (remove_first q l) ≡ remove_first q (map rehear l)
-    remove-rehear l = remove-rehear-with l (find q l) refl
+    pub remove_rehear : (l : List Conn) → map rehear (remove_first q l) ≡ remove_first q (map rehear l)
+    remove_rehear l = remove_rehear_with l (find q l) refl
 
-    pub ends-rehear : {l r : List Conn} → Ends q l r → Ends q (map rehear l) (map rehear r)
-    ends-rehear (done {l = l} e) = let n : find q (map rehear l) ≡ none = cc (ListLaws.find-map rehear q q unseen l) in done n
-    ends-rehear (step {l = l} c e d) =
-        let f : find q (map rehear l) ≡ some (rehear c) = cc (ListLaws.find-map rehear q q unseen l) in
-        step (rehear c) f (rw (remove-rehear l) at (ends-rehear d))
+    pub ends_rehear : {l r : List Conn} → Ends q l r → Ends q (map rehear l) (map rehear r)
+    ends_rehear (done {l = l} e) = let n : find q (map rehear l) ≡ none = cc (ListLaws.find_map rehear q q unseen l) in done n
+    ends_rehear (step {l = l} c e d) =
+        let f : find q (map rehear l) ≡ some (rehear c) = cc (ListLaws.find_map rehear q q unseen l) in
+        step (rehear c) f (rw (remove_rehear l) at (ends_rehear d))
 
 -- what no listener has is lost with the removed connection only
 module _ (f : Conn → Bool) (blind : (c : Conn) (s : Sent) → f (with_sent s c) ≡ f c) where
@@ -222,7 +222,7 @@ module _ (f : Conn → Bool) (blind : (c : Conn) (s : Sent) → f (with_sent s c
       either_way (λ t. any f t ≡ any f rest) (hands_on c) (ListLaws.any_change f (in_stream k) (with_sent c.sent) (λ x. blind x _) rest) refl in
       let m : All Mute (handed_over c rest) =
       either_way (All Mute) (hands_on c)
-      (ListLaws.all-change Mute (in_stream k) (with_sent c.sent) (λ x y z. blind x _ ∙ y z) rest r) r in
+      (ListLaws.all_change Mute (in_stream k) (with_sent c.sent) (λ x y z. blind x _ ∙ y z) rest r) r in
       ListLaws.any_without f p c l e ∙ ap (λ b. f c || b) (sym h ∙ sym (any_orphans c (handed_over c rest) m))
 
 -- the call itself ends so

@@ -24,7 +24,7 @@ use Rattle.rules.specs.Producing.{sent, frame_sent, packet, packets, counters, p
 use Rattle.rules.specs.Host.{set_input_answer, set_input_effect, set_input_call, output_answer, output_effect, output_call, next_event_answer, next_event_effect, next_event_call}
 use Rattle.rules.specs.Calls.{Call, next, run}
 use Rattle.rules.specs.Lists.{any, keep}
-use Rattle.rules_laws.specs.ListLaws.{any-map}
+use Rattle.rules_laws.specs.ListLaws.{any_map}
 use Rattle.rules.proofs.Examples.{setup, start, ask, from, points, ending}
 use Rattle.rules.specs.State.{State, triad_is}
 use Rattle.rules_steps.specs.Names.{Triad, Conn}
@@ -116,7 +116,7 @@ after_second = facts.6
 -- what an expiry removes that leaves nothing, by the triads
 removes_all : (t : ℕ) (s : State) (ts : List Triad) → map triad_of s.table ≡ ts → (next (Call.Expire t) s).table ≡ [] → (d : Triad) → removes t d s ≡ any (triad_is d) ts && true
 removes_all t s ts e f d =
-    ap₂ (λ a (l : List Conn). a && not (in_table l d)) (sym (any-map triad_of (triad_is d) (conn_triad d) (λ c. refl) s.table) ∙ ap (any (triad_is d)) e) f
+    ap₂ (λ a (l : List Conn). a && not (in_table l d)) (sym (any_map triad_of (triad_is d) (conn_triad d) (λ c. refl) s.table) ∙ ap (any (triad_is d)) e) f
 
 -- the same connections are gone, so the premise is met
 pub premise_met : Same_expiries pair start start

@@ -135,7 +135,7 @@ module _ (A : ℕ) (o : ℕ → Bool) (now : ℕ) where
   loses_seen : (i : ℕ) → o i ≡ false → (l : List Conn) → Covers A o l → loses now l i ≡ any (by_others i) (map (hide A) l)
   loses_seen i n l c =
       ListLaws.any_same (ends_run now i) (by_others i) l (ListLaws.all_to (λ x. stray A o x ≡ false) (λ x. ends_run now i x ≡ by_others i x) (only_others i n) l (ListLaws.none_passes (stray A o) l c)) ∙
-      sym (ListLaws.any-map (hide A) (by_others i) (by_others i) (others_seen i) l)
+      sym (ListLaws.any_map (hide A) (by_others i) (by_others i) (others_seen i) l)
 
   -- what is not there is not left
   none_new : (s : State) (d : Triad) → in_table s.table d ≡ false → in_table (expire_effect now s).table d ≡ false
@@ -176,7 +176,7 @@ module _ (A : ℕ) (o : ℕ → Bool) (now : ℕ) where
             ds dt r.table
             (λ d. sym (ap (λ l. in_table l d) es) ∙
             left_alike (in_table s.table d) (in_table t.table d) _ _
-            (blind_alike A (λ l. in_table l d) (λ l. ListLaws.any-map (hide A) (conn_triad d) (conn_triad d) (λ x. refl) l) s.table t.table r.table)
+            (blind_alike A (λ l. in_table l d) (λ l. ListLaws.any_map (hide A) (conn_triad d) (conn_triad d) (λ x. refl) l) s.table t.table r.table)
             (none_new s d) (none_new t d) (same d) ∙
             ap (λ l. in_table l d) et) ∙
             sym (ap (map (hide A)) et);

@@ -183,7 +183,7 @@ module _ (A : ℕ) (o : ℕ → Bool) (s t : State) (r : Alike A o s t) where
   close_for_alike : (room : ℕ) (x : CloseAnswer) → close_for room s x ≡ close_for room t x
   close_for_alike room NoClose = refl
   close_for_alike room (Close d) =
-      let e = blind_alike A (any (conn_triad d)) (λ l. ListLaws.any-map (hide A) (conn_triad d) (conn_triad d) (λ x. refl) l) s.table t.table r.table in
+      let e = blind_alike A (any (conn_triad d)) (λ l. ListLaws.any_map (hide A) (conn_triad d) (conn_triad d) (λ x. refl) l) s.table t.table r.table in
       rw e refl
 
   pub close_says_alike : (request : List ℕ) (room : ℕ) → close_answer request room s ≡ close_answer request room t
@@ -206,7 +206,7 @@ module _ (A : ℕ) (o : ℕ → Bool) (s t : State) (r : Alike A o s t) where
             sym (ap (cover o) (run_lost_lem d.fixed t.contents));
         table =
             removal_rehear (deaf A) c (without_first p s.table) ∙
-            ap₂ after_removal h (sym (ListLaws.without-map (hide A) p p u s.table) ∙ ap (without_first p) r.table ∙ ListLaws.without-map (hide A) p p u t.table) ∙
+            ap₂ after_removal h (sym (ListLaws.without_map (hide A) p p u s.table) ∙ ap (without_first p) r.table ∙ ListLaws.without_map (hide A) p p u t.table) ∙
             sym (removal_rehear (deaf A) d (without_first p t.table));
         nextId = r.nextId;
         counters = r.counters;
@@ -217,8 +217,8 @@ module _ (A : ℕ) (o : ℕ → Bool) (s t : State) (r : Alike A o s t) where
   close_by_alike NoClose = r
   close_by_alike (Close d) =
       removed_alike false Closed (conn_triad d) (λ c. refl) (find (conn_triad d) s.table) (find (conn_triad d) t.table)
-      (sym (ListLaws.find-map (hide A) (conn_triad d) (conn_triad d) (λ c. refl) s.table) ∙
-      ap (find (conn_triad d)) r.table ∙ ListLaws.find-map (hide A) (conn_triad d) (conn_triad d) (λ c. refl) t.table)
+      (sym (ListLaws.find_map (hide A) (conn_triad d) (conn_triad d) (λ c. refl) s.table) ∙
+      ap (find (conn_triad d)) r.table ∙ ListLaws.find_map (hide A) (conn_triad d) (conn_triad d) (λ c. refl) t.table)
 
   pub close_alike : (request : List ℕ) → Alike A o (close_effect request s) (close_effect request t)
   unfolding close_effect
@@ -232,7 +232,7 @@ module _ (A : ℕ) (o : ℕ → Bool) (s t : State) (r : Alike A o s t) where
       sym (map_map (hide A) (sends now) (λ c. sends now (hide A c)) (λ c. refl) l)
 
   due_keep : (now : ℕ) (l : List Conn) → keep (due now) (map (hide A) l) ≡ map (hide A) (keep (due now) l)
-  due_keep now l = ListLaws.keep-map (hide A) (due now) (due now) (λ c. refl) l
+  due_keep now l = ListLaws.keep_map (hide A) (due now) (due now) (λ c. refl) l
 
   abbrev each : ℕ → List Content → Conn → List ℕ
   each now cs c = packet now (input_bytes cs c.fixed) c
@@ -295,44 +295,44 @@ module _ (A : ℕ) (o : ℕ → Bool) (s t : State) (r : Alike A o s t) where
 
   -- RECEIVE, from another address
   module _ (now from : ℕ) (f : Frame) (other : eqb from A ≡ false) where
-    meant-other : (c : Conn) → meant_for from f c ≡ true → eqb c.fixed.originator A ≡ false
-    meant-other c e = cc (eqb_true c.fixed.originator from (and_right (eqb c.fixed.otid.0 f.id.0) (eqb c.fixed.originator from) e), other)
+    meant_other : (c : Conn) → meant_for from f c ≡ true → eqb c.fixed.originator A ≡ false
+    meant_other c e = cc (eqb_true c.fixed.originator from (and_right (eqb c.fixed.otid.0 f.id.0) (eqb c.fixed.originator from) e), other)
 
-    hear-hide : (l : List Conn) → change_first (meant_for from f) (hear now f) (map (hide A) l) ≡ map (hide A) (change_first (meant_for from f) (hear now f) l)
-    hear-hide l =
-        ListLaws.change-map (hide A) (meant_for from f) (meant_for from f) (λ c. refl) (hear now f) (hear now f)
-        (λ c e. ap (hear now f) (hide_bare A c (meant-other c e)) ∙ sym (hide_bare A (hear now f c) (ap (λ (x : Fixed). eqb x.originator A) (hear_fixed now f c) ∙ meant-other c e))) l
+    hear_hide : (l : List Conn) → change_first (meant_for from f) (hear now f) (map (hide A) l) ≡ map (hide A) (change_first (meant_for from f) (hear now f) l)
+    hear_hide l =
+        ListLaws.change_map (hide A) (meant_for from f) (meant_for from f) (λ c. refl) (hear now f) (hear now f)
+        (λ c e. ap (hear now f) (hide_bare A c (meant_other c e)) ∙ sym (hide_bare A (hear now f c) (ap (λ (x : Fixed). eqb x.originator A) (hear_fixed now f c) ∙ meant_other c e))) l
 
-    found-hide : (l : List Conn) → find (meant_for from f) (map (hide A) l) ≡ find (meant_for from f) l
-    found-hide [] = refl
-    found-hide (x ∷ xs) = by_cases (meant_for from f x) (λ e. cc (hide_bare A x (meant-other x e))) (λ e. cc (found-hide xs))
+    found_hide : (l : List Conn) → find (meant_for from f) (map (hide A) l) ≡ find (meant_for from f) l
+    found_hide [] = refl
+    found_hide (x ∷ xs) = by_cases (meant_for from f x) (λ e. cc (hide_bare A x (meant_other x e))) (λ e. cc (found_hide xs))
 
-    delivered-alike : (x : Option Conn) →
+    delivered_alike : (x : Option Conn) →
         cover o (maybe s.contents (λ c. delivered s.setup f c s.contents) x) ≡ cover o (maybe t.contents (λ c. delivered t.setup f c t.contents) x)
-    delivered-alike none = r.contents
-    delivered-alike (some c) =
+    delivered_alike none = r.contents
+    delivered_alike (some c) =
         ap (λ u. cover o (delivered u f c s.contents)) r.setup ∙
         by_cases (taken t.setup f c)
         (λ e. rw e (change_alike o c.fixed.output (deliver f) s.contents t.contents r.contents))
         (λ e. rw e r.contents)
 
-    pub received-alike : Alike A o (received now from f s) (received now from f t)
+    pub received_alike : Alike A o (received now from f s) (received now from f t)
     unfolding received
-    received-alike =
+    received_alike =
         record {
           setup = r.setup;
           contents =
-              delivered-alike (find (meant_for from f) s.table) ∙
+              delivered_alike (find (meant_for from f) s.table) ∙
               ap (λ x. cover o (maybe t.contents (λ c. delivered t.setup f c t.contents) x))
-              (blind_alike A (find (meant_for from f)) found-hide s.table t.table r.table);
-          table = sym (hear-hide s.table) ∙ ap (change_first (meant_for from f) (hear now f)) r.table ∙ hear-hide t.table;
+              (blind_alike A (find (meant_for from f)) found_hide s.table t.table r.table);
+          table = sym (hear_hide s.table) ∙ ap (change_first (meant_for from f) (hear now f)) r.table ∙ hear_hide t.table;
           nextId = r.nextId;
           counters = r.counters;
         }
 
   frame_alike : (now from : ℕ) → eqb from A ≡ false → (x : Option Frame) → Alike A o (maybe s (λ f. received now from f s) x) (maybe t (λ f. received now from f t) x)
   frame_alike now from n none = r
-  frame_alike now from n (some f) = received-alike now from f n
+  frame_alike now from n (some f) = received_alike now from f n
 
   pub receive_alike : (now from : ℕ) (bytes : List ℕ) → eqb from A ≡ false → Alike A o (receive_effect now from bytes s) (receive_effect now from bytes t)
   unfolding receive_effect
@@ -349,38 +349,38 @@ taken_owner u f c e =
 -- RECEIVE, from that address: nothing to be seen
 module _ (A : ℕ) (o : ℕ → Bool) (now from : ℕ) (that : eqb from A ≡ true) (s : State) (covers : Covers A o s.table) where
   module _ (f : Frame) where
-    meant-that : (c : Conn) → meant_for from f c ≡ true → eqb c.fixed.originator A ≡ true
-    meant-that c e = cc (eqb_true c.fixed.originator from (and_right (eqb c.fixed.otid.0 f.id.0) (eqb c.fixed.originator from) e), that)
+    meant_that : (c : Conn) → meant_for from f c ≡ true → eqb c.fixed.originator A ≡ true
+    meant_that c e = cc (eqb_true c.fixed.originator from (and_right (eqb c.fixed.otid.0 f.id.0) (eqb c.fixed.originator from) e), that)
 
-    hear-unseen : (c : Conn) → meant_for from f c ≡ true → hide A (hear now f c) ≡ hide A c
+    hear_unseen : (c : Conn) → meant_for from f c ≡ true → hide A (hear now f c) ≡ hide A c
     unfolding hear
-    hear-unseen c e = let m = meant-that c e in either_way (λ x. hide A x ≡ hide A c) (newer c.heard f.sequence) (rw m refl) refl
+    hear_unseen c e = let m = meant_that c e in either_way (λ x. hide A x ≡ hide A c) (newer c.heard f.sequence) (rw m refl) refl
 
-    delivered-unseen : (c : Conn) → meant_for from f c ≡ true → stray A o c ≡ false → cover o (delivered s.setup f c s.contents) ≡ cover o s.contents
-    delivered-unseen c m n =
+    delivered_unseen : (c : Conn) → meant_for from f c ≡ true → stray A o c ≡ false → cover o (delivered s.setup f c s.contents) ≡ cover o s.contents
+    delivered_unseen c m n =
         by_cases (taken s.setup f c)
-        (λ e. let a = meant-that c m in
+        (λ e. let a = meant_that c m in
         let b = taken_owner s.setup f c e in
         let k : o c.fixed.output ≡ true = by_cases (o c.fixed.output) (λ y. y) (λ y. clash true refl (cc)) in
         rw e (change_unseen o c.fixed.output (deliver f) s.contents k))
         (λ e. rw e refl)
 
-    pub received-unseen : Alike A o (received now from f s) s
+    pub received_unseen : Alike A o (received now from f s) s
     unfolding received
-    received-unseen =
+    received_unseen =
         record {
           setup = refl;
           contents =
               ListLaws.found_is s.contents (λ c. delivered s.setup f c s.contents) (meant_for from f) (λ c. stray A o c ≡ false) (λ x. cover o x ≡ cover o s.contents)
-              refl delivered-unseen s.table (ListLaws.none_passes (stray A o) s.table covers);
-          table = ListLaws.change_unseen (hide A) (meant_for from f) (hear now f) hear-unseen s.table;
+              refl delivered_unseen s.table (ListLaws.none_passes (stray A o) s.table covers);
+          table = ListLaws.change_unseen (hide A) (meant_for from f) (hear now f) hear_unseen s.table;
           nextId = refl;
           counters = refl;
         }
 
   frame_unseen : (x : Option Frame) → Alike A o (maybe s (λ f. received now from f s) x) s
   frame_unseen none = itself A o s
-  frame_unseen (some f) = received-unseen f
+  frame_unseen (some f) = received_unseen f
 
   pub receive_unseen : (bytes : List ℕ) → Alike A o (receive_effect now from bytes s) s
   unfolding receive_effect

@@ -20,7 +20,7 @@ use Rattle.rules.specs.Calls.{Call, next, run}
 use Rattle.rules_steps.specs.Names.{ForwardOpen, Origin, Fixed, Conn, Info, Event, Plan}
 use Rattle.rules_steps.specs.Steps.{Kept, kept, run_kept}
 use Rattle.rules_isolation.specs.Ends.{all_removal}
-use Rattle.rules_isolation.specs.Apart.{apart_without, apart-change, apart-map, apart_removal, apart_append}
+use Rattle.rules_isolation.specs.Apart.{apart_without, apart_change, apart_map, apart_removal, apart_append}
 use Rattle.rules_isolation.specs.Survive.{Distinct, triad_of, triad_is_sym}
 use Rattle.rules_isolation.specs.Seen.{Feeding, hear_fixed, send_fixed}
 
@@ -40,7 +40,7 @@ module _ (u : Conn → Conn) (same : (c : Conn) → (u c).fixed ≡ c.fixed) whe
   fixed_map P l a = ListLaws.all_mapped u (λ c. P c.fixed) (λ c. P c.fixed) (λ c h. subst P (sym (same c)) h) l a
 
   pub fixed_change : (P : Fixed → Type 0) (p : Conn → Bool) (l : List Conn) → All (λ c. P c.fixed) l → All (λ c. P c.fixed) (change_first p u l)
-  fixed_change P p l a = ListLaws.all-change (λ c. P c.fixed) p u (λ c h. subst P (sym (same c)) h) l a
+  fixed_change P p l a = ListLaws.all_change (λ c. P c.fixed) p u (λ c h. subst P (sym (same c)) h) l a
 
 abbrev Feeds : Setup → Fixed → Type 0
 Feeds u f = is_input (shape_at u f.input).kind ≡ true
@@ -61,7 +61,7 @@ accepted request q s p e =
     let f = CheckLaws.triad_free s.setup (fixeds s.table) q (asked_path request q) x.0 in
     subst (Accepted s q) x.1
     (record {
-      free = sym (ListLaws.any-map (λ c. c.fixed) (has_triad q.triad) (conn_triad q.triad) (λ c. refl) s.table) ∙ f;
+      free = sym (ListLaws.any_map (λ c. c.fixed) (has_triad q.triad) (conn_triad q.triad) (λ c. refl) s.table) ∙ f;
       input = CheckLaws.input_is s.setup (fixeds s.table) q (asked_path request q) x.0;
       output = CheckLaws.output_is s.setup (fixeds s.table) q (asked_path request q) x.0;
     })
@@ -104,7 +104,7 @@ module _ (u : Setup) where
   hearing t from f s h =
       record {
         setup = h.setup;
-        distinct = apart-change same_triad (hear t f) (hear_fixed t f) (meant_for from f) s.table h.distinct;
+        distinct = apart_change same_triad (hear t f) (hear_fixed t f) (meant_for from f) s.table h.distinct;
         inputs = fixed_change (hear t f) (hear_fixed t f) (Feeds u) (meant_for from f) s.table h.inputs;
         outputs = fixed_change (hear t f) (hear_fixed t f) (Owns u) (meant_for from f) s.table h.outputs;
       }
@@ -114,7 +114,7 @@ module _ (u : Setup) where
   producing t s h =
       record {
         setup = h.setup;
-        distinct = apart-map same_triad (sends t) (send_fixed t) s.table h.distinct;
+        distinct = apart_map same_triad (sends t) (send_fixed t) s.table h.distinct;
         inputs = fixed_map (sends t) (send_fixed t) (Feeds u) s.table h.inputs;
         outputs = fixed_map (sends t) (send_fixed t) (Owns u) s.table h.outputs;
       }

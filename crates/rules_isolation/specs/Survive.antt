@@ -12,7 +12,7 @@ use Rattle.rules_steps.specs.Names.{ToId, Triad, Fixed, Heard, Sent, Conn}
 use Rattle.rules.specs.Checks.{has_triad}
 use Rattle.rules.specs.Removal.{in_stream, conn_triad}
 use Rattle.rules_isolation.specs.Apart.{Apart}
-use Rattle.rules_isolation.specs.Ends.{Ends, done, step, one_end, all_ends, back_ends, outside, keep_ends, same_test, rehear, ends-rehear}
+use Rattle.rules_isolation.specs.Ends.{Ends, done, step, one_end, all_ends, back_ends, outside, keep_ends, same_test, rehear, ends_rehear}
 
 pub triad_is_true : (a b : Triad) → triad_is a b ≡ true → a ≡ b
 triad_is_true a b e =
@@ -142,9 +142,9 @@ module _ (w : Fixed → Heard → Heard) where
   canonical_seen p b l r ends d =
       let ts = in_table r in
       let k : over ts l ≡ over ts (map (rehear w) l) =
-      fun_ext (λ k. ap not (sym (ListLaws.any-map (rehear w) (λ c. in_stream k c && left ts c) (λ c. in_stream k c && left ts c) (λ x. refl) l))) in
-      let m = ListLaws.keep-map (rehear w) (outside (over ts l)) (outside (over ts l)) (λ x. refl) l in
-      let e = ends-rehear w (gone ts) (λ x. refl) (canonical p b l r ends d) in
+      fun_ext (λ k. ap not (sym (ListLaws.any_map (rehear w) (λ c. in_stream k c && left ts c) (λ c. in_stream k c && left ts c) (λ x. refl) l))) in
+      let m = ListLaws.keep_map (rehear w) (outside (over ts l)) (outside (over ts l)) (λ x. refl) l in
+      let e = ends_rehear w (gone ts) (λ x. refl) (canonical p b l r ends d) in
       subst (λ κ. Ends (gone ts) (keep (outside κ) (map (rehear w) l)) (map (rehear w) r)) k
       (subst (λ t. Ends (gone ts) t (map (rehear w) r)) (sym m) e)
 

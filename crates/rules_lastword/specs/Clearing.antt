@@ -25,7 +25,7 @@ use Rattle.rules_steps.specs.Names.{Triad}
 use Rattle.rules_steps.specs.Steps.{log, news, learnt, history, history_next, run_next, run_follows}
 use Rattle.rules_lastword.specs.Words.{Contact, is_news, speaks, noted, silent, Word, counts, fits, says_run, takes, asks_for, word_of, no_word, in_run, opens, early}
 use Rattle.rules_lastword.specs.Knows.{or_yes}
-use Rattle.rules_lastword.specs.LastWord.{accepted, word, lane-obeys}
+use Rattle.rules_lastword.specs.LastWord.{accepted, word, lane_obeys}
 
 -- ---- of a word alone
 
@@ -85,7 +85,7 @@ module _ (u : Setup) (n i : ℕ) (there : place_of is_output u n ≡ some i) (se
   obeys_next : (c : Call) → Opens_none c → (content_at (next c before) i).run ≡ in_run (told_by c)
   obeys_next c none_open =
       let few' : early (accepted u n i there seed small (cs ++ (c ∷ []))) ≡ true = ap early (history_next opens cs c (fresh u seed) 0 ∙ none_open (accepted u n i there seed small cs)) ∙ few in
-      ap (λ (s : State). (content_at s i).run) (sym (run_next cs c (fresh u seed))) ∙ (lane-obeys u n i there seed small (cs ++ (c ∷ [])) few').run ∙
+      ap (λ (s : State). (content_at s i).run) (sym (run_next cs c (fresh u seed))) ∙ (lane_obeys u n i there seed small (cs ++ (c ∷ [])) few').run ∙
       ap in_run (history_next (word_of u n (shape_at u i).size) cs c (fresh u seed) no_word)
 
   -- A FRAME DECIDES: after a frame that is taken, run is bit 0 of its header
@@ -118,10 +118,10 @@ module _ (u : Setup) (n i : ℕ) (there : place_of is_output u n ≡ some i) (se
   pub cleared_by_a_close : (request : List ℕ) (room : ℕ) (m : Contact) → is_yes (answer (Calls.Close request room) before) ≡ true → told.owner ≡ some m →
       close_of request ≡ Close m.triad → (content_at (next (Calls.Close request room) before) i).run ≡ false
   cleared_by_a_close request room m y o e =
-      obeys_next (Calls.Close request room) (λ d. rw (y, e) refl) ∙ ap in_run by-close
+      obeys_next (Calls.Close request room) (λ d. rw (y, e) refl) ∙ ap in_run by_close
     where
-      by-close : told_by (Calls.Close request room) ≡ record { owner = none; said = told.said; taken = told.taken }
-      by-close = rw (y, e, o, triad_is_refl m.triad) refl
+      by_close : told_by (Calls.Close request room) ≡ record { owner = none; said = told.said; taken = told.taken }
+      by_close = rw (y, e, o, triad_is_refl m.triad) refl
 
   -- CLEARED BY SILENCE: after an expiry call later than its owner was heard last, plus the timeout
   pub cleared_by_silence : (t : ℕ) (m : Contact) → timely t ≡ true → told.owner ≡ some m → m.at + m.timeout < t →
@@ -129,10 +129,10 @@ module _ (u : Setup) (n i : ℕ) (there : place_of is_output u n ≡ some i) (se
   unfolding expire_call expire_answer
   cleared_by_silence t m y o k =
       let z : silent t m ≡ true = same_test m.timeout m.at t ∙ lt-ltb (m.at + m.timeout) t k in
-      obeys_next (Calls.Expire t) (λ d. rw y refl) ∙ ap in_run (by-silence z)
+      obeys_next (Calls.Expire t) (λ d. rw y refl) ∙ ap in_run (by_silence z)
     where
-      by-silence : silent t m ≡ true → told_by (Calls.Expire t) ≡ record { owner = none; said = told.said; taken = told.taken }
-      by-silence z = rw (y, o, z) refl
+      by_silence : silent t m ≡ true → told_by (Calls.Expire t) ≡ record { owner = none; said = told.said; taken = told.taken }
+      by_silence z = rw (y, o, z) refl
 
 -- ---- WHAT IS IN RUN WAS HEARD
 pub record Heard_lately (t : ℕ) (w : Word) : Type 0 where
@@ -174,7 +174,7 @@ module _ (u : Setup) (n i : ℕ) (there : place_of is_output u n ≡ some i) (se
   pub in_run_was_recorded : (content_at (run cs (fresh u seed)) i).run ≡ true → Recorded (word u n i there seed small cs)
   in_run_was_recorded y =
       let w = word u n i there seed small cs in
-      owner_recorded w.owner w.said w.taken (always_spoken u n (shape_at u i).size cs (fresh u seed) no_word refl) (sym (lane-obeys u n i there seed small cs few).run ∙ y)
+      owner_recorded w.owner w.said w.taken (always_spoken u n (shape_at u i).size cs (fresh u seed) no_word refl) (sym (lane_obeys u n i there seed small cs few).run ∙ y)
 
   -- AFTER AN EXPIRY CALL at time t, what is in run has an owner with a recorded frame at most its timeout before t
   pub in_run_was_heard : (t : ℕ) → timely t ≡ true → (content_at (next (Calls.Expire t) (run cs (fresh u seed))) i).run ≡ true →

@@ -22,7 +22,7 @@ use Rattle.rules_steps.specs.Names.{Triad, ForwardOpen, Origin, Conn, Plan}
 use Rattle.rules_steps.specs.Steps.{log, history, both, both_history, Follows, run_follows, acceptance}
 use Rattle.rules_lastword.specs.Words.{Contact, contact_of, opens, early}
 use Rattle.rules_lastword.specs.Ids.{Ground, ground_follows, fresh_ground, next_is_new, fewer_early}
-use Rattle.rules_lastword.specs.Knows.{Known, Knows, knows-closing, knows-expiring, knows-hearing, knows-opening, knows_producing}
+use Rattle.rules_lastword.specs.Knows.{Known, Knows, knows_closing, knows_expiring, knows_hearing, knows_opening, knows_producing}
 
 -- an open under a triad
 abbrev pub asks_as : Triad → List ℕ → ForwardOpen → Bool
@@ -46,7 +46,7 @@ module _ (u : Setup) (seed : ℕ) (small : seed < 2 ^ 32) where
         Knows (has_triad k) ((contact_of (asks_as k)).onOpen t request q g (acceptance q g p s.nextId) w) (opened t q g (config_bytes request q) p s)
     unfolding new_fixed
     opening t request q g p s w e new h =
-        knows-opening (has_triad k) (asks_as k) t request q g (config_bytes request q) p s w refl
+        knows_opening (has_triad k) (asks_as k) t request q g (config_bytes request q) p s w refl
         (λ y. subst (λ j. any (conn_triad j) s.table ≡ false) (sym (triad_is_true k q.triad y)) (accepted request q s p e).free) new h
 
     noting : (w : Option Contact) (s : State) → Knows (has_triad k) w s → Knows (has_triad k) w (next_event_effect s)
@@ -68,18 +68,18 @@ module _ (u : Setup) (seed : ℕ) (small : seed < 2 ^ 32) where
             ground.opening t request q g p s w.0 e h.0,
             (λ y. let z = fewer_early w.0 y in opening t request q g p s w.1 e (next_is_new (first_id seed) w.0 s (h.0.ids z)) (h.1 z)),
           );
-          closing = λ d c s w e h. (ground.closing d c s w.0 e h.0, (λ y. knows-closing (has_triad k) (asks_as k) d c s w.1 h.0.sound.distinct e (h.1 y)));
-          expiring = λ t s w h. (ground.expiring t s w.0 h.0, (λ y. knows-expiring (has_triad k) (asks_as k) t s w.1 (h.1 y)));
-          hearing = λ t from f s w h. (ground.hearing t from f s w.0 h.0, (λ y. knows-hearing (has_triad k) (asks_as k) t from f s w.1 (h.1 y)));
+          closing = λ d c s w e h. (ground.closing d c s w.0 e h.0, (λ y. knows_closing (has_triad k) (asks_as k) d c s w.1 h.0.sound.distinct e (h.1 y)));
+          expiring = λ t s w h. (ground.expiring t s w.0 h.0, (λ y. knows_expiring (has_triad k) (asks_as k) t s w.1 (h.1 y)));
+          hearing = λ t from f s w h. (ground.hearing t from f s w.0 h.0, (λ y. knows_hearing (has_triad k) (asks_as k) t from f s w.1 (h.1 y)));
         }
 
-    fresh-knows : Knows (has_triad k) none (fresh u seed)
+    fresh_knows : Knows (has_triad k) none (fresh u seed)
     unfolding fresh
-    fresh-knows = record { apart = tt; known = tt }
+    fresh_knows = record { apart = tt; known = tt }
 
     known : (cs : List Call) → early (history opens (log cs (fresh u seed)) 0) ≡ true → Knows (has_triad k) (contact k cs) (run cs (fresh u seed))
     known cs y =
-        let a = run_follows (both opens (contact_of (asks_as k))) Stands stands cs (fresh u seed) (0, none) (fresh_ground u seed small, (λ z. fresh-knows)) in
+        let a = run_follows (both opens (contact_of (asks_as k))) Stands stands cs (fresh u seed) (0, none) (fresh_ground u seed small, (λ z. fresh_knows)) in
         let e = both_history opens (contact_of (asks_as k)) (log cs (fresh u seed)) (0, none) in
         (subst (λ (w : ℕ × Option Contact). Stands w (run cs (fresh u seed))) e a).1 y
 

@@ -160,7 +160,7 @@ module _ (u : Setup) (seed : ℕ) (small : seed < 2 ^ 32) where
 
   pub fresh_ground : Ground u seed 0 (fresh u seed)
   unfolding fresh
-  fresh_ground = record { sound = fresh_sound u seed; ids = λ y. record { upto = first-along (first_id seed); ids = tt } }
+  fresh_ground = record { sound = fresh_sound u seed; ids = λ y. record { upto = first_along (first_id seed); ids = tt } }
     where
-      first-along : (first : ℕ) → along first first ≤ first + 2 * 0
-      first-along first = let a = le-leb first first (omega arith) in rw a (omega arith)
+      first_along : (first : ℕ) → along first first ≤ first + 2 * 0
+      first_along first = let a = le-leb first first (omega arith) in rw a (omega arith)

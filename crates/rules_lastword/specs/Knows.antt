@@ -23,7 +23,7 @@ use Rattle.rules.specs.Removal.{after_removal, conn_triad, removed, expired, exp
 use Rattle.rules.specs.Receiving.{Frame, meant_for, newer, recorded, hear, received}
 use Rattle.rules.specs.Producing.{due, sends, produce_effect}
 use Rattle.rules_isolation.specs.Ends.{all_removal}
-use Rattle.rules_isolation.specs.Apart.{Apart, apart_without, apart-change, apart-map, apart_removal, apart_append}
+use Rattle.rules_isolation.specs.Apart.{Apart, apart_without, apart_change, apart_map, apart_removal, apart_append}
 use Rattle.rules_isolation.specs.Survive.{Distinct, triad_of, triad_is_true}
 use Rattle.rules_isolation.specs.Seen.{hear_fixed, send_fixed}
 use Rattle.rules_faults.specs.RunBit.{none_silent}
@@ -192,33 +192,33 @@ module _ (g : Fixed → Bool) where
       (all_removal (λ x. conn_triad k x ≡ false) (λ x z h. h) c (without_first (conn_triad k) l) (ListLaws.none_passes (conn_triad k) (without_first (conn_triad k) l) (gone_triad k l d)))
 
   module _ (asks : List ℕ → ForwardOpen → Bool) where
-    pub knows-closing : (k : Triad) (c : Conn) (s : State) (w : Option Contact) → Distinct s.table → find (conn_triad k) s.table ≡ some c → Knows w s →
+    pub knows_closing : (k : Triad) (c : Conn) (s : State) (w : Option Contact) → Distinct s.table → find (conn_triad k) s.table ≡ some c → Knows w s →
         Knows ((contact_of asks).onClose k w) (removed false Closed c (without_first (conn_triad k) s.table) s)
     unfolding removed
-    knows-closing k c s w d e h =
+    knows_closing k c s w d e h =
         let b = knows_removing w false Closed (conn_triad k) c s e h in
         record { apart = b.apart; known = closed_known k w (after_removal c (without_first (conn_triad k) s.table)) (none_triad k c s.table d) b.known }
 
     -- AN EXPIRY: a connection that was silent for too long is gone
-    silent-known : (t : ℕ) (w : Option Contact) (l : List Conn) → All (λ c. expired t c ≡ false) l → All (Ears w) l →
+    silent_known : (t : ℕ) (w : Option Contact) (l : List Conn) → All (λ c. expired t c ≡ false) l → All (Ears w) l →
         All (Ears (maybe none (λ m. cond (silent t m) none (some m)) w)) l
-    silent-known t none l n a = a
-    silent-known t (some m) l n a =
+    silent_known t none l n a = a
+    silent_known t (some m) l n a =
         by_cases (silent t m)
         (λ y. rw y (ListLaws.all_two (λ c. expired t c ≡ false) (Ears (some m)) (Ears none) (λ c z h v. clash (expired t c) (silent_is m t c (h v) ∙ y) z) l n a))
         (λ y. rw y a)
 
-    pub knows-expiring : (t : ℕ) (s : State) (w : Option Contact) → Knows w s → Knows ((contact_of asks).onExpire t w) (expire_effect t s)
-    knows-expiring t s w h =
+    pub knows_expiring : (t : ℕ) (s : State) (w : Option Contact) → Knows w s → Knows ((contact_of asks).onExpire t w) (expire_effect t s)
+    knows_expiring t s w h =
         let b = expiry_keeps (Knows w) (knows_removing w) t s h in
-        record { apart = b.apart; known = silent-known t w (expire_effect t s).table (none_silent t s) b.known }
+        record { apart = b.apart; known = silent_known t w (expire_effect t s).table (none_silent t s) b.known }
 
     -- A FRAME
     abbrev told : ℕ → ℕ → Frame → Contact → Contact
     told t from f m = cond (speaks from f m) (noted t f m) m
 
-    heard-one : (t from : ℕ) (f : Frame) (m : Contact) (x : Conn) → meant_for from f x ≡ true → Ear m x → Ear (told t from f m) (hear t f x)
-    heard-one t from f m x e h =
+    heard_one : (t from : ℕ) (f : Frame) (m : Contact) (x : Conn) → meant_for from f x ≡ true → Ear m x → Ear (told t from f m) (hear t f x)
+    heard_one t from f m x e h =
         let o = sym (meant_is m from f x h) ∙ e in
         let k = newer_is m f x h in
         by_cases (in_order m.last f)
@@ -226,8 +226,8 @@ module _ (g : Fixed → Bool) where
         (λ i. subst (λ b. Ear (cond b (noted t f m) m) (hear t f x)) (sym (ap (λ b. b && in_order m.last f) o ∙ i)) (subst (Ear m) (sym (hear_old t f x (k ∙ i))) h))
 
     -- a frame that is not from it teaches nothing of it
-    not-from : (t from : ℕ) (f : Frame) (m : Contact) → is_for from f m ≡ false → told t from f m ≡ m
-    not-from t from f m n = ap (λ b. cond (b && in_order m.last f) (noted t f m) m) n
+    not_from : (t from : ℕ) (f : Frame) (m : Contact) → is_for from f m ≡ false → told t from f m ≡ m
+    not_from t from f m n = ap (λ b. cond (b && in_order m.last f) (noted t f m) m) n
 
     -- it is for another, that stands before: then not from this one
     pub shadowed : (from : ℕ) (f : Frame) (m : Contact) (x y : Conn) → meant_for from f x ≡ true → crowds x.fixed y.fixed ≡ false → passes y ≡ true → Ear m y →
@@ -246,46 +246,46 @@ module _ (g : Fixed → Bool) where
         clash (crowds x.fixed y.fixed) yes n)
         (λ z. z)
 
-    heard-known : (t from : ℕ) (f : Frame) (m : Contact) (l : List Conn) → Apart crowds l → All (Ears (some m)) l →
+    heard_known : (t from : ℕ) (f : Frame) (m : Contact) (l : List Conn) → Apart crowds l → All (Ears (some m)) l →
         All (Ears (some (told t from f m))) (change_first (meant_for from f) (hear t f) l)
-    heard-known t from f m [] d a = tt
-    heard-known t from f m (x ∷ xs) d a =
+    heard_known t from f m [] d a = tt
+    heard_known t from f m (x ∷ xs) d a =
         by_cases (meant_for from f x)
         (λ e. rw e (
-          (λ y. heard-one t from f m x e (a.0 (sym (ap g (hear_fixed t f x)) ∙ y))),
+          (λ y. heard_one t from f m x e (a.0 (sym (ap g (hear_fixed t f x)) ∙ y))),
           ListLaws.all_two (λ y. crowds x.fixed y.fixed ≡ false) (Ears (some m)) (Ears (some (told t from f m)))
-              (λ y n h v. subst (λ b. Ear b y) (sym (not-from t from f m (shadowed from f m x y e n v (h v)))) (h v)) xs
+              (λ y n h v. subst (λ b. Ear b y) (sym (not_from t from f m (shadowed from f m x y e n v (h v)))) (h v)) xs
               (ListLaws.none_passes (λ y. crowds x.fixed y.fixed) xs d.0) a.1,
         ))
         (λ e. rw e (
-          (λ y. subst (λ b. Ear b x) (sym (not-from t from f m (sym (meant_is m from f x (a.0 y)) ∙ e))) (a.0 y)),
-          heard-known t from f m xs d.1 a.1,
+          (λ y. subst (λ b. Ear b x) (sym (not_from t from f m (sym (meant_is m from f x (a.0 y)) ∙ e))) (a.0 y)),
+          heard_known t from f m xs d.1 a.1,
         ))
 
-    heard-any : (t from : ℕ) (f : Frame) (w : Option Contact) (l : List Conn) → Apart crowds l → All (Ears w) l →
+    heard_any : (t from : ℕ) (f : Frame) (w : Option Contact) (l : List Conn) → Apart crowds l → All (Ears w) l →
         All (Ears ((contact_of asks).onFrame t from f w)) (change_first (meant_for from f) (hear t f) l)
-    heard-any t from f none l d a = ListLaws.all-change (Ears none) (meant_for from f) (hear t f) (λ x h y. h (sym (ap g (hear_fixed t f x)) ∙ y)) l a
-    heard-any t from f (some m) l d a = heard-known t from f m l d a
+    heard_any t from f none l d a = ListLaws.all_change (Ears none) (meant_for from f) (hear t f) (λ x h y. h (sym (ap g (hear_fixed t f x)) ∙ y)) l a
+    heard_any t from f (some m) l d a = heard_known t from f m l d a
 
-    pub knows-hearing : (t from : ℕ) (f : Frame) (s : State) (w : Option Contact) → Knows w s → Knows ((contact_of asks).onFrame t from f w) (received t from f s)
+    pub knows_hearing : (t from : ℕ) (f : Frame) (s : State) (w : Option Contact) → Knows w s → Knows ((contact_of asks).onFrame t from f w) (received t from f s)
     unfolding received
-    knows-hearing t from f s w h =
+    knows_hearing t from f s w h =
         record {
-          apart = apart-change crowds (hear t f) (hear_fixed t f) (meant_for from f) s.table h.apart;
-          known = heard-any t from f w s.table h.apart h.known;
+          apart = apart_change crowds (hear t f) (hear_fixed t f) (meant_for from f) s.table h.apart;
+          known = heard_any t from f w s.table h.apart h.known;
         }
 
     -- whom a frame is for: the one that is known, exactly where the frame is from it
-    pub found-is-met : (from : ℕ) (f : Frame) (w : Option Contact) (l : List Conn) → Apart crowds l → All (Ears w) l → is_some w ≡ any passes l →
+    pub found_is_met : (from : ℕ) (f : Frame) (w : Option Contact) (l : List Conn) → Apart crowds l → All (Ears w) l → is_some w ≡ any passes l →
         maybe false (is_for from f) w ≡ maybe false passes (find (meant_for from f) l)
-    found-is-met from f none [] d a e = refl
-    found-is-met from f (some m) [] d a e = clash true refl e
-    found-is-met from f w (x ∷ xs) d a e =
+    found_is_met from f none [] d a e = refl
+    found_is_met from f (some m) [] d a e = clash true refl e
+    found_is_met from f w (x ∷ xs) d a e =
         by_cases (meant_for from f x)
         (λ y. rw y (first w d.0 a.0 a.1 e y))
         (λ n. by_cases (passes x)
         (λ v. let z = sole x xs d.0 v in rw n (other w (a.0 v) n ∙ sym (unmet xs z)))
-        (λ v. rw n (found-is-met from f w xs d.1 a.1 (e ∙ ap (λ b. b || any passes xs) v))))
+        (λ v. rw n (found_is_met from f w xs d.1 a.1 (e ∙ ap (λ b. b || any passes xs) v))))
       where
         unmet : (l : List Conn) → any passes l ≡ false → maybe false passes (find (meant_for from f) l) ≡ false
         unmet l z = ListLaws.found_is false passes (meant_for from f) (λ c. passes c ≡ false) (λ b. b ≡ false) refl (λ c k h. h) l (ListLaws.none_passes passes l z)
@@ -312,16 +312,16 @@ module _ (g : Fixed → Bool) where
             (λ v. hidden m n a y (sym (e ∙ ap (λ b. b || any passes xs) v)) ∙ sym v)
 
     -- AN OPEN: it is known where it asks so
-    new-ear : (t : ℕ) (q : ForwardOpen) (o : Origin) (p : Plan) (n : ℕ) → Ear (met t q o (acceptance q o p n)) (new_conn t q o p n)
+    new_ear : (t : ℕ) (q : ForwardOpen) (o : Origin) (p : Plan) (n : ℕ) → Ear (met t q o (acceptance q o p n)) (new_conn t q o p n)
     unfolding new_conn new_fixed new_heard
-    new-ear t q o p n = record { triad = refl; id = sym (id_told q o p n); sender = refl; timeout = refl; until = refl; last = refl; cip = λ z. refl }
+    new_ear t q o p n = record { triad = refl; id = sym (id_told q o p n); sender = refl; timeout = refl; until = refl; last = refl; cip = λ z. refl }
 
-    pub knows-opening : (t : ℕ) (request : List ℕ) (q : ForwardOpen) (o : Origin) (bytes : List ℕ) (p : Plan) (s : State) (w : Option Contact) →
+    pub knows_opening : (t : ℕ) (request : List ℕ) (q : ForwardOpen) (o : Origin) (bytes : List ℕ) (p : Plan) (s : State) (w : Option Contact) →
         g (new_fixed q o p s.nextId) ≡ asks request q → (g (new_fixed q o p s.nextId) ≡ true → any passes s.table ≡ false) →
         any (λ c. eqb c.fixed.otid.0 s.nextId) s.table ≡ false → Knows w s →
         Knows ((contact_of asks).onOpen t request q o (acceptance q o p s.nextId) w) (opened t q o bytes p s)
     unfolding opened new_conn new_fixed
-    knows-opening t request q o bytes p s w same lone new h =
+    knows_opening t request q o bytes p s w same lone new h =
         let c = new_conn t q o p s.nextId in
         let l = s.table in
         by_cases (passes c)
@@ -330,7 +330,7 @@ module _ (g : Fixed → Bool) where
         subst (λ b. Knows (cond b now w) (opened t q o bytes p s)) (sym (sym same ∙ y))
         (record {
           apart = apart_append crowds c l (alone c l a new) h.apart;
-          known = ListLaws.all_append (Ears now) l c (vacuous now l a) (λ z. new-ear t q o p s.nextId);
+          known = ListLaws.all_append (Ears now) l c (vacuous now l a) (λ z. new_ear t q o p s.nextId);
         }))
         (λ n. subst (λ b. Knows (cond b (some (met t q o (acceptance q o p s.nextId))) w) (opened t q o bytes p s)) (sym (sym same ∙ n))
         (record {
@@ -354,6 +354,6 @@ module _ (g : Fixed → Bool) where
   unfolding produce_effect
   knows_producing w t s h =
       record {
-        apart = apart-map crowds (sends t) (send_fixed t) s.table h.apart;
+        apart = apart_map crowds (sends t) (send_fixed t) s.table h.apart;
         known = ListLaws.all_mapped (sends t) (Ears w) (Ears w) (sends_known w t) s.table h.known;
       }

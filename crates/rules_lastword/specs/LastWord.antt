@@ -36,7 +36,7 @@ use Rattle.rules_steps.specs.Names.{Triad, ForwardOpen, Origin, Stores, Fixed, C
 use Rattle.rules_steps.specs.Steps.{log, history, both, both_history, Removing, Follows, run_follows, expiry_keeps, acceptance}
 use Rattle.rules_lastword.specs.Words.{Contact, met, is_for, counts, Word, asks_for, says_run, data_in, takes, word_of, no_word, in_run, holds, opens, early, contact_of}
 use Rattle.rules_lastword.specs.Ids.{Ground, ground_follows, fresh_ground, next_is_new, fewer_early}
-use Rattle.rules_lastword.specs.Knows.{Known, meant_is, crowds, Knows, gone, knows_removing, knows-closing, knows-expiring, knows-hearing, knows-opening, knows_producing, found-is-met}
+use Rattle.rules_lastword.specs.Knows.{Known, meant_is, crowds, Knows, gone, knows_removing, knows_closing, knows_expiring, knows_hearing, knows_opening, knows_producing, found_is_met}
 use Rattle.rules_lastword.specs.Present.{any_left, present_closing, present_expiring}
 use Rattle.rules_lastword.specs.Outputs.{at_place, admits, output_there, taken_is, as_said, change_there, length_at, config_no_output, opened_run, opened_present, not_taken, in_run_is}
 
@@ -120,7 +120,7 @@ module _ (u : Setup) (n i : ℕ) (there : place_of is_output u n ≡ some i) whe
       Agrees ((word_of u n size).onClose k w) (removed false Closed c (without_first (conn_triad k) s.table) s)
   unfolding removed
   closing k c s w d e h =
-      let know = knows-closing (owns i) (asks_for u n) k c s w.owner d e h.knows in
+      let know = knows_closing (owns i) (asks_for u n) k c s w.owner d e h.knows in
       record {
         knows = know;
         present = present_closing (owns i) mute k c s.table w.owner e h.knows.known know.known h.present;
@@ -129,7 +129,7 @@ module _ (u : Setup) (n i : ℕ) (there : place_of is_output u n ≡ some i) whe
 
   expiring : (t : ℕ) (s : State) (w : Word) → Agrees w s → Agrees ((word_of u n size).onExpire t w) (expire_effect t s)
   expiring t s w h =
-      let know = knows-expiring (owns i) (asks_for u n) t s w.owner h.knows in
+      let know = knows_expiring (owns i) (asks_for u n) t s w.owner h.knows in
       let b = maybe false says_run w.said in
       record {
         knows = know;
@@ -159,7 +159,7 @@ module _ (u : Setup) (n i : ℕ) (there : place_of is_output u n ≡ some i) whe
       let more : any (owner_of i) (l ++ (c ∷ [])) ≡ any (owner_of i) l || (owner_of i c || false) = ListLaws.any_append (owner_of i) l (c ∷ []) in
       let m = met t q g (acceptance q g p s.nextId) in
       record {
-        knows = knows-opening (owns i) (asks_for u n) t request q g bytes p s w.owner a.asks a.lone new h.knows;
+        knows = knows_opening (owns i) (asks_for u n) t request q g bytes p s w.owner a.asks a.lone new h.knows;
         present = subst (λ o. is_some (cond o (some m) w.owner) ≡ any (owner_of i) (l ++ (c ∷ []))) a.asks
             (opened_present w.owner m (any (owner_of i) l) (owner_of i c) h.present ∙ sym more);
         body = record {
@@ -216,7 +216,7 @@ module _ (u : Setup) (n i : ℕ) (there : place_of is_output u n ≡ some i) whe
   found_held from f w l cs h known before (some c) e m =
       by_cases (owner_of i c)
       (λ y. owner_held from f w l cs c h (ListLaws.find_any (meant_for from f) (owner_of i) c l e y) before y w.owner
-      (ListLaws.all-find (λ c. owns i c.fixed ≡ true → Known w.owner c) (meant_for from f) c l e known y) (ListLaws.find_passes (meant_for from f) c l e))
+      (ListLaws.all_find (λ c. owns i c.fixed ≡ true → Known w.owner c) (meant_for from f) c l e known y) (ListLaws.find_passes (meant_for from f) c l e))
       (λ y. subst (λ q. Held f w l (here (delivered u f c cs)) q) (sym (not_taken size from f w.owner (m ∙ y))) (subst (λ q. Held f w l q false) (sym (taken_else f c cs y)) before))
 
   heard_present : (t from : ℕ) (f : Frame) (o : Option Contact) → is_some ((contact_of (asks_for u n)).onFrame t from f o) ≡ is_some o
@@ -229,11 +229,11 @@ module _ (u : Setup) (n i : ℕ) (there : place_of is_output u n ≡ some i) whe
       let l = s.table in
       let x = find (meant_for from f) l in
       let same = ListLaws.any_change (owner_of i) (meant_for from f) (hear t f) (λ c. ap (λ (y : Fixed). owns i y) (hear_fixed t f c)) l in
-      let m = found-is-met (owns i) (asks_for u n) from f w.owner l h.knows.apart h.knows.known h.present in
+      let m = found_is_met (owns i) (asks_for u n) from f w.owner l h.knows.apart h.knows.known h.present in
       let held = found_held from f w l s.contents h.body.inside h.knows.known (h.body.run, h.body.holds) x refl m in
       let a = subst (λ v. Held f w l (here (maybe s.contents (λ c. delivered v f c s.contents) x)) (takes size from f w)) (sym e) held in
       record {
-        knows = knows-hearing (owns i) (asks_for u n) t from f s w.owner h.knows;
+        knows = knows_hearing (owns i) (asks_for u n) t from f s w.owner h.knows;
         present = heard_present t from f w.owner ∙ h.present ∙ sym same;
         body = record {
           inside = subst (λ v. i < length (maybe s.contents (λ c. delivered v f c s.contents) x)) (sym e) (found_there f s.contents h.body.inside x);
@@ -246,7 +246,7 @@ module _ (u : Setup) (n i : ℕ) (there : place_of is_output u n ≡ some i) whe
   producing : (w : Word) (t : ℕ) (s : State) → Agrees w s → Agrees w (produce_effect t s)
   unfolding produce_effect
   producing w t s h =
-      let same = ListLaws.any-map (sends t) (owner_of i) (owner_of i) (λ c. ap (λ (y : Fixed). owns i y) (send_fixed t c)) s.table in
+      let same = ListLaws.any_map (sends t) (owner_of i) (owner_of i) (λ c. ap (λ (y : Fixed). owns i y) (send_fixed t c)) s.table in
       record {
         knows = knows_producing (owns i) w.owner t s h.knows;
         present = h.present ∙ sym same;
@@ -315,9 +315,9 @@ module _ (u : Setup) (n i : ℕ) (there : place_of is_output u n ≡ some i) whe
           hearing = λ t from f s w h. (k.hearing t from f s w.0 h.0, (λ y. hearing t from f s w.1 h.0.sound.setup (h.1 y)));
         }
 
-    fresh-agrees : Agrees no_word (fresh u seed)
+    fresh_agrees : Agrees no_word (fresh u seed)
     unfolding fresh
-    fresh-agrees =
+    fresh_agrees =
         let k : here (map blank u.assemblies) ≡ blank (shape_at u i) = get_or-map blank u.assemblies i no_shape in
         record {
           knows = record { apart = tt; known = tt };
@@ -338,7 +338,7 @@ module _ (u : Setup) (n i : ℕ) (there : place_of is_output u n ≡ some i) whe
 
     agreed : (cs : List Call) → early (accepted cs) ≡ true → Agrees (word cs) (run cs (fresh u seed))
     agreed cs y =
-        let a = run_follows (both opens (word_of u n size)) Stands stands cs (fresh u seed) (0, no_word) (fresh_ground u seed small, (λ z. fresh-agrees)) in
+        let a = run_follows (both opens (word_of u n size)) Stands stands cs (fresh u seed) (0, no_word) (fresh_ground u seed small, (λ z. fresh_agrees)) in
         let e = both_history opens (word_of u n size) (log cs (fresh u seed)) (0, no_word) in
         (subst (λ (w : ℕ × Word). Stands w (run cs (fresh u seed))) e a).1 y
 
@@ -348,8 +348,8 @@ module _ (u : Setup) (n i : ℕ) (there : place_of is_output u n ≡ some i) whe
       pub run : (content_at s i).run ≡ in_run w
       pub bytes : (content_at s i).bytes ≡ holds (replicate (shape_at u i).size 0) w
 
-    pub lane-obeys : (cs : List Call) → early (accepted cs) ≡ true → Obeys (word cs) (run cs (fresh u seed))
-    lane-obeys cs y =
+    pub lane_obeys : (cs : List Call) → early (accepted cs) ≡ true → Obeys (word cs) (run cs (fresh u seed))
+    lane_obeys cs y =
         let a = agreed cs y in
         let b = maybe false says_run (word cs).said in
         record {
@@ -359,18 +359,18 @@ module _ (u : Setup) (n i : ℕ) (there : place_of is_output u n ≡ some i) whe
         }
 
     -- and the state knows the owner as the history does
-    pub owner-is-known : (cs : List Call) → early (accepted cs) ≡ true → Knows (owns i) (word cs).owner (run cs (fresh u seed))
-    owner-is-known cs y = (agreed cs y).knows
+    pub owner_is_known : (cs : List Call) → early (accepted cs) ≡ true → Knows (owns i) (word cs).owner (run cs (fresh u seed))
+    owner_is_known cs y = (agreed cs y).knows
 
     -- what the host reads of the output, where its lent output has room: 1 or 0 for run, then the data
     abbrev pub word_bytes : List Call → List ℕ
     word_bytes cs = of_bool (in_run (word cs)) ∷ holds (replicate (shape_at u i).size 0) (word cs)
 
-    pub host-reads-the-word : (cs : List Call) → early (accepted cs) ≡ true → (room : ℕ) →
+    pub host_reads_the_word : (cs : List Call) → early (accepted cs) ≡ true → (room : ℕ) →
         answer (Calls.ReadOutput n room) (run cs (fresh u seed)) ≡ fitting room (word_bytes cs) (Wrote (word_bytes cs))
     unfolding output_call output_answer
-    host-reads-the-word cs y room =
+    host_reads_the_word cs y room =
         let s = run cs (fresh u seed) in
-        let o = lane-obeys cs y in
-        let a = (run_follows (both opens (word_of u n size)) Stands stands cs (fresh u seed) (0, no_word) (fresh_ground u seed small, (λ z. fresh-agrees))).0.sound.setup in
+        let o = lane_obeys cs y in
+        let a = (run_follows (both opens (word_of u n size)) Stands stands cs (fresh u seed) (0, no_word) (fresh_ground u seed small, (λ z. fresh_agrees))).0.sound.setup in
         ap (output_at room s) (ap (λ v. place_of is_output v n) a ∙ there) ∙ ap (λ b. fitting room b (Wrote b)) (ap₂ (λ r b. of_bool r ∷ b) o.run o.bytes)

@@ -73,7 +73,7 @@ lone_owner i l o j h y =
     let k = eqb_true j i (and_right o (eqb j i) y) in
     let n = not_true (o && any (owns j) (fixeds l)) h in
     let m : any (owns j) (fixeds l) ≡ false = sym (ap (λ b. b && any (owns j) (fixeds l)) (and_left o (eqb j i) y)) ∙ n in
-    subst (λ j. any (owner_of j) l ≡ false) k (sym (ListLaws.any-map (λ c. c.fixed) (owns j) (owner_of j) (λ c. refl) l) ∙ m)
+    subst (λ j. any (owner_of j) l ≡ false) k (sym (ListLaws.any_map (λ c. c.fixed) (owns j) (owner_of j) (λ c. refl) l) ∙ m)
 
 module _ (u : Setup) (n i : ℕ) (there : place_of is_output u n ≡ some i) where
   asks_is : (a : ConnectionPath) → (is_owner (kind_of u (ot_point a)) ≡ true → is_some (place_of is_output u (ot_point a)) ≡ true) →

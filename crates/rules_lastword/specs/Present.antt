@@ -35,7 +35,7 @@ module _ (g : Fixed → Bool) (mute : (c : Conn) → is_listener c.fixed.kind �
       (λ y. ap (λ b. is_some (cond b none (some m))) y ∙ sym (none_known g left (subst (λ b. All (Ears (cond b none (some m))) left) y b)))
       (λ n. let other : passes g c ≡ false =
       by_cases (passes g c)
-      (λ v. let ear = ListLaws.all-find (Ears (some m)) (conn_triad k) c l e a v in
+      (λ v. let ear = ListLaws.all_find (Ears (some m)) (conn_triad k) c l e a v in
       clash (triad_is k m.triad) (sym (ap (triad_is k) ear.triad) ∙ ListLaws.find_passes (conn_triad k) c l e) n)
       (λ v. v) in
       ap (λ b. is_some (cond b none (some m))) n ∙ h ∙ any_left (conn_triad k) c l e ∙ ap (λ b. b || any (passes g) left) other)
@@ -48,7 +48,7 @@ module _ (g : Fixed → Bool) (mute : (c : Conn) → is_listener c.fixed.kind �
   any_ends t (done e) a = refl
   any_ends t (step {l = l} c e d) a =
       let rest = without_first (expired t) l in
-      let other : passes g c ≡ false = ListLaws.all-find (spared t) (expired t) c l e a (ListLaws.find_passes (expired t) c l e) in
+      let other : passes g c ≡ false = ListLaws.all_find (spared t) (expired t) c l e a (ListLaws.find_passes (expired t) c l e) in
       let b : All (spared t) (remove_first (expired t) l) = rw e (all_removal (spared t) (λ x s h. h) c rest (ListLaws.all_without (spared t) (expired t) l a)) in
       let is : remove_first (expired t) l ≡ after_removal c rest = rw e refl in
       any_left (expired t) c l e ∙ ap (λ z. z || any (passes g) (after_removal c rest)) other ∙ sym (ap (any (passes g)) is) ∙ any_ends t d b

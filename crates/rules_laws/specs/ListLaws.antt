@@ -77,33 +77,33 @@ module _ {A : Type 0} where
   keep_all g (x ∷ xs) a = cc (a.0, keep_all g xs a.1)
 
   module _ (s g : A → Bool) (u : A → A) (same : (x : A) → g (u x) ≡ g x) where
-    pub keep-change-in : ((x : A) → s x ≡ true → g x ≡ true) → (l : List A) → keep g (change_first s u l) ≡ change_first s u (keep g l)
-    keep-change-in h [] = refl
-    keep-change-in h (x ∷ xs) =
-        let r = keep-change-in h xs in
+    pub keep_change_in : ((x : A) → s x ≡ true → g x ≡ true) → (l : List A) → keep g (change_first s u l) ≡ change_first s u (keep g l)
+    keep_change_in h [] = refl
+    keep_change_in h (x ∷ xs) =
+        let r = keep_change_in h xs in
         by_cases (s x) (λ e. cc (h x e, same x)) (λ e. by_cases (g x) (λ k. cc) (λ k. cc))
 
-    pub keep-change-out : ((x : A) → s x ≡ true → g x ≡ false) → (l : List A) → keep g (change_first s u l) ≡ keep g l
-    keep-change-out h [] = refl
-    keep-change-out h (x ∷ xs) =
-        let r = keep-change-out h xs in
+    pub keep_change_out : ((x : A) → s x ≡ true → g x ≡ false) → (l : List A) → keep g (change_first s u l) ≡ keep g l
+    keep_change_out h [] = refl
+    keep_change_out h (x ∷ xs) =
+        let r = keep_change_out h xs in
         by_cases (s x) (λ e. cc (h x e, same x)) (λ e. by_cases (g x) (λ k. cc) (λ k. cc))
 
   module _ (p g : A → Bool) (c : A) where
-    pub find-keep : (l : List A) → find p l ≡ some c → g c ≡ true → find p (keep g l) ≡ some c
-    find-keep [] f k = f
-    find-keep (x ∷ xs) f k =
-        by_cases (p x) (λ e. let f : some x ≡ some c = cc in cc) (λ e. let f : find p xs ≡ some c = cc in let r = find-keep xs f k in by_cases (g x) (λ h. cc) (λ h. cc))
+    pub find_keep : (l : List A) → find p l ≡ some c → g c ≡ true → find p (keep g l) ≡ some c
+    find_keep [] f k = f
+    find_keep (x ∷ xs) f k =
+        by_cases (p x) (λ e. let f : some x ≡ some c = cc in cc) (λ e. let f : find p xs ≡ some c = cc in let r = find_keep xs f k in by_cases (g x) (λ h. cc) (λ h. cc))
 
-    pub without-keep-in : (l : List A) → find p l ≡ some c → g c ≡ true → keep g (without_first p l) ≡ without_first p (keep g l)
-    without-keep-in [] f k = refl
-    without-keep-in (x ∷ xs) f k =
-        by_cases (p x) (λ e. let f : some x ≡ some c = cc in cc) (λ e. let f : find p xs ≡ some c = cc in let r = without-keep-in xs f k in by_cases (g x) (λ h. cc) (λ h. cc))
+    pub without_keep_in : (l : List A) → find p l ≡ some c → g c ≡ true → keep g (without_first p l) ≡ without_first p (keep g l)
+    without_keep_in [] f k = refl
+    without_keep_in (x ∷ xs) f k =
+        by_cases (p x) (λ e. let f : some x ≡ some c = cc in cc) (λ e. let f : find p xs ≡ some c = cc in let r = without_keep_in xs f k in by_cases (g x) (λ h. cc) (λ h. cc))
 
-    pub without-keep-out : (l : List A) → find p l ≡ some c → g c ≡ false → keep g (without_first p l) ≡ keep g l
-    without-keep-out [] f k = refl
-    without-keep-out (x ∷ xs) f k =
-        by_cases (p x) (λ e. let f : some x ≡ some c = cc in cc) (λ e. let f : find p xs ≡ some c = cc in let r = without-keep-out xs f k in by_cases (g x) (λ h. cc) (λ h. cc))
+    pub without_keep_out : (l : List A) → find p l ≡ some c → g c ≡ false → keep g (without_first p l) ≡ keep g l
+    without_keep_out [] f k = refl
+    without_keep_out (x ∷ xs) f k =
+        by_cases (p x) (λ e. let f : some x ≡ some c = cc in cc) (λ e. let f : find p xs ≡ some c = cc in let r = without_keep_out xs f k in by_cases (g x) (λ h. cc) (λ h. cc))
 
   pub find_none_keep : (p g : A → Bool) (l : List A) → find p l ≡ none → find p (keep g l) ≡ none
   find_none_keep p g [] f = refl
@@ -132,38 +132,38 @@ module _ {A : Type 0} where
     all_without p [] a = tt
     all_without p (x ∷ xs) a = by_cases (p x) (λ e. rw e a.1) (λ e. rw e (a.0, all_without p xs a.1))
 
-    pub all-change : (p : A → Bool) (u : A → A) → ((x : A) → P x → P (u x)) → (l : List A) → All P l → All P (change_first p u l)
-    all-change p u h [] a = tt
-    all-change p u h (x ∷ xs) a = by_cases (p x) (λ e. rw e (h x a.0, a.1)) (λ e. rw e (a.0, all-change p u h xs a.1))
+    pub all_change : (p : A → Bool) (u : A → A) → ((x : A) → P x → P (u x)) → (l : List A) → All P l → All P (change_first p u l)
+    all_change p u h [] a = tt
+    all_change p u h (x ∷ xs) a = by_cases (p x) (λ e. rw e (h x a.0, a.1)) (λ e. rw e (a.0, all_change p u h xs a.1))
 
     pub all_append : (l : List A) (c : A) → All P l → P c → All P (l ++ (c ∷ []))
     all_append [] c a k = (k, tt)
     all_append (x ∷ xs) c a k = (a.0, all_append xs c a.1 k)
 
-    pub all-find : (p : A → Bool) (c : A) (l : List A) → find p l ≡ some c → All P l → P c
-    all-find p c [] e a = clash true refl (cc)
-    all-find p c (x ∷ xs) e a = by_cases (p x) (λ k. let s : x ≡ c = cc in subst P s a.0) (λ k. all-find p c xs (cc) a.1)
+    pub all_find : (p : A → Bool) (c : A) (l : List A) → find p l ≡ some c → All P l → P c
+    all_find p c [] e a = clash true refl (cc)
+    all_find p c (x ∷ xs) e a = by_cases (p x) (λ k. let s : x ≡ c = cc in subst P s a.0) (λ k. all_find p c xs (cc) a.1)
 
-    pub all-change-where : (p : A → Bool) (u : A → A) → ((x : A) → p x ≡ true → P x → P (u x)) → (l : List A) → All P l → All P (change_first p u l)
-    all-change-where p u h [] a = tt
-    all-change-where p u h (x ∷ xs) a = by_cases (p x) (λ e. rw e (h x e a.0, a.1)) (λ e. rw e (a.0, all-change-where p u h xs a.1))
+    pub all_change_where : (p : A → Bool) (u : A → A) → ((x : A) → p x ≡ true → P x → P (u x)) → (l : List A) → All P l → All P (change_first p u l)
+    all_change_where p u h [] a = tt
+    all_change_where p u h (x ∷ xs) a = by_cases (p x) (λ e. rw e (h x e a.0, a.1)) (λ e. rw e (a.0, all_change_where p u h xs a.1))
 
     pub back_keep : (g : A → Bool) → ((x : A) → g x ≡ false → P x) → (l : List A) → All P (keep g l) → All P l
     back_keep g h [] a = tt
     back_keep g h (x ∷ xs) a =
         by_cases (g x) (λ e. let b : P x × All P (keep g xs) = rw e at a in (b.0, back_keep g h xs b.1)) (λ e. (h x e, back_keep g h xs (rw e at a)))
 
-    pub back-without : (p : A → Bool) → ((x : A) → p x ≡ true → P x) → (l : List A) → All P (without_first p l) → All P l
-    back-without p h [] a = tt
-    back-without p h (x ∷ xs) a =
-        by_cases (p x) (λ e. (h x e, rw e at a)) (λ e. let b : P x × All P (without_first p xs) = rw e at a in (b.0, back-without p h xs b.1))
+    pub back_without : (p : A → Bool) → ((x : A) → p x ≡ true → P x) → (l : List A) → All P (without_first p l) → All P l
+    back_without p h [] a = tt
+    back_without p h (x ∷ xs) a =
+        by_cases (p x) (λ e. (h x e, rw e at a)) (λ e. let b : P x × All P (without_first p xs) = rw e at a in (b.0, back_without p h xs b.1))
 
-    pub back-change : (p : A → Bool) (u : A → A) → ((x : A) → P (u x) → P x) → (l : List A) → All P (change_first p u l) → All P l
-    back-change p u h [] a = tt
-    back-change p u h (x ∷ xs) a =
+    pub back_change : (p : A → Bool) (u : A → A) → ((x : A) → P (u x) → P x) → (l : List A) → All P (change_first p u l) → All P l
+    back_change p u h [] a = tt
+    back_change p u h (x ∷ xs) a =
         by_cases (p x)
         (λ e. let b : P (u x) × All P xs = rw e at a in (h x b.0, b.1))
-        (λ e. let b : P x × All P (change_first p u xs) = rw e at a in (b.0, back-change p u h xs b.1))
+        (λ e. let b : P x × All P (change_first p u xs) = rw e at a in (b.0, back_change p u h xs b.1))
 
   pub none_passes : (p : A → Bool) (l : List A) → any p l ≡ false → All (λ x. p x ≡ false) l
   none_passes p [] e = tt
@@ -179,13 +179,13 @@ module _ {A : Type 0} where
 
   -- two tests that agree on the list
   module _ (p q : A → Bool) where
-    pub find-same : (l : List A) → All (λ x. p x ≡ q x) l → find p l ≡ find q l
-    find-same [] a = refl
-    find-same (x ∷ xs) a = cc (a.0, find-same xs a.1)
+    pub find_same : (l : List A) → All (λ x. p x ≡ q x) l → find p l ≡ find q l
+    find_same [] a = refl
+    find_same (x ∷ xs) a = cc (a.0, find_same xs a.1)
 
-    pub without-same : (l : List A) → All (λ x. p x ≡ q x) l → without_first p l ≡ without_first q l
-    without-same [] a = refl
-    without-same (x ∷ xs) a = cc (a.0, without-same xs a.1)
+    pub without_same : (l : List A) → All (λ x. p x ≡ q x) l → without_first p l ≡ without_first q l
+    without_same [] a = refl
+    without_same (x ∷ xs) a = cc (a.0, without_same xs a.1)
 
     pub any_same : (l : List A) → All (λ x. p x ≡ q x) l → any p l ≡ any q l
     any_same [] a = refl
@@ -254,25 +254,25 @@ module _ {A : Type 0} where
 -- under a map
 module _ {A B : Type 0} (f : A → B) where
   module _ (p : B → Bool) (q : A → Bool) (same : (x : A) → p (f x) ≡ q x) where
-    pub any-map : (l : List A) → any p (map f l) ≡ any q l
-    any-map [] = refl
-    any-map (x ∷ xs) = cc (same x, any-map xs)
+    pub any_map : (l : List A) → any p (map f l) ≡ any q l
+    any_map [] = refl
+    any_map (x ∷ xs) = cc (same x, any_map xs)
 
-    pub find-map : (l : List A) → find p (map f l) ≡ option_map f (find q l)
-    find-map [] = refl
-    find-map (x ∷ xs) = by_cases (q x) (λ e. cc (same x)) (λ e. cc (same x, find-map xs))
+    pub find_map : (l : List A) → find p (map f l) ≡ option_map f (find q l)
+    find_map [] = refl
+    find_map (x ∷ xs) = by_cases (q x) (λ e. cc (same x)) (λ e. cc (same x, find_map xs))
 
-    pub keep-map : (l : List A) → keep p (map f l) ≡ map f (keep q l)
-    keep-map [] = refl
-    keep-map (x ∷ xs) = by_cases (q x) (λ e. cc (same x, keep-map xs)) (λ e. cc (same x, keep-map xs))
+    pub keep_map : (l : List A) → keep p (map f l) ≡ map f (keep q l)
+    keep_map [] = refl
+    keep_map (x ∷ xs) = by_cases (q x) (λ e. cc (same x, keep_map xs)) (λ e. cc (same x, keep_map xs))
 
-    pub without-map : (l : List A) → without_first p (map f l) ≡ map f (without_first q l)
-    without-map [] = refl
-    without-map (x ∷ xs) = by_cases (q x) (λ e. cc (same x)) (λ e. cc (same x, without-map xs))
+    pub without_map : (l : List A) → without_first p (map f l) ≡ map f (without_first q l)
+    without_map [] = refl
+    without_map (x ∷ xs) = by_cases (q x) (λ e. cc (same x)) (λ e. cc (same x, without_map xs))
 
-    pub change-map : (v : B → B) (u : A → A) → ((x : A) → q x ≡ true → v (f x) ≡ f (u x)) → (l : List A) → change_first p v (map f l) ≡ map f (change_first q u l)
-    change-map v u h [] = refl
-    change-map v u h (x ∷ xs) = by_cases (q x) (λ e. cc (same x, h x e)) (λ e. cc (same x, change-map v u h xs))
+    pub change_map : (v : B → B) (u : A → A) → ((x : A) → q x ≡ true → v (f x) ≡ f (u x)) → (l : List A) → change_first p v (map f l) ≡ map f (change_first q u l)
+    change_map v u h [] = refl
+    change_map v u h (x ∷ xs) = by_cases (q x) (λ e. cc (same x, h x e)) (λ e. cc (same x, change_map v u h xs))
 
   -- a change that the map does not show
   pub change_unseen : (p : A → Bool) (u : A → A) → ((x : A) → p x ≡ true → f (u x) ≡ f x) → (l : List A) → map f (change_first p u l) ≡ map f l

@@ -236,18 +236,18 @@ module _ (st : State) (local mask : ℕ) (sized : Sized st) where
   )
 
   module _ (up : Upload) (ok : upload_ok st.setup up ≡ true) where
-    size-held : (p : Position) → up ≡ Under p → p.size ≤ 255
+    size_held : (p : Position) → up ≡ Under p → p.size ≤ 255
     unfolding upload_ok
-    size-held p e =
+    size_held p e =
         let h : upload_ok st.setup (Under p) ≡ true = rw e at ok in
         let g = size_tested st.setup.transferLimit st.setup.eds p h in
         omega (arith, sized.limitHigh)
 
-    file-short : (eds : List ℕ) (service instance : ℕ) (a : FirstAttribute) (bytes : List ℕ)
+    file_short : (eds : List ℕ) (service instance : ℕ) (a : FirstAttribute) (bytes : List ℕ)
         → data_length (file st.setup eds service instance a bytes up).0 ≤ 512
     unfolding file eds_file
-    file-short eds service instance a bytes =
-        let t = transfer_short eds up bytes 255 size-held in
+    file_short eds service instance a bytes =
+        let t = transfer_short eds up bytes 255 size_held in
         let i = initiate_short eds st.setup.transferLimit up bytes in
         one_step 512 (eqb instance 0) _ _ (single_short 512 service a class_attributes class_short)
         (one_step 512 (eqb instance eds_instance) _ _
@@ -255,80 +255,80 @@ module _ (st : State) (local mask : ℕ) (sized : Sized st) where
         (one_step 512 (eqb service upload_transfer) _ _ (omega arith) (single_short 512 service a (file_attributes st.setup eds) (file_attributes_short eds))))
         (omega arith))
 
-    file-in-short : (service instance : ℕ) (a : FirstAttribute) (bytes : List ℕ) (eds : Option (List ℕ))
+    file_in_short : (service instance : ℕ) (a : FirstAttribute) (bytes : List ℕ) (eds : Option (List ℕ))
         → data_length (file_in st.setup service instance a bytes up eds).0 ≤ 512
-    file-in-short service instance a bytes none = omega arith
-    file-in-short service instance a bytes (some eds) = file-short eds service instance a bytes
+    file_in_short service instance a bytes none = omega arith
+    file_in_short service instance a bytes (some eds) = file_short eds service instance a bytes
 
-    object-short : (service : ℕ) (a : FirstAttribute) (bytes : List ℕ) (o : Object)
+    object_short : (service : ℕ) (a : FirstAttribute) (bytes : List ℕ) (o : Object)
         → data_length (of_object st local mask service a bytes up o).0 ≤ 512
     unfolding of_class
-    object-short service a bytes NoObject = omega arith
-    object-short service a bytes (Named class instance) =
+    object_short service a bytes NoObject = omega arith
+    object_short service a bytes (Named class instance) =
         one_step 512 (eqb class 0x01) _ _ (identity_short service instance a)
         (one_step 512 (eqb class 0x04) _ _ (assembly_short service instance a)
         (one_step 512 (eqb class 0xF5) _ _ (tcp_short service instance a)
         (one_step 512 (eqb class 0xF6) _ _ (ethernet_short service instance a)
-        (one_step 512 (eqb class 0x37) _ _ (file-in-short service instance a bytes st.setup.eds)
+        (one_step 512 (eqb class 0x37) _ _ (file_in_short service instance a bytes st.setup.eds)
         (one_step 512 (eqb class 0x02) _ _ (omega arith) (omega arith))))))
 
-    request-short : (message : List ℕ) (r : RequestAnswer) → data_length (of_request st local mask message up r).0 ≤ 512
-    request-short message (Unparsed service) = omega arith
-    request-short message (Parsed r) = object-short r.service r.attribute (drop r.datastart message) r.object
+    request_short : (message : List ℕ) (r : RequestAnswer) → data_length (of_request st local mask message up r).0 ≤ 512
+    request_short message (Unparsed service) = omega arith
+    request_short message (Parsed r) = object_short r.service r.attribute (drop r.datastart message) r.object
 
-    reply-length : (service : ℕ) (o : Outcome) → length (reply_to service o) ≡ 4 + data_length o
+    reply_length : (service : ℕ) (o : Outcome) → length (reply_to service o) ≡ 4 + data_length o
     unfolding reply_to reply_head
-    reply-length service (Gives bytes) = omega arith
-    reply-length service (Fails f) = refl
+    reply_length service (Gives bytes) = omega arith
+    reply_length service (Fails f) = refl
 
     -- every reply is at most 516 bytes
-    pub reply-fits : (message : List ℕ) → length (message_reply st local mask message up) ≤ reply_room
+    pub reply_fits : (message : List ℕ) → length (message_reply st local mask message up) ≤ reply_room
     unfolding message_reply message_outcome
-    reply-fits message =
-        let h = request-short message (request_of message) in
-        rw (reply-length (service_of (request_of message)) (of_request st local mask message up (request_of message)).0) (omega arith)
+    reply_fits message =
+        let h = request_short message (request_of message) in
+        rw (reply_length (service_of (request_of message)) (of_request st local mask message up (request_of message)).0) (omega arith)
 
     -- an upload's are at most 263
-    pub transfer-fits : (eds bytes : List ℕ) → length (reply_to upload_transfer (transfer eds up bytes).0) ≤ 263
-    transfer-fits eds bytes =
-        let h = transfer_short eds up bytes 255 size-held in
-        rw (reply-length upload_transfer (transfer eds up bytes).0) (omega arith)
+    pub transfer_fits : (eds bytes : List ℕ) → length (reply_to upload_transfer (transfer eds up bytes).0) ≤ 263
+    transfer_fits eds bytes =
+        let h = transfer_short eds up bytes 255 size_held in
+        rw (reply_length upload_transfer (transfer eds up bytes).0) (omega arith)
 
-    pub initiate-fits : (eds bytes : List ℕ) → length (reply_to initiate_upload (initiate st.setup.transferLimit eds up bytes).0) ≤ 263
-    initiate-fits eds bytes =
+    pub initiate_fits : (eds bytes : List ℕ) → length (reply_to initiate_upload (initiate st.setup.transferLimit eds up bytes).0) ≤ 263
+    initiate_fits eds bytes =
         let h = initiate_short eds st.setup.transferLimit up bytes in
-        rw (reply-length initiate_upload (initiate st.setup.transferLimit eds up bytes).0) (omega arith)
+        rw (reply_length initiate_upload (initiate st.setup.transferLimit eds up bytes).0) (omega arith)
 
-    file-in-ok : (service instance : ℕ) (a : FirstAttribute) (bytes : List ℕ) (eds : Option (List ℕ)) → st.setup.eds ≡ eds
+    file_in_ok : (service instance : ℕ) (a : FirstAttribute) (bytes : List ℕ) (eds : Option (List ℕ)) → st.setup.eds ≡ eds
         → upload_ok st.setup (file_in st.setup service instance a bytes up eds).1 ≡ true
-    file-in-ok service instance a bytes none e = ok
-    file-in-ok service instance a bytes (some eds) e = file_ok st.setup sized.limitLow eds e service instance a bytes up ok
+    file_in_ok service instance a bytes none e = ok
+    file_in_ok service instance a bytes (some eds) e = file_ok st.setup sized.limitLow eds e service instance a bytes up ok
 
-    any-ok : (b : Bool) (x y : Outcome × Upload) → upload_ok st.setup x.1 ≡ true → upload_ok st.setup y.1 ≡ true
+    any_ok : (b : Bool) (x y : Outcome × Upload) → upload_ok st.setup x.1 ≡ true → upload_ok st.setup y.1 ≡ true
         → upload_ok st.setup (cond b x y).1 ≡ true
-    any-ok true x y h g = h
-    any-ok false x y h g = g
+    any_ok true x y h g = h
+    any_ok false x y h g = g
 
-    object-ok : (service : ℕ) (a : FirstAttribute) (bytes : List ℕ) (o : Object)
+    object_ok : (service : ℕ) (a : FirstAttribute) (bytes : List ℕ) (o : Object)
         → upload_ok st.setup (of_object st local mask service a bytes up o).1 ≡ true
     unfolding of_class
-    object-ok service a bytes NoObject = ok
-    object-ok service a bytes (Named class instance) =
-        any-ok (eqb class 0x01) _ _ ok
-        (any-ok (eqb class 0x04) _ _ ok
-        (any-ok (eqb class 0xF5) _ _ ok
-        (any-ok (eqb class 0xF6) _ _ ok
-        (any-ok (eqb class 0x37) _ _ (file-in-ok service instance a bytes st.setup.eds refl)
-        (any-ok (eqb class 0x02) _ _ ok ok)))))
+    object_ok service a bytes NoObject = ok
+    object_ok service a bytes (Named class instance) =
+        any_ok (eqb class 0x01) _ _ ok
+        (any_ok (eqb class 0x04) _ _ ok
+        (any_ok (eqb class 0xF5) _ _ ok
+        (any_ok (eqb class 0xF6) _ _ ok
+        (any_ok (eqb class 0x37) _ _ (file_in_ok service instance a bytes st.setup.eds refl)
+        (any_ok (eqb class 0x02) _ _ ok ok)))))
 
-    request-ok : (message : List ℕ) (r : RequestAnswer) → upload_ok st.setup (of_request st local mask message up r).1 ≡ true
-    request-ok message (Unparsed service) = ok
-    request-ok message (Parsed r) = object-ok r.service r.attribute (drop r.datastart message) r.object
+    request_ok : (message : List ℕ) (r : RequestAnswer) → upload_ok st.setup (of_request st local mask message up r).1 ≡ true
+    request_ok message (Unparsed service) = ok
+    request_ok message (Parsed r) = object_ok r.service r.attribute (drop r.datastart message) r.object
 
     -- the position that a message leaves passes its test
-    pub position-kept : (message : List ℕ) → upload_ok st.setup (message_outcome st local mask message up).1 ≡ true
+    pub position_kept : (message : List ℕ) → upload_ok st.setup (message_outcome st local mask message up).1 ≡ true
     unfolding message_outcome
-    position-kept message = request-ok message (request_of message)
+    position_kept message = request_ok message (request_of message)
 
 -- ---- No. 8, or a reply
 
@@ -352,21 +352,21 @@ module _ (up : Upload) where
 
   module _ (st : State) (local mask service : ℕ) (a : FirstAttribute) (bytes : List ℕ) (notInitiate : eqb service initiate_upload ≡ false)
       (notTransfer : eqb service upload_transfer ≡ false) where
-    file-stays : (eds : Option (List ℕ)) (instance : ℕ) → (file_in st.setup service instance a bytes up eds).1 ≡ up
+    file_stays : (eds : Option (List ℕ)) (instance : ℕ) → (file_in st.setup service instance a bytes up eds).1 ≡ up
     unfolding file eds_file
-    file-stays none instance = refl
-    file-stays (some eds) instance =
+    file_stays none instance = refl
+    file_stays (some eds) instance =
         either_stays (eqb instance 0) _ _ refl (either_stays (eqb instance eds_instance) _ _ (rw (notInitiate, notTransfer)) refl)
 
-    object-stays : (o : Object) → (of_object st local mask service a bytes up o).1 ≡ up
+    object_stays : (o : Object) → (of_object st local mask service a bytes up o).1 ≡ up
     unfolding of_class
-    object-stays NoObject = refl
-    object-stays (Named class instance) =
+    object_stays NoObject = refl
+    object_stays (Named class instance) =
         either_stays (eqb class 0x01) _ _ refl
         (either_stays (eqb class 0x04) _ _ refl
         (either_stays (eqb class 0xF5) _ _ refl
         (either_stays (eqb class 0xF6) _ _ refl
-        (either_stays (eqb class 0x37) _ _ (file-stays st.setup.eds instance)
+        (either_stays (eqb class 0x37) _ _ (file_stays st.setup.eds instance)
         (either_stays (eqb class 0x02) _ _ refl refl)))))
 
   pub position_stays : (st : State) (local mask : ℕ) (message : List ℕ)
@@ -378,7 +378,7 @@ module _ (up : Upload) where
       by : (r : RequestAnswer) → eqb (service_of r) initiate_upload ≡ false → eqb (service_of r) upload_transfer ≡ false
           → (of_request st local mask message up r).1 ≡ up
       by (Unparsed service) h g = refl
-      by (Parsed r) h g = object-stays st local mask r.service r.attribute (drop r.datastart message) h g r.object
+      by (Parsed r) h g = object_stays st local mask r.service r.attribute (drop r.datastart message) h g r.object
 
 -- a message beyond the sizes is reply 0x04 too
 pub over_size : (st : State) (local mask : ℕ) (message : List ℕ) (up : Upload) → message_max < length message

@@ -74,21 +74,21 @@ module _ (st : State) (local mask : ℕ) (eds : List ℕ) (present : st.setup.ed
     abbrev pub session : Client
     session = moves (by_message st local mask) ms (client (message_outcome st local mask (initiate_message wanted) earlier).1 0 [] [])
 
-    as-steps : session ≡ moves (step eds) ms (begins (clamped st.setup.transferLimit wanted))
+    as_steps : session ≡ moves (step eds) ms (begins (clamped st.setup.transferLimit wanted))
     unfolding initiate
-    as-steps = rw (initiate_message_lem wanted earlier) (moves_same (by_message st local mask) (step eds) by_step ms _)
+    as_steps = rw (initiate_message_lem wanted earlier) (moves_same (by_message st local mask) (step eds) by_step ms _)
 
     -- initiate's reply says the EDS's length and the size of a transfer
-    pub session-begins : message_reply st local mask (initiate_message wanted) earlier
+    pub session_begins : message_reply st local mask (initiate_message wanted) earlier
         ≡ reply_head 0x4B 0 ++ initiate_reply eds (clamped st.setup.transferLimit wanted)
     unfolding message_reply reply_to initiate
-    session-begins = rw (file_request 0x4B wanted, initiate_message_lem wanted earlier)
+    session_begins = rw (file_request 0x4B wanted, initiate_message_lem wanted earlier)
 
     -- whenever the client sees the end, it has the EDS and its checksum
-    pub session-whole : ended session ≡ true → got session ≡ eds ++ le_bytes 2 (checksum eds)
-    session-whole e =
-        ap got as-steps ∙ uploaded_whole eds st.setup.transferLimit wanted ms (sym (ap ended as-steps) ∙ e)
+    pub session_whole : ended session ≡ true → got session ≡ eds ++ le_bytes 2 (checksum eds)
+    session_whole e =
+        ap got as_steps ∙ uploaded_whole eds st.setup.transferLimit wanted ms (sym (ap ended as_steps) ∙ e)
 
     -- and it sees the end once it has asked for as many transfers as the EDS's length needs, and for one at least
-    pub session-ends : 1 ≤ nexts ms → length eds ≤ nexts ms * clamped st.setup.transferLimit wanted → ended session ≡ true
-    session-ends h g = ap ended as-steps ∙ uploaded_ends eds st.setup.transferLimit wanted ms h g
+    pub session_ends : 1 ≤ nexts ms → length eds ≤ nexts ms * clamped st.setup.transferLimit wanted → ended session ≡ true
+    session_ends h g = ap ended as_steps ∙ uploaded_ends eds st.setup.transferLimit wanted ms h g

@@ -10,7 +10,7 @@ use Rattle.base_cells.specs.Numbers.{drop_take, le_take}
 use Rattle.base_cells.specs.Records.{of_bool}
 use Rattle.base_cells.specs.Back.{Bytes}
 use Rattle.base_tables.specs.Tables.{rows, length_rows}
-use Rattle.base_tables.specs.Store.{row-stored}
+use Rattle.base_tables.specs.Store.{row_stored}
 use Rattle.base_tables.specs.Slots.{slot_at}
 use Rattle.rules.specs.State.{Setup, State, no_content, shape_at, content_at}
 use Rattle.state_rules.specs.Places.{setup_in, marks_in, table_in, data_in, setup_size, data_from, data_size, state_size, row_size, instances_at, sizes_at, kinds_at, next_id_of, ring_word_of, first_of, waiting_of, fault_of, connections_of, produced_of, late_of, max_late_of, mark_at, assemblies_of}
@@ -166,7 +166,7 @@ module _ (s : List ℕ) (st : State) (l : List ℕ) (h : Holds s st l) where
   unfolding table_of
   conn_held i p =
       ap (λ (z : List ℕ). conn_at z i) (ap table_in h.is ∙ table_of_store st l w)
-      ∙ ap dec_conn (row-stored row_size enc_conn length_enc_conn (connections_of l) st.table (table_in l) i no_conn p)
+      ∙ ap dec_conn (row_stored row_size enc_conn length_enc_conn (connections_of l) st.table (table_in l) i no_conn p)
       ∙ dec_enc_conn (get_or st.table i no_conn) (fits_at st.table w.fits.rows i)
 
   -- an assembly's mark and bytes

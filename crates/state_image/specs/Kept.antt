@@ -210,8 +210,8 @@ module _ (s : List ℕ) (r : Ready s) where
 
   -- the table's region put back, and put back with another count
   module _ (x : List ℕ) (n : length x ≡ length (mid_of table_at table_size s)) where
-    mid-same : (k : ℕ) → k ≤ 256 → take k (put_mid table_at table_size s x) ≡ take k s
-    mid-same k h =
+    mid_same : (k : ℕ) → k ≤ 256 → take k (put_mid table_at table_size s x) ≡ take k s
+    mid_same k h =
         let long = r.long in
         sym (take-take k 256 (put_mid table_at table_size s x) h) ∙ ap (take k) (take_put table_at table_size s x (omega arith)) ∙ take-take k 256 s h
 
@@ -219,12 +219,12 @@ module _ (s : List ℕ) (r : Ready s) where
     kept_table =
         record {
           ready = ready_mid s table_at table_size x (omega arith) (omega arith) n r;
-          setup = mid-same 192 (omega arith);
-          conns = conns_same s (put_mid table_at table_size s x) (same_len_mid table_at table_size s x n) (mid-same marks_at (omega arith));
+          setup = mid_same 192 (omega arith);
+          conns = conns_same s (put_mid table_at table_size s x) (same_len_mid table_at table_size s x n) (mid_same marks_at (omega arith));
         }
 
-    pub kept-counted : (m : ℕ) → m ≤ 32 → Kept m s (put 2 (put_mid table_at table_size s x) connections_at m)
-    kept-counted m h =
+    pub kept_counted : (m : ℕ) → m ≤ 32 → Kept m s (put 2 (put_mid table_at table_size s x) connections_at m)
+    kept_counted m h =
         let s₁ : List ℕ = put_mid table_at table_size s x in
         let long = kept_table.ready.long in
         record {

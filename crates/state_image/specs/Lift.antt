@@ -53,11 +53,11 @@ module _ (call : State → Answer × State) (l : List ℕ) where
 
   -- afterwards the state test passes, and the bytes say what the rules say: a run of calls is a run of the rules
   module _ (e : tested l ≡ true) (w : Suits (call (view l)).1 l) where
-    pub lifted-tested : tested (lifted call l).1 ≡ true
-    lifted-tested = ap (λ (z : ℕ × List ℕ). tested z.1) (lifted_passes e) ∙ tested_store (call (view l)).1 l w
+    pub lifted_tested : tested (lifted call l).1 ≡ true
+    lifted_tested = ap (λ (z : ℕ × List ℕ). tested z.1) (lifted_passes e) ∙ tested_store (call (view l)).1 l w
 
-    pub lifted-view : view (lifted call l).1 ≡ (call (view l)).1
-    lifted-view = ap (λ (z : ℕ × List ℕ). view z.1) (lifted_passes e) ∙ view_store (call (view l)).1 l w
+    pub lifted_view : view (lifted call l).1 ≡ (call (view l)).1
+    lifted_view = ap (λ (z : ℕ × List ℕ). view z.1) (lifted_passes e) ∙ view_store (call (view l)).1 l w
 
 module _ (call : ℕ → State → Answer × State) (l out : List ℕ) where
   abbrev after : Answer × State

@@ -9,7 +9,7 @@ use Rattle.std.proofs.lemmas.List.{length-map}
 use borrow.Rule.Slice.PartMut.{mid_of}
 use Rattle.base_cells.specs.Numbers.{le, le_1}
 use Rattle.base_cells.specs.Records.{enc_fields, dec_fields, of_bool, sum, Laid, dec_enc, length_enc_fields}
-use Rattle.base_tables.specs.Store.{length-storeRows}
+use Rattle.base_tables.specs.Store.{length_store_rows}
 use Rattle.base_tables.specs.Ring.{length_ring}
 use Rattle.base_tables.specs.Slots.{Short, length_store_slots}
 use Rattle.base_tables.specs.Regions.{joined, Sized, none, one, start, length_joined, region_at}
@@ -96,7 +96,7 @@ module _ (st : State) (l : List ℕ) (w : Suits st l) where
   unfolding table_of
   length_table_of =
       let n = length_table_in l w.lent.long in let a = w.fits.table in let b = w.lent.conns in
-      length-storeRows row_size enc_conn length_enc_conn (connections_of l) st.table (table_in l) (omega arith) (omega arith) ∙ n
+      length_store_rows row_size enc_conn length_enc_conn (connections_of l) st.table (table_in l) (omega arith) (omega arith) ∙ n
 
   pub length_events_of : length (events_of st l) ≡ events_size
   unfolding events_of

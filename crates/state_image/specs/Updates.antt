@@ -10,7 +10,7 @@ use borrow.Rule.Slice.PartMut.{put_mid}
 use Rattle.base_cells.specs.Numbers.{le, put, le_bytes, length_le_bytes, sets_left}
 use Rattle.base_cells.specs.Records.{enc_fields, sum, offset, Laid, length_enc_fields}
 use Rattle.base_tables.specs.Tables.{without}
-use Rattle.base_tables.specs.Store.{storeRows-set, row-stored}
+use Rattle.base_tables.specs.Store.{store_rows_set, row_stored}
 use Rattle.base_tables.specs.Grow.{store_rows_push, store_rows_cut}
 use Rattle.base_tables.specs.Slots.{enc_set}
 use Rattle.base_tables.specs.Regions.{joined, Sized, start, region_put, sized_set}
@@ -104,7 +104,7 @@ module _ (st : State) (l : List ℕ) (w : Suits st l) where
       let a = bit_small c.heard.any in let b = bit_small c.heard.anycip in
       let e : le 1 (table_of st l) (i * row_size + 28) ≡ flags_of (carried_of c.fixed) c.heard =
       sym (in_row 1 row_size 28 (table_of st l) (i * row_size) (omega arith))
-      ∙ ap (λ (z : List ℕ). le 1 z 28) (row-stored row_size enc_conn length_enc_conn (connections_of l) st.table (table_in l) i no_conn p)
+      ∙ ap (λ (z : List ℕ). le 1 z 28) (row_stored row_size enc_conn length_enc_conn (connections_of l) st.table (table_in l) i no_conn p)
       ∙ flags_stored c in
       omega arith
 
@@ -114,7 +114,7 @@ module _ (st : State) (l : List ℕ) (w : Suits st l) where
   unfolding table_of
   heard_row i h p =
       let c : Conn = get_or st.table i no_conn in
-      storeRows-set row_size enc_conn length_enc_conn (connections_of l) st.table (table_in l) i 14 (enc_heard (carried_of c.fixed) h) (with_heard h c) no_conn p
+      store_rows_set row_size enc_conn length_enc_conn (connections_of l) st.table (table_in l) i 14 (enc_heard (carried_of c.fixed) h) (with_heard h c) no_conn p
       (let e = length_enc_heard (carried_of c.fixed) h in omega arith) (enc_heard_lem c h)
 
   pub heard_stored : (i : ℕ) (h : Heard) → i < length st.table
@@ -132,7 +132,7 @@ module _ (st : State) (l : List ℕ) (w : Suits st l) where
   unfolding table_of
   sent_row_lem i x p =
       let c : Conn = get_or st.table i no_conn in
-      storeRows-set row_size enc_conn length_enc_conn (connections_of l) st.table (table_in l) i 0 (enc_sent x) (with_sent x c) no_conn p
+      store_rows_set row_size enc_conn length_enc_conn (connections_of l) st.table (table_in l) i 0 (enc_sent x) (with_sent x c) no_conn p
       (let e = length_enc_sent x in omega arith) (enc_sent_lem c x)
 
   pub sent_stored : (i : ℕ) (x : Sent) → i < length st.table

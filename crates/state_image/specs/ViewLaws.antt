@@ -8,8 +8,8 @@ use borrow.Rule.Slice.PartMut.{mid_of}
 use Rattle.base_cells.specs.Records.{enc_fields, dec_fields, to_bool, to_of, sum}
 use Rattle.base_cells.specs.Back.{Bytes, enc_dec, bytes_take, bytes_drop}
 use Rattle.base_tables.specs.Tables.{rows, length_rows}
-use Rattle.base_tables.specs.Store.{store-rows}
-use Rattle.base_tables.specs.Ring.{ringOf, length-ringOf, store-ring}
+use Rattle.base_tables.specs.Store.{store_rows_lem}
+use Rattle.base_tables.specs.Ring.{ring_of, length_ring_of, store_ring_lem}
 use Rattle.base_tables.specs.RingRead.{ring_read}
 use Rattle.base_tables.specs.Regions.{joined, start, regions, joined_regions, regions_at}
 use Rattle.rules.specs.State.{Shape, State}
@@ -56,11 +56,11 @@ module _ (st : State) (l : List ℕ) (w : Suits st l) where
       ap₂ (conns_in) (conns_is st l w) (table_of_store st l w)
       ∙ rows_read (connections_of l) st.table (table_in l) w.fits.rows
 
-  pub waiting_read : ringOf 32 record32 as_is (first_of (store st l)) (waiting_of (store st l)) (ring_in (store st l)) ≡ st.events.waiting
+  pub waiting_read : ring_of 32 record32 as_is (first_of (store st l)) (waiting_of (store st l)) (ring_in (store st l)) ≡ st.events.waiting
   unfolding events_of
   waiting_read =
       let n = length_ring_in l w.lent.long in
-      (λ i. ringOf 32 record32 as_is (gone_is st l w i) (waiting_is st l w i) (ring_of_store st l w i))
+      (λ i. ring_of 32 record32 as_is (gone_is st l w i) (waiting_is st l w i) (ring_of_store st l w i))
       ∙ ring_read 32 record32 length_record32 as_is st.events.gone st.events.waiting (ring_in l) w.fits.gone w.fits.waiting (omega arith)
       ∙ records_back st.events.waiting w.fits.records
 
@@ -80,8 +80,8 @@ module _ (st : State) (l : List ℕ) (w : Suits st l) where
       }
 
 -- ---- what a tested buffer says fits
-ring_records : (f n : ℕ) (r : List ℕ) → f < 1024 → events_size ≤ length r → Records32 (ringOf 32 record32 as_is f n r)
-unfolding ringOf
+ring_records : (f n : ℕ) (r : List ℕ) → f < 1024 → events_size ≤ length r → Records32 (ring_of 32 record32 as_is f n r)
+unfolding ring_of
 ring_records f zero r h g = none
 ring_records f (suc n) r h g =
     let e = length-drop (f * 32) r in
@@ -103,7 +103,7 @@ module _ (l : List ℕ) (ok : tested l ≡ true) where
         table = rw (length_rows row_size dec_conn (connections_of l) (table_in l)) (few_conns l ok);
         rows = rows_fit (connections_of l) (table_in l);
         gone = first_slot l ok;
-        waiting = rw (length-ringOf 32 record32 as_is (first_of l) (waiting_of l) (ring_in l)) (few_events l ok);
+        waiting = rw (length_ring_of 32 record32 as_is (first_of l) (waiting_of l) (ring_in l)) (few_events l ok);
         records = ring_records (first_of l) (waiting_of l) (ring_in l) (first_slot l ok) (omega arith);
         id = some_id l ok;
       }
@@ -114,11 +114,11 @@ module _ (l : List ℕ) (ok : tested l ≡ true) where
 
   -- ---- the state that a buffer holds, written over it: nothing changes
   module _ (b : Bytes l) where
-    mid-bytes : (a k i size : ℕ) → Bytes (take size (drop (i * size) (mid_of a k l)))
-    mid-bytes a k i size = bytes_take size (drop (i * size) (mid_of a k l)) (bytes_drop (i * size) (mid_of a k l) (bytes_take k (drop a l) (bytes_drop a l b)))
+    mid_bytes : (a k i size : ℕ) → Bytes (take size (drop (i * size) (mid_of a k l)))
+    mid_bytes a k i size = bytes_take size (drop (i * size) (mid_of a k l)) (bytes_drop (i * size) (mid_of a k l) (bytes_take k (drop a l) (bytes_drop a l b)))
 
-    mid-cut : (a k i size : ℕ) → a + k ≤ state_size → i * size + size ≤ k → length (take size (drop (i * size) (mid_of a k l))) ≡ size
-    mid-cut a k i size p q =
+    mid_cut : (a k i size : ℕ) → a + k ≤ state_size → i * size + size ≤ k → length (take size (drop (i * size) (mid_of a k l))) ≡ size
+    mid_cut a k i size p q =
         let n = is_long l ok in
         let e : length (mid_of a k l) ≡ k = mid_long a k l (omega arith) in
         slot_long (mid_of a k l) i size (omega arith)
@@ -127,8 +127,8 @@ module _ (l : List ℕ) (ok : tested l ≡ true) where
     unfolding head_of view sum
     head_back =
         let n = is_long l ok in
-        let word : word_of (length (ringOf 32 record32 as_is (first_of l) (waiting_of l) (ring_in l))) (first_of l) (to_bool (fault_of l)) ≡ ring_word_of l =
-        ap (λ (k : ℕ). word_of k (first_of l) (to_bool (fault_of l))) (length-ringOf 32 record32 as_is (first_of l) (waiting_of l) (ring_in l)) ∙ of_to_word (ring_word_of l) in
+        let word : word_of (length (ring_of 32 record32 as_is (first_of l) (waiting_of l) (ring_in l))) (first_of l) (to_bool (fault_of l)) ≡ ring_word_of l =
+        ap (λ (k : ℕ). word_of k (first_of l) (to_bool (fault_of l))) (length_ring_of 32 record32 as_is (first_of l) (waiting_of l) (ring_in l)) ∙ of_to_word (ring_word_of l) in
         let e : list_head (view l) ≡ dec_fields w_head l head_at =
         λ i.
         produced_of l
@@ -142,9 +142,9 @@ module _ (l : List ℕ) (ok : tested l ≡ true) where
         (ap (enc_fields w_head) e ∙ enc_dec w_head tt l 192 b (omega arith) ∙ sym (take-take head_used 48 (drop 192 l) (omega arith)))
         ∙ take-append-drop head_used (head_in l)
 
-    marks-same : marks_of (view l) l ≡ marks_in l
+    marks_same : marks_of (view l) l ≡ marks_in l
     unfolding marks_of view
-    marks-same =
+    marks_same =
         let ss : List Shape = (setup_of l).assemblies in
         let c = length_assemblies l in
         let f = few_assemblies (setup_in l) (is_sound l ok) in
@@ -155,14 +155,14 @@ module _ (l : List ℕ) (ok : tested l ≡ true) where
     unfolding table_of view
     table_same =
         let f = few_conns l ok in
-        store-rows row_size enc_conn dec_conn (connections_of l) (table_in l)
-        (λ i g. enc_dec_conn (row_at (table_in l) i) (mid-bytes table_at table_size i row_size) (mid-cut table_at table_size i row_size (omega arith) (omega arith)))
+        store_rows_lem row_size enc_conn dec_conn (connections_of l) (table_in l)
+        (λ i g. enc_dec_conn (row_at (table_in l) i) (mid_bytes table_at table_size i row_size) (mid_cut table_at table_size i row_size (omega arith) (omega arith)))
 
-    pub events-same : events_of (view l) l ≡ ring_in l
+    pub events_same : events_of (view l) l ≡ ring_in l
     unfolding events_of view
-    events-same =
-        store-ring 32 record32 as_is (first_of l) (waiting_of l) (ring_in l) (first_slot l ok) (let q = length_ring_in l (is_long l ok) in omega arith)
-        (λ i g. record32_own (take 32 (drop (i * 32) (ring_in l))) (mid-cut events_at events_size i 32 (omega arith) (omega arith)))
+    events_same =
+        store_ring_lem 32 record32 as_is (first_of l) (waiting_of l) (ring_in l) (first_slot l ok) (let q = length_ring_in l (is_long l ok) in omega arith)
+        (λ i g. record32_own (take 32 (drop (i * 32) (ring_in l))) (mid_cut events_at events_size i 32 (omega arith) (omega arith)))
 
     data_same : data_of (view l) l ≡ data_in l
     unfolding data_of view
@@ -171,6 +171,6 @@ module _ (l : List ℕ) (ok : tested l ≡ true) where
     pub store_view : store (view l) l ≡ l
     unfolding store sum
     store_view =
-        (λ i. joined (setup_in l ∷ head_back i ∷ marks-same i ∷ table_same i ∷ events-same i ∷ data_same i ∷ eds_in l ∷ []))
+        (λ i. joined (setup_in l ∷ head_back i ∷ marks_same i ∷ table_same i ∷ events_same i ∷ data_same i ∷ eds_in l ∷ []))
         ∙ ap joined (sym (regions_are l))
         ∙ joined_regions widths l (is_long l ok)

@@ -8,7 +8,7 @@ use Rattle.std.proofs.Math.ListN.{length, drop, set, length-drop, length-map, ge
 use Rattle.std.proofs.Math.Seq.{sets, length-sets}
 use Rattle.base_cells.specs.Numbers.{put, le_bytes}
 use Rattle.base_cells.specs.Records.{enc_fields, offset}
-use Rattle.base_tables.specs.Ring.{store_ring, ring_push, ring-full}
+use Rattle.base_tables.specs.Ring.{store_ring, ring_push, ring_full}
 use Rattle.base_tables.specs.Slots.{store_slots, slots_set}
 use Rattle.base_tables.specs.Regions.{joined, start, sized_set}
 use Rattle.base_tables.specs.RegionWrites.{region_sets}
@@ -31,7 +31,7 @@ bytes_same (x ∷ cs) (suc i) c e = ap (λ (z : List (List ℕ)). x.bytes ∷ z)
 full : (es : List (List ℕ)) (e : List ℕ) (k : ℕ) (r : List ℕ) → k < 1024 → length es ≡ 1024
     → sets (store_ring 32 record32 k es r) (k * 32) (record32 e) ≡ store_ring 32 record32 ((k + 1) % 1024) (drop 1 es ++ (e ∷ [])) r
 full [] e k r a b = absurd (omega arith)
-full (x ∷ es) e k r a b = sym (ring-full 32 record32 length_record32 k x es e r a (omega arith))
+full (x ∷ es) e k r a b = sym (ring_full 32 record32 length_record32 k x es e r a (omega arith))
 
 -- the content with other bytes, and with other marks
 abbrev pub with_bytes : List ℕ → Content → Content

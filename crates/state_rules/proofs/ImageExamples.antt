@@ -10,7 +10,7 @@ use Rattle.base_cells.specs.Records.{enc_fields}
 use Rattle.base_cells.specs.Back.{all, all_at}
 use Rattle.base_tables.specs.Tables.{rows}
 use Rattle.base_tables.specs.Store.{store_rows}
-use Rattle.base_tables.specs.Ring.{ringOf}
+use Rattle.base_tables.specs.Ring.{ring_of}
 use Rattle.state_rules.specs.Places.{head_in, state_size, row_size}
 use Rattle.state_rules.specs.Bits.{mark_over}
 use Rattle.state_rules.specs.Image.{view, head_of, table_of, good_head, tests_state, tested}
@@ -33,7 +33,7 @@ marks_over_lem = refl
 
 -- 16.9: a head is written as it was read; 16.10: with the 14 bytes behind it that say nothing
 pub head_back : head_of (view (headed 7 4103 1)) (headed 7 4103 1) ≡ head_in (headed 7 4103 1)
-unfolding view head_of rows ringOf enc_fields le_bytes le le_of
+unfolding view head_of rows ring_of enc_fields le_bytes le le_of
 head_back = refl
 
 -- 16.10: a row that falls free is zero, and what is behind it stays

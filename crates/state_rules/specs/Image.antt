@@ -4,7 +4,7 @@ use Rattle.base_cells.specs.Records.{enc_fields, to_bool}
 use Rattle.base_cells.specs.Back.{all}
 use Rattle.base_tables.specs.Tables.{rows}
 use Rattle.base_tables.specs.Store.{store_rows}
-use Rattle.base_tables.specs.Ring.{store_ring, ringOf}
+use Rattle.base_tables.specs.Ring.{store_ring, ring_of}
 use Rattle.base_tables.specs.Slots.{store_slots}
 use Rattle.base_tables.specs.Regions.{joined}
 use Rattle.rules.specs.State.{Shape, Content, State}
@@ -36,7 +36,7 @@ view l =
       setup = setup_of l;
       contents = contents_of (setup_of l).assemblies (marks_in l) (data_in l);
       table = conns_in (connections_of l) (table_in l);
-      events = record { gone = first_of l; waiting = ringOf 32 record32 as_is (first_of l) (waiting_of l) (ring_in l) };
+      events = record { gone = first_of l; waiting = ring_of 32 record32 as_is (first_of l) (waiting_of l) (ring_in l) };
       fault = to_bool (fault_of l);
       nextId = next_id_of l;
       counters = record { produced = produced_of l; late = late_of l; maxLate = max_late_of l };

@@ -19,7 +19,7 @@ use Rattle.wire_items.specs.Head.{Head}
 use Rattle.wire_rules.specs.Writing.{front_widths, front_values}
 use Rattle.wire_rules.specs.declared.IoFrame.TheVariants.{Io}
 use Rattle.wire_items.proofs.ItemLaws.{ends, step_end}
-use Rattle.wire_items.proofs.IoLaws.{is-io}
+use Rattle.wire_items.proofs.IoLaws.{is_io}
 use Rattle.wire_frames.proofs.WriteLaws.{frame_split, frame_length, no_room, too_long, past_end}
 
 module _ (id sequence cip : ℕ) (bs : List ℕ) where
@@ -41,7 +41,7 @@ module _ (id sequence cip : ℕ) (bs : List ℕ) where
       let two : le 2 s 0 ≡ 2 = number 0 in
       let len : le 2 s 16 ≡ 2 + length bs = number 6 in
       let front : Head s = record { long = omega arith; count = omega arith; address = number 1; eight = number 2; payload = number 5 } in
-      sym (is-io s front 2 (2 + length bs) (sym two) (sym len) (omega arith) id sequence
+      sym (is_io s front 2 (2 + length bs) (sym two) (sym len) (omega arith) id sequence
       (ends s (18 + (2 + length bs)) 0 (step_end s (18 + (2 + length bs)) 0 refl (omega arith))) (omega arith) (sym (number 3)) (sym (number 4)))
 
   pub payload : take (2 + length bs) (drop 18 s) ≡ le_bytes 2 cip ++ bs
@@ -83,16 +83,16 @@ module _ (id sequence cip : ℕ) (bs : List ℕ) where
         go (yes a) = none a (no_room id sequence cip bs (drop at out) h (rw length-drop (omega arith)))
         go (no a) = sym (past_end id sequence cip at bs out (omega arith))
 
-    pub refused-long : 65533 < length bs → frame_appended out at id sequence cip bs ≡ (NoRoom, out)
-    refused-long h = go (dec_le at (length out))
+    pub refused_long : 65533 < length bs → frame_appended out at id sequence cip bs ≡ (NoRoom, out)
+    refused_long h = go (dec_le at (length out))
       where
         go : Dec (at ≤ length out) → frame_appended out at id sequence cip bs ≡ (NoRoom, out)
         go (yes a) = none a (too_long id sequence cip bs (drop at out) h)
         go (no a) = sym (past_end id sequence cip at bs out (omega arith))
 
-    pub round-at : 20 + length bs ≤ 65536 → at + (20 + length bs) ≤ length out
+    pub round_at : 20 + length bs ≤ 65536 → at + (20 + length bs) ≤ length out
         → io_of (take (20 + length bs) (drop at (frame_appended out at id sequence cip bs).1)) ≡ Io (ot_id id) sequence 18 (2 + length bs)
-    round-at h r =
+    round_at h r =
         let n : length s ≡ 20 + length bs = frame_length id sequence cip bs in
         ap (λ (w : Written × List ℕ). io_of (take (20 + length bs) (drop at w.1))) (appended (omega arith) r)
         ∙ ap (λ (m : ℕ). io_of (take m (drop at (sets out at s)))) (sym n)

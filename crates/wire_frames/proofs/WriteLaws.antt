@@ -40,11 +40,11 @@ module _ (id sequence cip : ℕ) (bs : List ℕ) where
         let g : 2 + length bs ≤ 65535 = omega arith in
         simp (le-leb _ _ g) (sym (written_none out (io_frame id sequence cip bs) (omega (arith, frame_length))))
 
-    pub all-written : (n : ℕ) (x y : List ℕ) → n ≡ length bs → length bs ≤ 65533 → 20 + length bs ≤ length out
+    pub all_written : (n : ℕ) (x y : List ℕ) → n ≡ length bs → length bs ≤ 65533 → 20 + length bs ≤ length out
         → x ≡ put_fields front_widths out 0 (front_values id sequence cip (2 + n)) → y ≡ sets x 20 bs
         → (Bytes (20 + n), y) ≡ frame_written out id sequence cip bs
     unfolding frame_written
-    all-written n x y e h r ex ey =
+    all_written n x y e h r ex ey =
         let g : 2 + length bs ≤ 65535 = omega arith in
         let f : List ℕ = enc_fields front_widths (front_values id sequence cip (2 + length bs)) in
         let fx : x ≡ sets out 0 f = ex ∙ put_fields_eq front_widths out 0 (front_values id sequence cip (2 + n)) ∙ ap (λ (m : ℕ). sets out 0 (enc_fields front_widths (front_values id sequence cip (2 + m)))) e in

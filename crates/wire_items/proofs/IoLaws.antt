@@ -95,17 +95,17 @@ module _ (s : List ℕ) (h : Head s) where
         let e' : items_from (le 2 s 0 - 2) s (18 + le 2 s 16) ≡ x = rw (← en, ← el) e in
         second_taken (omega arith) ∙ ap (λ (y : Items). cons (part_at s 2) (cons (part_at s 14) y)) e'
 
-    pub later-broken : (o : ℕ) → BrokenAt o ≡ whole_of (items_from (n - 2) s (18 + len)) → Broken o ≡ io_of s
+    pub later_broken : (o : ℕ) → BrokenAt o ≡ whole_of (items_from (n - 2) s (18 + len)) → Broken o ≡ io_of s
     unfolding io_of
-    later-broken o b = sym (ap (io_of_items s) (two (broken o) (of_broken _ o b)))
+    later_broken o b = sym (ap (io_of_items s) (two (broken o) (of_broken _ o b)))
 
     pub over_size : Good ≡ whole_of (items_from (n - 2) s (18 + len)) → 65536 < length s → NotIo ≡ io_of s
     unfolding io_of
     over_size b w = let l = of_good (items_from (n - 2) s (18 + len)) b in rw (two (well_formed l.0) l.1, lt-leb _ _ w)
 
-    pub is-io : (i q : ℕ) → Good ≡ whole_of (items_from (n - 2) s (18 + len)) → length s ≤ 65536 → i ≡ le 4 s 6 → q ≡ le 4 s 10 → Io (ot_id i) q 18 len ≡ io_of s
+    pub is_io : (i q : ℕ) → Good ≡ whole_of (items_from (n - 2) s (18 + len)) → length s ≤ 65536 → i ≡ le 4 s 6 → q ≡ le 4 s 10 → Io (ot_id i) q 18 len ≡ io_of s
     unfolding io_of
-    is-io i q b w ei eq =
+    is_io i q b w ei eq =
         let l = of_good (items_from (n - 2) s (18 + len)) b in
         rw (two (well_formed l.0) l.1, le-leb _ _ w, eq-eqb _ _ h.address, eq-eqb _ _ h.eight, eq-eqb _ _ h.payload, ei, eq, el)
 

@@ -3,7 +3,7 @@ use Prim.Native.Nat.{ℕ}
 use mathlib.Core.Path.{◌≡◌, sym, ◌∙◌, ap}
 use mathlib.Core.List.{List, [], ◌∷◌, ◌++◌}
 use Rattle.wire_rules.specs.Segments.{step_at}
-use Rattle.wire_segments.specs.WalkLaws.{Passed, passed_none, passed-more, passed-all, passed-broken}
+use Rattle.wire_segments.specs.WalkLaws.{Passed, passed_none, passed_more, passed_all, passed_broken}
 use Rattle.wire_rules.specs.ConnectionPath.{connection_path, path_read, path_of}
 use Rattle.wire_paths.specs.Adding.{added}
 use Rattle.wire_paths.proofs.MoreLaws.{added_more}
@@ -25,14 +25,14 @@ module _ (s : List ℕ) (at : ℕ) (p : ConnectionPath) (h : Held s at p) where
   held_more q x next f e =
       record {
         done = h.done ++ (x ∷ []);
-        passed = passed-more s at h.done h.passed x next f;
+        passed = passed_more s at h.done h.passed x next f;
         holds = e ∙ ap (λ (z : ConnectionPath). added z x) h.holds ∙ sym (added_more h.done x);
       }
 
   pub held_all : End ≡ step_at s at → Parsed p ≡ path_of s
   unfolding path_of
-  held_all f = ap Parsed h.holds ∙ sym (ap path_read (passed-all s at h.done h.passed f))
+  held_all f = ap Parsed h.holds ∙ sym (ap path_read (passed_all s at h.done h.passed f))
 
   pub held_broken : (o : ℕ) → Broken o ≡ step_at s at → Unparsed o ≡ path_of s
   unfolding path_of
-  held_broken o f = sym (ap path_read (passed-broken s at h.done h.passed o f))
+  held_broken o f = sym (ap path_read (passed_broken s at h.done h.passed o f))

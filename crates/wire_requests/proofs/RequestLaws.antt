@@ -7,7 +7,7 @@ use native.Mathlib.Omega.{arith}
 use borrow.Author.Tests.{le-leb, lt-leb, lt-ltb, le-ltb}
 use Rattle.wire_rules.specs.Segments.{step_at, Segs, segs, broken, segs_of}
 use Rattle.wire_rules.specs.ConnectionPath.{gather, path_read, path_of}
-use Rattle.wire_segments.specs.WalkLaws.{Ahead, ahead_all, ahead-then, ahead-end, ahead-whole, Passed, passed_none, passed-more, passed-all, passed-broken}
+use Rattle.wire_segments.specs.WalkLaws.{Ahead, ahead_all, ahead_then, ahead_end, ahead_whole, Passed, passed_none, passed_more, passed_all, passed_broken}
 use Rattle.wire_rules.specs.declared.Seg.{Seg}
 use Rattle.wire_rules.specs.declared.Seg.TheVariants.{Port, Class, Instance, Point, Attribute, Keyed, Data}
 use Rattle.wire_rules.specs.contracts.Seg.{the_type}
@@ -30,25 +30,25 @@ use Rattle.wire_rules.specs.declared.RequestAnswer.TheVariants.{Parsed, Unparsed
 
 module _ (s : List ℕ) (at c : ℕ) where
   pub alone_end : End ≡ step_at s at → NamesClass s at c (Named c 0)
-  alone_end q l a = rw (ahead-end s at l a q)
+  alone_end q l a = rw (ahead_end s at l a q)
 
   pub alone_more : (x : Seg) (next : ℕ) → Segment x next ≡ step_at s at → NamesClass s at c NoObject
-  alone_more x next q l a = rw (ahead-then s at l a x next q).is
+  alone_more x next q l a = rw (ahead_then s at l a x next q).is
 
   pub alone_broken : (o : ℕ) → Broken o ≡ step_at s at → NamesClass s at c NoObject
-  alone_broken o q l a = absurd (ahead-whole s at l a o q)
+  alone_broken o q l a = absurd (ahead_whole s at l a o q)
 
   pub class_end : End ≡ step_at s at → NamesInClass s at c (Named c 0)
-  class_end q l a = rw (ahead-end s at l a q)
+  class_end q l a = rw (ahead_end s at l a q)
 
   pub class_broken : (o : ℕ) → Broken o ≡ step_at s at → NamesInClass s at c NoObject
-  class_broken o q l a = absurd (ahead-whole s at l a o q)
+  class_broken o q l a = absurd (ahead_whole s at l a o q)
 
   -- the segment behind the class, and what it and the rest name
   pub class_then : (x : Seg) (next : ℕ) (o : Object) → Segment x next ≡ step_at s at
       → ((m : List Seg) → Ahead s next m → o ≡ in_class c (x ∷ m)) → NamesInClass s at c o
   class_then x next o q f l a =
-      let t = ahead-then s at l a x next q in
+      let t = ahead_then s at l a x next q in
       f t.rest t.ahead ∙ sym (ap (in_class c) t.is)
 
 -- any segment but an instance or an attribute
@@ -92,15 +92,15 @@ attribute_other (Data start len) h = refl
 
 module _ (s : List ℕ) where
   pub object_end : End ≡ step_at s 0 → NamesObject s NoObject
-  object_end q l e = rw (ahead-end s 0 l (ahead_all s l e) q)
+  object_end q l e = rw (ahead_end s 0 l (ahead_all s l e) q)
 
   pub object_broken : (o : ℕ) → Broken o ≡ step_at s 0 → NamesObject s NoObject
-  object_broken o q l e = absurd (ahead-whole s 0 l (ahead_all s l e) o q)
+  object_broken o q l e = absurd (ahead_whole s 0 l (ahead_all s l e) o q)
 
   pub object_then : (x : Seg) (next : ℕ) (o : Object) → Segment x next ≡ step_at s 0
       → ((m : List Seg) → Ahead s next m → o ≡ object_in (x ∷ m)) → NamesObject s o
   object_then x next o q f l e =
-      let t = ahead-then s 0 l (ahead_all s l e) x next q in
+      let t = ahead_then s 0 l (ahead_all s l e) x next q in
       f t.rest t.ahead ∙ sym (ap object_in t.is)
 
 -- ---- the attribute
@@ -131,17 +131,17 @@ module _ (s : List ℕ) (at : ℕ) (h : FirstAttribute) (p : Held s at h) where
   held_more g x next f e =
       record {
         done = p.done ++ (x ∷ []);
-        passed = passed-more s at p.done p.passed x next f;
+        passed = passed_more s at p.done p.passed x next f;
         holds = e ∙ ap (λ (z : FirstAttribute). kept_attribute z x) p.holds ∙ sym (kept_more p.done x);
       }
 
   pub held_all : End ≡ step_at s at → attributes.TheVariants.Parsed h ≡ first_attribute s
   unfolding first_attribute
-  held_all f = ap attributes.TheVariants.Parsed p.holds ∙ sym (ap attribute_answer (passed-all s at p.done p.passed f))
+  held_all f = ap attributes.TheVariants.Parsed p.holds ∙ sym (ap attribute_answer (passed_all s at p.done p.passed f))
 
   pub held_broken : (o : ℕ) → Broken o ≡ step_at s at → attributes.TheVariants.Unparsed o ≡ first_attribute s
   unfolding first_attribute
-  held_broken o f = sym (ap attribute_answer (passed-broken s at p.done p.passed o f))
+  held_broken o f = sym (ap attribute_answer (passed_broken s at p.done p.passed o f))
 
 -- ---- the request
 

@@ -68,13 +68,13 @@ module _ (s : List ℕ) (at : ℕ) where
       simp (lt-leb _ _ g)
 
   module _ (link len : ℕ) (e : link ≡ link_offset (get_or s at 0)) (f : len ≡ link_size (get_or s at 0) (get_or s (at + 1) 0)) where
-    pub port-short : length s < at + even_up (link + len) → Broken at ≡ port_at s at
+    pub port_short : length s < at + even_up (link + len) → Broken at ≡ port_at s at
     unfolding port_at
-    port-short h = rw (← e, ← f) (simp (lt-leb _ _ h))
+    port_short h = rw (← e, ← f) (simp (lt-leb _ _ h))
 
-    pub port-fits : (p : ℕ) → p ≡ port_of s at → at + even_up (link + len) ≤ length s → Segment (Port p (at + link) len) (at + even_up (link + len)) ≡ port_at s at
+    pub port_fits : (p : ℕ) → p ≡ port_of s at → at + even_up (link + len) ≤ length s → Segment (Port p (at + link) len) (at + even_up (link + len)) ≡ port_at s at
     unfolding port_at
-    port-fits p q h = rw (← e, ← f, ← q) (simp (le-leb _ _ h))
+    port_fits p q h = rw (← e, ← f, ← q) (simp (le-leb _ _ h))
 
 -- ---- logical segments
 

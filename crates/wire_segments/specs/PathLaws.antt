@@ -165,28 +165,28 @@ module _ (s : List ℕ) where
 
   -- the offset that a path breaks at lies inside it
   pub broken_inside : (o : ℕ) → segs_of s ≡ broken o → o < length s
-  broken_inside o e = stop-at (broken o) (subst (Reads s 0) e all_read) refl
+  broken_inside o e = stop_at (broken o) (subst (Reads s 0) e all_read) refl
     where
-      stop-at : (r : Segs) → Reads s 0 r → r ≡ broken o → o < length s
-      stop-at (segs m) (whole ends c) q = absurd (let z : ◌≡◌ {A = ℕ} 0 1 = cc in omega arith)
-      stop-at (broken p) (stops b) q = let z : p ≡ o = cc in omega arith
+      stop_at : (r : Segs) → Reads s 0 r → r ≡ broken o → o < length s
+      stop_at (segs m) (whole ends c) q = absurd (let z : ◌≡◌ {A = ℕ} 0 1 = cc in omega arith)
+      stop_at (broken p) (stops b) q = let z : p ≡ o = cc in omega arith
 
   module _ (short : length s ≤ path_max) where
     end_step : step_at s (length s) ≡ End
     unfolding step_at
     end_step = simp (le-ltb _ _ short, eq-eqb (length s) (length s) refl)
 
-    chain-read : {at : ℕ} {ends : List (Seg × ℕ)} (n : ℕ) → length s < at + n → Chain s at ends (length s) → segs_from n s at ≡ segs (map segment_of ends)
+    chain_read : {at : ℕ} {ends : List (Seg × ℕ)} (n : ℕ) → length s < at + n → Chain s at ends (length s) → segs_from n s at ≡ segs (map segment_of ends)
     unfolding segs_from
-    chain-read zero g none = absurd (omega arith)
-    chain-read (suc n) g none = rw end_step
-    chain-read zero g (more {at} e l i c) = absurd (omega (arith, segment_found s at _ _ e))
-    chain-read (suc n) g (more e l i c) = rw (← e, chain-read n (omega arith) c)
+    chain_read zero g none = absurd (omega arith)
+    chain_read (suc n) g none = rw end_step
+    chain_read zero g (more {at} e l i c) = absurd (omega (arith, segment_found s at _ _ e))
+    chain_read (suc n) g (more e l i c) = rw (← e, chain_read n (omega arith) c)
 
     -- and a path that segments cover has these segments and no others
-    pub covered-path : (l : List Seg) → Covers s l → segs_of s ≡ segs l
+    pub covered_path : (l : List Seg) → Covers s l → segs_of s ≡ segs l
     unfolding segs_of
-    covered-path l c = chain-read (length s + 1) (omega arith) c.chain ∙ ap segs c.these
+    covered_path l c = chain_read (length s + 1) (omega arith) c.chain ∙ ap segs c.these
 
 -- every one of a list
 abbrev pub All : (Seg → Type 0) → List Seg → Type 0

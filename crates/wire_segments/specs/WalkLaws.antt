@@ -54,14 +54,14 @@ module _ (s : List ℕ) (at : ℕ) (l : List Seg) where
   stopped (suc n) h i e o q = simp (← q) at e
 
   module _ (p : Passed s at l) where
-    pub passed-more : (x : Seg) (next : ℕ) → Segment x next ≡ step_at s at → Passed s next (l ++ (x ∷ []))
-    passed-more = more p.left p.enough p.inside p.same
+    pub passed_more : (x : Seg) (next : ℕ) → Segment x next ≡ step_at s at → Passed s next (l ++ (x ∷ []))
+    passed_more = more p.left p.enough p.inside p.same
 
-    pub passed-all : End ≡ step_at s at → segs_of s ≡ segs l
-    passed-all q = ended p.left p.enough p.inside p.same q ∙ ap segs (append-nil l)
+    pub passed_all : End ≡ step_at s at → segs_of s ≡ segs l
+    passed_all q = ended p.left p.enough p.inside p.same q ∙ ap segs (append-nil l)
 
-    pub passed-broken : (o : ℕ) → Broken o ≡ step_at s at → segs_of s ≡ broken o
-    passed-broken = stopped p.left p.enough p.inside p.same
+    pub passed_broken : (o : ℕ) → Broken o ≡ step_at s at → segs_of s ≡ broken o
+    passed_broken = stopped p.left p.enough p.inside p.same
 
 -- ---- a path that parses, read segment by segment
 
@@ -103,11 +103,11 @@ module _ (s : List ℕ) (at : ℕ) where
       let z : ◌≡◌ {A = ℕ} 0 1 = cc in omega arith
 
   module _ (l : List Seg) (a : Ahead s at l) where
-    pub ahead-then : (x : Seg) (next : ℕ) → Segment x next ≡ step_at s at → Then s x next l
-    ahead-then = then a.left l a.same
+    pub ahead_then : (x : Seg) (next : ℕ) → Segment x next ≡ step_at s at → Then s x next l
+    ahead_then = then a.left l a.same
 
-    pub ahead-end : End ≡ step_at s at → l ≡ []
-    ahead-end = none_ahead a.left l a.same
+    pub ahead_end : End ≡ step_at s at → l ≡ []
+    ahead_end = none_ahead a.left l a.same
 
-    pub ahead-whole : (o : ℕ) → Broken o ≡ step_at s at → ⊥
-    ahead-whole = not_ahead a.left l a.same
+    pub ahead_whole : (o : ℕ) → Broken o ≡ step_at s at → ⊥
+    ahead_whole = not_ahead a.left l a.same

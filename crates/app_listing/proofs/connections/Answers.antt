@@ -1,10 +1,10 @@
 use Rattle.std.proofs.Common.{◌-◌, ◌*◌, refl, ap, ◌∙◌, arith, length}
 use lib.Seq.{length-sets}
-use Rattle.app_listing.specs.Listing.{record_at, tell_more, table-short, table-told}
+use Rattle.app_listing.specs.Listing.{record_at, tell_more, table_short, table_told}
 use Rattle.app_listing.proofs.connections.Goals as goal
 
 pub returns-then-out-n : goal.returns-then-out-n
-returns-then-out-n c = table-short c.args.s.now c.args.out.now c.requires.test _ c.u16_at-n.ensures c.if-out-n.true
+returns-then-out-n c = table_short c.args.s.now c.args.out.now c.requires.test _ c.u16_at-n.ensures c.if-out-n.true
 
 pub loop-i-init : goal.loop-i-init
 loop-i-init c = (omega arith, refl, refl)
@@ -25,4 +25,4 @@ shape_of-out c = c.loop-i.invariant.2
 
 pub returns : goal.returns
 returns c = let a = c.args in let w = c.loop-i in
-    table-told a.s.now a.out.now c.requires.test _ c.u16_at-n.ensures c.if-out-n.false _ w.i c.loop-i-test.false w.invariant.1
+    table_told a.s.now a.out.now c.requires.test _ c.u16_at-n.ensures c.if-out-n.false _ w.i c.loop-i-test.false w.invariant.1

@@ -1,6 +1,6 @@
 -- By blocks of 32 bytes up to the first that differs, and the last 32 bytes.
 use Rattle.std.proofs.Common.{◌-◌, refl, arith, length}
-use Rattle.base_copies.specs.Same.{part_differs, part-agrees, last-told}
+use Rattle.base_copies.specs.Same.{part_differs, part_agrees, last_told}
 use Rattle.base_copies.proofs.same_blocks.Goals as goal
 
 pub loop-j-init : goal.loop-j-init
@@ -19,7 +19,7 @@ pub loop-j-preserved : goal.loop-j-preserved
 loop-j-preserved c = let a = c.args in
     let w = c.loop-j in
     let r = c.same_32 in
-    (omega arith, part-agrees a.s.now a.d.now a.at w.j w.invariant.1 32 r.result r.ensures c.if-not-same_32.false)
+    (omega arith, part_agrees a.s.now a.d.now a.at w.j w.invariant.1 32 r.result r.ensures c.if-not-same_32.false)
 
 pub same_32-requires-2 : goal.same_32-requires-2
 same_32-requires-2 c = (omega arith, omega arith)
@@ -27,4 +27,4 @@ same_32-requires-2 c = (omega arith, omega arith)
 pub returns : goal.returns
 returns c = let a = c.args in
     let w = c.loop-j in
-    last-told a.s.now a.d.now a.at w.j w.invariant.1 (length a.d.now - 32) 32 (omega arith) (omega arith) c.same_32-2.result c.same_32-2.ensures
+    last_told a.s.now a.d.now a.at w.j w.invariant.1 (length a.d.now - 32) 32 (omega arith) (omega arith) c.same_32-2.result c.same_32-2.ensures

@@ -1,6 +1,6 @@
 use Rattle.std.proofs.Common.{arith, ℕ, ◌≤◌, ◌+◌, ◌-◌, ◌≡◌, ap, sym, ◌∙◌, length, take, drop}
 use Rattle.state_image.specs.Kept.{kept_none}
-use Rattle.io_producing.specs.RowLaws.{send-none, send-short, send-some}
+use Rattle.io_producing.specs.RowLaws.{send_none, send_short, send_some}
 use Rattle.io_producing.proofs.send_row.Goals as goal
 
 pub returns-then-not-is_due : goal.returns-then-not-is_due
@@ -9,7 +9,7 @@ returns-then-not-is_due c = let a = c.args in
     let b = c.is_due in (
       (let q = p.3 in omega arith),
       kept_none a.s.now p.0,
-      send-none a.time a.i a.s.now p.2 c.sent_at-x.result c.sent_at-x.ensures b.result b.ensures c.if-not-is_due.true a.at a.out.now,
+      send_none a.time a.i a.s.now p.2 c.sent_at-x.result c.sent_at-x.ensures b.result b.ensures c.if-not-is_due.true a.at a.out.now,
     )
 
 pub returns-then-out-at : goal.returns-then-out-at
@@ -21,7 +21,7 @@ returns-then-out-at c = let a = c.args in
     let d = c.data_of-p in (
       (let q = p.3 in omega arith),
       kept_none a.s.now p.0,
-      send-short a.time a.i a.s.now p.2 x.result x.ensures b.result b.ensures c.if-not-is_due.false f.result f.ensures
+      send_short a.time a.i a.s.now p.2 x.result x.ensures b.result b.ensures c.if-not-is_due.false f.result f.ensures
           d.result.at d.result.size d.ensures.0 p.0.long d.ensures.2 a.at a.out.now a.out.now a.s.now 0 p.3 c.if-out-at.true,
     )
 
@@ -49,7 +49,7 @@ returns c = let a = c.args in
     let w : 33 + n ≤ length a.out.now - a.at = c.if-out-at.false in (
       (let q = p.3 in omega arith),
       c.put_sent.ensures.0,
-      send-some a.time a.i a.s.now p.2 x.result x.ensures b.result b.ensures c.if-not-is_due.false f.result f.ensures
+      send_some a.time a.i a.s.now p.2 x.result x.ensures b.result b.ensures c.if-not-is_due.false f.result f.ensures
           at' n d.ensures.0 p.0.long d.ensures.2 a.at a.out.now o.new.0 p.3 w y.result y.ensures.0
           (take (at' + n - at') (drop at' a.s.now)) (ap (λ (m : ℕ). take m (drop at' a.s.now)) k) o.ensures c.put_sent.new.s c.put_sent.ensures.1,
     )

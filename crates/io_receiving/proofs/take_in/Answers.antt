@@ -5,7 +5,7 @@ use Rattle.state_rules.specs.Places.{connections_of}
 use Rattle.state_image.specs.Kept.{kept_few}
 use Rattle.state_events.specs.Records.{output_is}
 use Rattle.state_events.specs.Pushes.{told_as}
-use Rattle.io_receiving.specs.TakeLaws.{take_same, take-quiet, take-told}
+use Rattle.io_receiving.specs.TakeLaws.{take_same, take_quiet, take_told}
 use Rattle.io_receiving.proofs.take_in.Goals as goal
 
 pub returns-then-not-differs : goal.returns-then-not-differs
@@ -28,7 +28,7 @@ returns-then-told c = let a = c.args in
     let d = a.d.now in
     let x : List ℕ = take (length d - 6) (drop 6 d) in
     let ex : x ≡ drop 6 d = take_all (length d - 6) (drop 6 d) (let k = length-drop 6 d in omega arith) in
-    λ f ef st l h n. take-quiet s a.i c.requires.1 d c.runs-was.result c.runs-was.ensures (eqb (get_or d 2 0 % 2) 1) refl c.put_data-changed.new.s c.put_data-changed.result x ex
+    λ f ef st l h n. take_quiet s a.i c.requires.1 d c.runs-was.result c.runs-was.ensures (eqb (get_or d 2 0 % 2) 1) refl c.put_data-changed.new.s c.put_data-changed.result x ex
     c.put_data-changed.ensures.1 c.differs.result c.differs.ensures f ef st l h n c.put_mark.new.s c.put_mark.ensures.1
     c.if-not-differs.false c.told-told.result c.told-told.ensures c.if-told.true
 
@@ -38,7 +38,7 @@ returns c = let a = c.args in
     let d = a.d.now in
     let x : List ℕ = take (length d - 6) (drop 6 d) in
     let ex : x ≡ drop 6 d = take_all (length d - 6) (drop 6 d) (let k = length-drop 6 d in omega arith) in
-    λ f ef st l h n. take-told s a.i c.requires.1 d c.runs-was.result c.runs-was.ensures (eqb (get_or d 2 0 % 2) 1) refl c.put_data-changed.new.s c.put_data-changed.result x ex
+    λ f ef st l h n. take_told s a.i c.requires.1 d c.runs-was.result c.runs-was.ensures (eqb (get_or d 2 0 % 2) 1) refl c.put_data-changed.new.s c.put_data-changed.result x ex
     c.put_data-changed.ensures.1 c.differs.result c.differs.ensures f ef st l h n c.put_mark.new.s c.put_mark.ensures.1
     c.if-not-differs.false c.told-told.result c.told-told.ensures c.if-told.false c.instance_at-instance.result
     c.instance_at-instance.ensures c.tell_assembly.new.s

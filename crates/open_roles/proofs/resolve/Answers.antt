@@ -1,7 +1,7 @@
 use Rattle.std.proofs.Common.{refl}
 use Rattle.state_rules.specs.Setups.{setup_from}
 use Rattle.open_roles.specs.Roles.{said}
-use Rattle.open_roles.specs.RoleLaws.{points_class, points-count, points-output, points-input, points-roles}
+use Rattle.open_roles.specs.RoleLaws.{points_class, points_count, points_output, points_input, points_roles}
 use Rattle.open_roles.proofs.resolve.Goals as goal
 
 pub returns-then-not-is_class_four : goal.returns-then-not-is_class_four
@@ -10,18 +10,18 @@ returns-then-not-is_class_four c = let a = c.args in
 
 pub returns-then-not-is_counted : goal.returns-then-not-is_counted
 returns-then-not-is_counted c = let a = c.args in (
-  points-count (setup_from a.r.now []) a.p c.is_class_four.result c.is_class_four.ensures c.if-not-is_class_four.false
+  points_count (setup_from a.r.now []) a.p c.is_class_four.result c.is_class_four.ensures c.if-not-is_class_four.false
       c.is_counted.result c.is_counted.ensures c.if-not-is_counted.true,
   refl,
 )
 
 pub returns-in-Into : goal.returns-in-Into
 returns-in-Into c = let a = c.args in (
-  points-input (setup_from a.r.now []) a.p c.is_class_four.result c.is_class_four.ensures c.if-not-is_class_four.false
+  points_input (setup_from a.r.now []) a.p c.is_class_four.result c.is_class_four.ensures c.if-not-is_class_four.false
       c.is_counted.result c.is_counted.ensures c.if-not-is_counted.false
       c.ot_point-point.result c.ot_point-point.ensures c.kind_of-kind.result c.kind_of-kind.ensures c.output.result c.output.ensures _ c.in-Into.is
       (said c.with_input.result) c.with_input.ensures.0,
-  points-roles (setup_from a.r.now []) a.p c.is_class_four.result c.is_class_four.ensures c.if-not-is_class_four.false
+  points_roles (setup_from a.r.now []) a.p c.is_class_four.result c.is_class_four.ensures c.if-not-is_class_four.false
       c.is_counted.result c.is_counted.ensures c.if-not-is_counted.false
       c.ot_point-point.result c.ot_point-point.ensures c.kind_of-kind.result c.kind_of-kind.ensures c.output.result c.output.ensures _ c.in-Into.is
       c.with_input.result c.with_input.ensures.1,
@@ -29,7 +29,7 @@ returns-in-Into c = let a = c.args in (
 
 pub returns-in-Nothing : goal.returns-in-Nothing
 returns-in-Nothing c = let a = c.args in (
-  points-output (setup_from a.r.now []) a.p c.is_class_four.result c.is_class_four.ensures c.if-not-is_class_four.false
+  points_output (setup_from a.r.now []) a.p c.is_class_four.result c.is_class_four.ensures c.if-not-is_class_four.false
       c.is_counted.result c.is_counted.ensures c.if-not-is_counted.false
       c.ot_point-point.result c.ot_point-point.ensures c.kind_of-kind.result c.kind_of-kind.ensures c.output.result c.output.ensures c.in-Nothing.is,
   refl,

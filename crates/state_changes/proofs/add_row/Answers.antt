@@ -1,5 +1,5 @@
 use Rattle.std.proofs.Common.{arith, ◌+◌}
-use Rattle.state_image.specs.Kept.{kept-counted}
+use Rattle.state_image.specs.Kept.{kept_counted}
 use Rattle.state_image.specs.Changes.{added_becomes}
 use Rattle.state_changes.proofs.add_row.Goals as goal
 
@@ -11,4 +11,4 @@ returns c = let s = c.args.s.now in
     let e = c.u16_at-n.ensures in
     let p = c.requires.1 in
     rw (c.put_u16.ensures, ← e)
-    (kept-counted s c.requires.0 x w.auto.0 (n + 1) (omega arith), added_becomes s x n c.args.c e (omega arith) w.ensures)
+    (kept_counted s c.requires.0 x w.auto.0 (n + 1) (omega arith), added_becomes s x n c.args.c e (omega arith) w.ensures)

@@ -1,5 +1,5 @@
 use Rattle.std.proofs.Common.{arith, ◌-◌}
-use Rattle.state_image.specs.Kept.{kept-counted}
+use Rattle.state_image.specs.Kept.{kept_counted}
 use Rattle.state_image.specs.Changes.{gone_becomes}
 use Rattle.state_changes.proofs.remove_row.Goals as goal
 
@@ -12,4 +12,4 @@ returns c = let s = c.args.s.now in
     let p = c.requires.1 in
     let b = c.requires.0.conns in
     rw (c.put_u16.ensures, ← e)
-    (kept-counted s c.requires.0 x w.auto.0 (n - 1) (omega arith), gone_becomes s x n c.args.i e (omega arith) w.ensures)
+    (kept_counted s c.requires.0 x w.auto.0 (n - 1) (omega arith), gone_becomes s x n c.args.i e (omega arith) w.ensures)

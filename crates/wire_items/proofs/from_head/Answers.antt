@@ -1,5 +1,5 @@
 use Rattle.std.proofs.Common.{arith, sym, ◌∙◌, rules}
-use Rattle.wire_items.proofs.IoLaws.{second_short, later-broken, over_size, is-io}
+use Rattle.wire_items.proofs.IoLaws.{second_short, later_broken, over_size, is_io}
 use Rattle.wire_items.proofs.from_head.Goals as goal
 
 pub returns-then-s-len : goal.returns-then-s-len
@@ -9,7 +9,7 @@ pub returns-then-s-gt65536 : goal.returns-then-s-gt65536
 returns-then-s-gt65536 c = over_size _ c.requires _ _ (search rules) (search rules) (omega arith) (sym c.in-Good.is ∙ c.IsWhole-from.ensures) (omega arith)
 
 pub returns-in-BrokenAt : goal.returns-in-BrokenAt
-returns-in-BrokenAt c = later-broken _ c.requires _ _ (search rules) (search rules) (omega arith) _ (sym c.in-BrokenAt.is ∙ c.IsWhole-from.ensures)
+returns-in-BrokenAt c = later_broken _ c.requires _ _ (search rules) (search rules) (omega arith) _ (sym c.in-BrokenAt.is ∙ c.IsWhole-from.ensures)
 
 pub returns-else-s-gt65536 : goal.returns-else-s-gt65536
-returns-else-s-gt65536 c = is-io _ c.requires _ _ (search rules) (search rules) (omega arith) _ _ (sym c.in-Good.is ∙ c.IsWhole-from.ensures) (omega arith) (search rules) (search rules)
+returns-else-s-gt65536 c = is_io _ c.requires _ _ (search rules) (search rules) (omega arith) _ _ (sym c.in-Good.is ∙ c.IsWhole-from.ensures) (omega arith) (search rules) (search rules)

@@ -1,6 +1,6 @@
 use Rattle.std.proofs.Common.{arith, ℕ, List, ap, sym, ◌∙◌}
 use Rattle.app_starting.specs.Given.{long_block, few, short_eds}
-use Rattle.app_starting.specs.Calls.{other_size, bad-setup, set-up}
+use Rattle.app_starting.specs.Calls.{other_size, bad_setup, set_up}
 use Rattle.adapter.proofs.app_setup.threshtide_setup.Goals as goal
 
 pub returns-then-state-ne-STATE_SIZE : goal.returns-then-state-ne-STATE_SIZE
@@ -8,7 +8,7 @@ returns-then-state-ne-STATE_SIZE c = let a = c.args in other_size a.state.now a.
 
 pub returns-then-not-accept : goal.returns-then-not-accept
 returns-then-not-accept c = let a = c.args in
-    bad-setup a.state.now a.block.now a.eds.now a.seed (omega arith)
+    bad_setup a.state.now a.block.now a.eds.now a.seed (omega arith)
     (sym c.accept.ensures ∙ c.if-not-accept.true)
 
 pub begin-requires : goal.begin-requires
@@ -19,5 +19,5 @@ begin-requires c = let a = c.args in
 pub returns : goal.returns
 returns c = let a = c.args in
     ap (λ (s : List ℕ). (0, s)) c.begin.ensures
-    ∙ set-up a.state.now a.block.now a.eds.now a.seed (omega arith)
+    ∙ set_up a.state.now a.block.now a.eds.now a.seed (omega arith)
     (sym c.accept.ensures ∙ c.if-not-accept.false)

@@ -1,7 +1,7 @@
 use Rattle.std.proofs.Common.{ℕ, ◌*◌, ◌^◌, ◌≡◌, ap, sym, ◌∙◌, arith}
 use Rattle.app_answers.specs.Ways.{passed_tested}
 use Rattle.msg_answering.specs.Positions.{whole_tested}
-use Rattle.msg_answering.specs.Lifted.{message_untested, message-misplaced, message_short, message-replied}
+use Rattle.msg_answering.specs.Lifted.{message_untested, message_misplaced, message_short, message_replied}
 use Rattle.adapter.proofs.msg_calls.threshtide_message.Goals as goal
 
 -- the length stands from bit 8 on
@@ -17,7 +17,7 @@ position_tested-requires c = passed_tested c.args.state.now (sym c.test_state.en
 
 pub returns-then-not-position_tested : goal.returns-then-not-position_tested
 returns-then-not-position_tested c = let a = c.args in
-    message-misplaced a.local a.mask a.message.now a.state.now a.upload.now a.out.now (sym c.test_state.ensures ∙ c.if-not-test_state.false)
+    message_misplaced a.local a.mask a.message.now a.state.now a.upload.now a.out.now (sym c.test_state.ensures ∙ c.if-not-test_state.false)
     (sym c.position_tested.ensures ∙ c.if-not-position_tested.true)
 
 pub returns-then-out-lt516 : goal.returns-then-out-lt516
@@ -35,4 +35,4 @@ pub returns : goal.returns
 returns c = let a = c.args in
     let t = sym c.test_state.ensures ∙ c.if-not-test_state.false in
     let p = sym c.position_tested.ensures ∙ c.if-not-position_tested.false in
-    shifted _ _ _ (message-replied a.local a.mask a.message.now a.state.now a.upload.now a.out.now t p c.if-out-lt516.false _ _ _ c.message.ensures.0)
+    shifted _ _ _ (message_replied a.local a.mask a.message.now a.state.now a.upload.now a.out.now t p c.if-out-lt516.false _ _ _ c.message.ensures.0)

@@ -1,7 +1,7 @@
 use Rattle.std.proofs.Common.{arith, sym, ◌∙◌}
 use Rattle.rules.specs.Opening.{open_call}
 use Rattle.state_image.specs.Lift.{out_fails}
-use Rattle.open_answering.specs.Calls.{open_inside, open_late, open-unread, open-read}
+use Rattle.open_answering.specs.Calls.{open_inside, open_late, open_unread, open_read}
 use Rattle.adapter.specs.Origins.{origin_of}
 use Rattle.adapter.proofs.open_calls.threshtide_open.Goals as goal
 
@@ -25,9 +25,9 @@ open_request-requires c = let a = c.args in (
 pub returns-in-NoOpen : goal.returns-in-NoOpen
 returns-in-NoOpen c = let a = c.args in
     let g = origin_of a.peer a.local a.mask a.given a.address a.port a.ioport in
-    open-unread a.time a.service a.request.now g a.state.now a.out.now c.if-time-gt9223372036854775807.false (sym c.test_state.ensures ∙ c.if-not-test_state.false) (λ i. omega (arith, c.slice_known-1.given i)) (sym c.request_of.ensures ∙ c.in-NoOpen.is)
+    open_unread a.time a.service a.request.now g a.state.now a.out.now c.if-time-gt9223372036854775807.false (sym c.test_state.ensures ∙ c.if-not-test_state.false) (λ i. omega (arith, c.slice_known-1.given i)) (sym c.request_of.ensures ∙ c.in-NoOpen.is)
 
 pub returns-in-Open : goal.returns-in-Open
 returns-in-Open c = let a = c.args in
     let g = origin_of a.peer a.local a.mask a.given a.address a.port a.ioport in
-    open-read a.time a.service a.request.now g a.state.now a.out.now c.if-time-gt9223372036854775807.false c.in-Open.o (sym c.request_of.ensures ∙ c.in-Open.is) c.open_request.result c.open_request.new.s c.open_request.new.out c.open_request.ensures
+    open_read a.time a.service a.request.now g a.state.now a.out.now c.if-time-gt9223372036854775807.false c.in-Open.o (sym c.request_of.ensures ∙ c.in-Open.is) c.open_request.result c.open_request.new.s c.open_request.new.out c.open_request.ensures

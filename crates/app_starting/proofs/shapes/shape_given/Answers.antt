@@ -1,5 +1,5 @@
 use Rattle.std.proofs.Common.{arith, rules}
-use Rattle.app_starting.specs.Shapes.{kind_low, kind_high, no_instance, shape-rest}
+use Rattle.app_starting.specs.Shapes.{kind_low, kind_high, no_instance, shape_rest}
 use Rattle.app_starting.proofs.shapes.shape_given.Goals as goal
 
 pub returns-then-k-lt1 : goal.returns-then-k-lt1
@@ -13,4 +13,4 @@ returns-then-n-lt1 c = let a = c.args in let e = c.u8_at-k.ensures in no_instanc
 
 pub returns : goal.returns
 returns c = let a = c.args in let e = c.u8_at-k.ensures in
-    shape-rest a.r.now a.i (omega arith) (omega arith) c.instance_at-n.result _ c.instance_at-n.ensures c.size_at.ensures c.if-n-lt1.false (search rules)
+    shape_rest a.r.now a.i (omega arith) (omega arith) c.instance_at-n.result _ c.instance_at-n.ensures c.size_at.ensures c.if-n-lt1.false (search rules)

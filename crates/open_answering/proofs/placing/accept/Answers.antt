@@ -2,7 +2,7 @@
 use Rattle.std.proofs.Common.{arith}
 use Rattle.state_image.specs.Holds.{ready_tested}
 use Rattle.open_answering.specs.Sides.{conn_due, conn_input, conn_fits}
-use Rattle.open_answering.specs.AcceptLaws.{accept_short, side-here, next-some, accept-done}
+use Rattle.open_answering.specs.AcceptLaws.{accept_short, side_here, next_some, accept_done}
 use Rattle.open_answering.proofs.placing.accept.Goals as goal
 
 pub returns-then-out-lt26 : goal.returns-then-out-lt26
@@ -14,7 +14,7 @@ u32_at-n-requires c = let n = (ready_tested c.args.s.now c.requires.0).long in o
 pub new_conn-c-requires : goal.new_conn-c-requires
 new_conn-c-requires c = let a = c.args in (
       c.requires.1,
-      side-here a.time a.o a.g a.config.now a.p a.s.now a.out.now c.requires.0 (λ i. omega (arith, c.slice_known-1.given i)) c.u32_at-n.result c.after_id.result c.u32_at-n.ensures
+      side_here a.time a.o a.g a.config.now a.p a.s.now a.out.now c.requires.0 (λ i. omega (arith, c.slice_known-1.given i)) c.u32_at-n.result c.after_id.result c.u32_at-n.ensures
           c.after_id.ensures c.side_of-side.result c.side_of-side.ensures,
     )
 
@@ -25,7 +25,7 @@ effect-requires c = let a = c.args in
       ready_tested a.s.now c.requires.0,
       c.requires.2.conns,
       conn_due a.time a.o a.g a.p n x.result x.ensures c.requires.1,
-      next-some a.time a.o a.g a.config.now a.p a.s.now a.out.now c.requires.0 (λ i. omega (arith, c.slice_known-1.given i)) n c.after_id.result c.u32_at-n.ensures
+      next_some a.time a.o a.g a.config.now a.p a.s.now a.out.now c.requires.0 (λ i. omega (arith, c.slice_known-1.given i)) n c.after_id.result c.u32_at-n.ensures
           c.after_id.ensures c.side_of-side.result c.side_of-side.ensures,
       c.requires.2.room,
       conn_input a.time a.o a.g a.p n x.result x.ensures c.requires.2.input,
@@ -34,7 +34,7 @@ effect-requires c = let a = c.args in
 
 pub returns : goal.returns
 returns c = let a = c.args in
-    accept-done a.time a.o a.g a.config.now a.p a.s.now a.out.now c.requires.0 (λ i. omega (arith, c.slice_known-1.given i)) c.u32_at-n.result c.after_id.result c.u32_at-n.ensures
+    accept_done a.time a.o a.g a.config.now a.p a.s.now a.out.now c.requires.0 (λ i. omega (arith, c.slice_known-1.given i)) c.u32_at-n.result c.after_id.result c.u32_at-n.ensures
     c.after_id.ensures c.side_of-side.result c.side_of-side.ensures c.if-out-lt26.false c.new_conn-c.result c.new_conn-c.ensures
     c.effect.new.s c.reply.new.out c.effect.ensures.1 c.requires.2.fits c.reply.ensures
     c.asks_multicast.result c.asks_multicast.ensures c.accepted_number.result c.accepted_number.ensures
