@@ -68,6 +68,8 @@ module _ {A : Type 0} (size : ℕ) (enc : A → List ℕ) (whole : (x : A) → l
   pub store_rows_cut : (n : ℕ) (xs : List A) (r : List ℕ) (i : ℕ) → i < length xs → length xs ≤ n
       → cut_row (length xs) i (store_rows size enc n xs r) ≡ store_rows size enc n (without xs i) r
   unfolding store_rows cut_row without
+  store_rows_cut zero [] r i p h = elim p [ ]
+  store_rows_cut (suc n) [] r i p h = elim p [ ]
   store_rows_cut zero (x ∷ xs) r i p h = absurd (omega arith)
   store_rows_cut (suc n) (x ∷ xs) r zero p h =
       let s : List ℕ = store_rows size enc n xs (drop size r) in

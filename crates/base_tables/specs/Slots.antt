@@ -44,6 +44,7 @@ sets_whole x y e = sets-eq y x 0 (omega arith) ∙ ap (λ (z : List ℕ). y ++ z
 pub slots_set : (xs : List (List ℕ)) (d : List ℕ) (i : ℕ) (y : List ℕ) → Short xs → length xs * 512 ≤ length d → i < length xs
     → length (get_or xs i []) ≡ length y → sets (store_slots xs d) (i * 512) y ≡ store_slots (set xs i y) d
 unfolding store_slots
+slots_set [] d i y h g p e = elim p [ ]
 slots_set (x ∷ xs) d zero y h g p e =
     let s : List ℕ = drop (length x) (take 512 d) in
     sets_left (x ++ s) (store_slots xs (drop 512 d)) 0 y (omega (arith, length-append x s))
@@ -59,6 +60,7 @@ slots_set (x ∷ xs) d (suc i) y h g p e =
 pub slot_at : (xs : List (List ℕ)) (d : List ℕ) (i : ℕ) → Short xs → length xs * 512 ≤ length d → i < length xs
     → take (length (get_or xs i [])) (drop (i * 512) (store_slots xs d)) ≡ get_or xs i []
 unfolding store_slots
+slot_at [] d i h g p = elim p [ ]
 slot_at (x ∷ xs) d zero h g p =
     ap (take (length x)) (append_assoc x (drop (length x) (take 512 d)) (store_slots xs (drop 512 d)))
     ∙ take_at x (drop (length x) (take 512 d) ++ store_slots xs (drop 512 d)) (length x) refl

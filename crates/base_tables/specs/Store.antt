@@ -66,6 +66,7 @@ module _ {A : Type 0} (size : ℕ) (enc : A → List ℕ) where
     pub row_stored : (n : ℕ) (xs : List A) (r : List ℕ) (i : ℕ) (d : A) → i < length xs
         → take size (drop (i * size) (store_rows n xs r)) ≡ enc (get_or xs i d)
     unfolding store_rows
+    row_stored n [] r i d h = elim h [ ]
     row_stored n (x ∷ xs) r zero d h = rw zero-mul (take_at (enc x) (store_rows (less n) xs (drop size r)) size (whole x))
     row_stored n (x ∷ xs) r (suc i) d h =
         rw (suc-mul, add_comm (i * size) size, ← drop-drop (i * size) size, drop_at (enc x) (store_rows (less n) xs (drop size r)) size (whole x))
@@ -86,6 +87,7 @@ module _ {A : Type 0} (size : ℕ) (enc : A → List ℕ) where
         → enc y ≡ sets (enc (get_or xs i d)) off bs
         → sets (store_rows n xs r) (i * size + off) bs ≡ store_rows n (set xs i y) r
     unfolding store_rows
+    store_rows_set n [] r i off bs y d h f e = elim h [ ]
     store_rows_set n (x ∷ xs) r zero off bs y d h f e =
         let s : List ℕ = store_rows (less n) xs (drop size r) in
         ap (λ (k : ℕ). sets (enc x ++ s) k bs) (omega (arith, zero-mul size))

@@ -24,6 +24,7 @@ module _ {A : Type 0} (size : ℕ) (dec : List ℕ → A) where
 
   pub row_at_lem : (n : ℕ) (l : List ℕ) (i : ℕ) (d : A) → i < n → get_or (rows n l) i d ≡ dec (take size (drop (i * size) l))
   unfolding rows
+  row_at_lem zero l i d h = elim h [ ]
   row_at_lem (suc n) l zero d h = rw zero-mul
   row_at_lem (suc n) l (suc i) d h = row_at_lem n (drop size l) i d (omega arith) ∙ rw (drop-drop, suc-mul, add_comm size (i * size))
 

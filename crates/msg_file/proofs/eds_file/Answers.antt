@@ -1,4 +1,4 @@
-use Rattle.std.proofs.Common.{ℕ, ap, ◌∙◌}
+use Rattle.std.proofs.Common.{[], ℕ, ap, ◌∙◌}
 use Rattle.rules.specs.Upload.{initiate}
 use Rattle.state_rules.specs.Setups.{setup_from}
 use Rattle.msg_positions.specs.Positions.{dec_upload}

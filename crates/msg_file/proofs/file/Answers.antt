@@ -1,3 +1,4 @@
+use Rattle.std.proofs.Common.{[]}
 use Rattle.state_rules.specs.Setups.{setup_from}
 use Rattle.msg_attributes.specs.Values.{fails}
 use Rattle.msg_positions.specs.Positions.{dec_upload}

@@ -1,3 +1,4 @@
+use Rattle.std.proofs.Common.{[]}
 use Rattle.rules.specs.Objects.{file_attributes}
 use Rattle.state_rules.specs.Setups.{setup_from}
 use Rattle.msg_attributes.specs.Values.{told_wanted, fails}

@@ -1,4 +1,4 @@
-use Rattle.std.proofs.Common.{◌∷◌, refl, ◌∙◌}
+use Rattle.std.proofs.Common.{[], ◌∷◌, refl, ◌∙◌}
 use Rattle.base_cells.specs.Numbers.{le_bytes}
 use Rattle.rules.specs.Attributes.{Gives}
 use Rattle.rules.specs.Objects.{file_attributes}

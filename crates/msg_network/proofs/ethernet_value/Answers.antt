@@ -1,4 +1,4 @@
-use Rattle.std.proofs.Common.{refl}
+use Rattle.std.proofs.Common.{[], refl}
 use Rattle.rules.specs.Objects.{ethernet_attributes}
 use Rattle.state_rules.specs.Setups.{setup_from}
 use Rattle.msg_attributes.specs.Values.{value_is, value_none}

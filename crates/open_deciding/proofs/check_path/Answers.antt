@@ -1,4 +1,4 @@
-use Rattle.std.proofs.Common.{◌∷◌}
+use Rattle.std.proofs.Common.{[], ◌∷◌}
 use Rattle.rules.specs.Checks.{key_check}
 use Rattle.state_rules.specs.Setups.{identity_of}
 use Rattle.open_deciding.specs.DecidedLaws.{first_stops, first_goes, first_last}

@@ -1,4 +1,4 @@
-use Rattle.std.proofs.Common.{◌∷◌}
+use Rattle.std.proofs.Common.{[], ◌∷◌}
 use Rattle.rules.specs.State.{Setup}
 use Rattle.rules.specs.Checks.{Roles, rpi_check, type_check, ot_size_check, to_size_check}
 use Rattle.state_rules.specs.Setups.{setup_from}

@@ -1,5 +1,5 @@
 use mathlib.Core.Option.{none}
-use Rattle.std.proofs.Common.{◌∙◌}
+use Rattle.std.proofs.Common.{[], ◌∙◌}
 use Rattle.rules.specs.State.{is_config}
 use Rattle.rules.specs.Checks.{place_of}
 use Rattle.state_rules.specs.Setups.{setup_from}

@@ -1,3 +1,4 @@
+use Rattle.std.proofs.Common.{[]}
 use Rattle.state_rules.specs.Setups.{setup_from}
 use Rattle.open_roles.specs.RoleLaws.{kind_input_only, kind_listen_only, kind_owner}
 use Rattle.open_roles.proofs.kind_of.Goals as goal

@@ -1,4 +1,4 @@
-use Rattle.std.proofs.Common.{refl}
+use Rattle.std.proofs.Common.{[], refl}
 use Rattle.state_rules.specs.Setups.{setup_from}
 use Rattle.open_roles.specs.Roles.{said}
 use Rattle.open_roles.specs.RoleLaws.{points_class, points_count, points_output, points_input, points_roles}

@@ -1,4 +1,4 @@
-use Rattle.std.proofs.Common.{refl}
+use Rattle.std.proofs.Common.{[], refl}
 use Rattle.state_rules.specs.Setups.{setup_from}
 use Rattle.open_roles.specs.RoleLaws.{input_none, input_there, input_roles}
 use Rattle.open_roles.proofs.with_input.Goals as goal

@@ -1,4 +1,4 @@
-use Rattle.std.proofs.Common.{◌∷◌, ◌++◌, refl, arith}
+use Rattle.std.proofs.Common.{[], ◌∷◌, ◌++◌, refl, arith}
 use Rattle.wire_replies.proofs.WriteLaws.{none_put, all_put, put_on}
 use Rattle.wire_rules.specs.Replies.{reply_head, head_widths, head_fields}
 use Rattle.base_cells.specs.Records.{sum}

@@ -3,4 +3,4 @@ use Rattle.wire_opens.proofs.way_at.Goals as goal
 
 pub returns : goal.returns
 unfolding way_at
-returns c = λ i. record { rpi = c.u32_at.ensures i; params = c.params_at_lem.ensures i }
+returns c = λ i. record { rpi = c.u32_at.ensures i; params = c.params_at.ensures i }

@@ -1,4 +1,4 @@
-use Rattle.std.proofs.Common.{◌∷◌, refl, arith}
+use Rattle.std.proofs.Common.{[], ◌∷◌, refl, arith}
 use Rattle.wire_replies.proofs.WriteLaws.{none_put, all_put, put_on, fields_on}
 use Rattle.wire_rules.specs.Replies.{triad_widths, triad_fields, open_reply, open_reply_widths, open_reply_fields}
 use Rattle.base_cells.specs.Records.{sum}

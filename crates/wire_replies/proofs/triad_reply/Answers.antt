@@ -1,4 +1,4 @@
-use Rattle.std.proofs.Common.{ℕ, List, ◌∷◌, refl, ap, ◌∙◌, arith}
+use Rattle.std.proofs.Common.{[], ℕ, List, ◌∷◌, refl, ap, ◌∙◌, arith}
 use Rattle.wire_replies.proofs.WriteLaws.{none_put, all_put}
 use Rattle.wire_rules.specs.Replies.{triad_reply, triad_reply_widths, triad_reply_fields}
 use Rattle.base_cells.specs.Records.{sum, put_fields}

@@ -1,3 +1,4 @@
+use Rattle.std.proofs.Common.{[]}
 use Rattle.state_rules.specs.Setups.{setup_from}
 use Rattle.open_checking.specs.RequestLaws.{rpi_ot, rpi_to, rpi_yes}
 use Rattle.open_checking.proofs.request.rpi.Goals as goal

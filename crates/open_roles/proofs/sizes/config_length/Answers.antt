@@ -1,3 +1,4 @@
+use Rattle.std.proofs.Common.{[]}
 use Rattle.state_rules.specs.Setups.{setup_from}
 use Rattle.open_checking.specs.Says.{stop_in}
 use Rattle.open_roles.specs.SizeLaws.{config_nowhere, config_place}

@@ -1,3 +1,4 @@
+use Rattle.std.proofs.Common.{[]}
 use Rattle.state_rules.specs.Setups.{setup_from}
 use Rattle.open_roles.specs.SizeLaws.{length_fits, length_other}
 use Rattle.open_roles.proofs.sizes.length_at.Goals as goal

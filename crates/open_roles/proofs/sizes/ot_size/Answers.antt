@@ -1,4 +1,4 @@
-use Rattle.std.proofs.Common.{ap}
+use Rattle.std.proofs.Common.{[], ap}
 use Rattle.rules.specs.State.{is_owner}
 use Rattle.state_rules.specs.Setups.{setup_from}
 use Rattle.open_checking.specs.Says.{stop_in}

@@ -1,4 +1,5 @@
 -- A reader owns nothing; a free output stops nothing; an owned one stops the open with its instance.
+use Rattle.std.proofs.Common.{[]}
 use Rattle.state_rules.specs.Rows.{fixeds_in}
 use Rattle.state_rules.specs.Setups.{setup_from}
 use Rattle.state_records.specs.Shapes.{shape_of}
