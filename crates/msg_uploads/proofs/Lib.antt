@@ -1,4 +1,3 @@
 pub mod StepLaws
 pub mod SendLaws
 pub mod TurnLaws
-pub mod Shared

@@ -44,6 +44,7 @@ set_own (x ∷ l) (suc i) d = ap (λ z. x ∷ z) (set_own l i d)
 
 fewer : (xs : List Conn) (i : ℕ) → i < length xs → length xs - 1 ≡ length (without xs i)
 unfolding without
+fewer [] i h = elim h [ ]
 fewer (x ∷ xs) zero h = omega arith
 fewer (x ∷ xs) (suc i) h = let e = fewer xs i (omega arith) in omega arith
 

@@ -12,4 +12,4 @@ returns c = let a = c.args in
     let k = c.count_all-k in
     let d = c.send_all in
     let b = c.keep_tally in
-    all_out a.time a.s.now a.out.now k.result k.ensures.1 c.requires.2 c.if-out-k.false d.new.0 b.new.0 d.new.1.0 d.ensures.1 b.ensures
+    all_out a.time a.s.now a.out.now k.result k.ensures.1 c.requires.2 c.if-out-k.false d.new.s b.new.s d.new.out d.ensures.1 b.ensures

@@ -25,11 +25,11 @@ loop-i-preserved c = let a = c.args in
     let r = c.send_row-at in
     let d = r.ensures in (
       omega arith,
-      (let q = d.0 in let e = r.auto.1.0 in omega arith),
-      r.auto.1.0 ∙ w.invariant.2,
+      (let q = d.0 in let e = r.auto.out in omega arith),
+      r.auto.out ∙ w.invariant.2,
       record { ready = d.1.ready; setup = d.1.setup ∙ w.invariant.3.setup; conns = d.1.conns ∙ w.invariant.3.conns },
       w.invariant.4,
-      send_turn a.time w.i w.at r.result a.s.now w.s r.new.0 a.out.now w.out r.new.1.0 (let e = w.invariant.4 in omega arith) w.invariant.5 d.2,
+      send_turn a.time w.i w.at r.result a.s.now w.s r.new.s a.out.now w.out r.new.out (let e = w.invariant.4 in omega arith) w.invariant.5 d.2,
     )
 
 pub shape_of-s : goal.shape_of-s

@@ -50,6 +50,6 @@ returns c = let a = c.args in
       (let q = p.3 in omega arith),
       c.put_sent.ensures.0,
       send_some a.time a.i a.s.now p.2 x.result x.ensures b.result b.ensures c.if-not-is_due.false f.result f.ensures
-          at' n d.ensures.0 p.0.long d.ensures.2 a.at a.out.now o.new.0 p.3 w y.result y.ensures.0
+          at' n d.ensures.0 p.0.long d.ensures.2 a.at a.out.now o.new.o p.3 w y.result y.ensures.0
           (take (at' + n - at') (drop at' a.s.now)) (ap (λ (m : ℕ). take m (drop at' a.s.now)) k) o.ensures c.put_sent.new.s c.put_sent.ensures.1,
     )

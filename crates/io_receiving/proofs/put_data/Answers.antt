@@ -13,4 +13,4 @@ pub returns : goal.returns
 returns c = let a = c.args in
     let r = c.same_at in
     let b = c.put_bytes in
-    (b.ensures.0, data_new a.s.now a.i c.requires.1 a.d.now r.result r.ensures c.if-same_at.false b.new.0 b.ensures.1)
+    (b.ensures.0, data_new a.s.now a.i c.requires.1 a.d.now r.result r.ensures c.if-same_at.false b.new.s b.ensures.1)

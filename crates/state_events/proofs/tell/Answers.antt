@@ -10,4 +10,4 @@ put_record-requires c = let q = setup_ready c.args.s.now c.requires in (omega ar
 pub returns : goal.returns
 returns c = let a = c.args in
     let told = c.push_event in
-    (told.ensures.0, tells a.s.now told.new.0 c.put_record.new.row a.what a.f c.put_record.ensures told.ensures.1)
+    (told.ensures.0, tells a.s.now told.new.s c.put_record.new.row a.what a.f c.put_record.ensures told.ensures.1)

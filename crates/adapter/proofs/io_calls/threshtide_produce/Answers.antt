@@ -28,4 +28,4 @@ returns c = let a = c.args in
     let t = sym c.test_state.ensures ∙ c.if-not-test_state.false in
     let d = c.produce in
     let y = d.ensures (view s) s (holds_tested s t (λ i. omega (arith, c.slice_known-1.given i))) in
-    out_done (produce_call a.time) s a.out.now t d.result d.new.0 d.new.1.1.0 y.number y.is y.out
+    out_done (produce_call a.time) s a.out.now t d.result d.new.s d.new.out y.number y.is y.out
