@@ -116,8 +116,8 @@ fn config_place(r: &[u8], p: ConnectionPath) -> Stores
 
 fn with_input(r: &[u8], p: ConnectionPath, kind: Kind, output: u8) -> Points
     requires { (setup_size ≤ length r.now) × (assemblies_of r.now ≤ 16) }
-    ensures result_value { said result ≡ input_check (setup_from r.now []) p }
-    ensures result_value_2 { roles_or (roles_with (setup_from r.now []) p kind output) result ≡ roles_with (setup_from r.now []) p kind output }
+    ensures check { said result ≡ input_check (setup_from r.now []) p }
+    ensures roles { roles_or (roles_with (setup_from r.now []) p kind output) result ≡ roles_with (setup_from r.now []) p kind output }
 {
     let point = to_point(p);
     match place(r, 1, point) {
@@ -137,8 +137,8 @@ fn with_input(r: &[u8], p: ConnectionPath, kind: Kind, output: u8) -> Points
 // Check 4.
 pub fn resolve(r: &[u8], p: ConnectionPath) -> Points
     requires { (setup_size ≤ length r.now) × (assemblies_of r.now ≤ 16) }
-    ensures result_value { said result ≡ points_check (setup_from r.now []) p }
-    ensures result_value_2 { roles_or (roles_of (setup_from r.now []) p) result ≡ roles_of (setup_from r.now []) p }
+    ensures check { said result ≡ points_check (setup_from r.now []) p }
+    ensures roles { roles_or (roles_of (setup_from r.now []) p) result ≡ roles_of (setup_from r.now []) p }
 {
     if !is_class_four(p) {
         return Points::Stops(Stop::ClassNotFour {

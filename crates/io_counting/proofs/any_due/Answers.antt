@@ -11,7 +11,7 @@ loop-i-preserved c = let w = c.loop-i in
     let a = c.args in (
       omega arith,
       one_more a.time a.n a.r.now w.m c.due_number_at.result c.wrapping_sub_u64.result w.i c.lesser-m.result (omega arith)
-          c.due_number_at.ensures c.wrapping_sub_u64.ensures (omega arith) (omega arith) c.lesser-m.ensures w.invariant.1,
+          c.due_number_at.ensures c.wrapping_sub_u64.ensures.value (omega arith) (omega arith) c.lesser-m.ensures w.invariant.1,
     )
 
 pub returns : goal.returns

@@ -7,4 +7,4 @@ use Rattle.io_deadlines.proofs.row_deadline.Goals as goal
 pub returns : goal.returns
 returns c = let a = c.args in
     row_least (row_at a.r.now a.i) c.until_at-until.result c.due_number_at-due.result c.wrapping_sub_u64.result c.lesser.result
-    c.until_at-until.ensures c.due_number_at-due.ensures c.wrapping_sub_u64.ensures c.lesser.ensures (omega arith) (omega arith)
+    c.until_at-until.ensures c.due_number_at-due.ensures c.wrapping_sub_u64.ensures.value c.lesser.ensures (omega arith) (omega arith)
