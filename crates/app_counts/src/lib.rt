@@ -1,5 +1,6 @@
 // The counters.
 #![tactic(auto)]
+
 ghost use Rattle.std.specs.Prelude.{◌≡◌};
 ghost use Rattle.rules.specs.Host.{stats_answer};
 ghost use Rattle.state_image.specs.Lift.{lifted_read};

@@ -1,5 +1,6 @@
 // Outputs, and any assembly's data, handed to the application.
 #![tactic(auto)]
+
 ghost use Rattle.std.specs.Prelude.{◌≡◌, ◌<◌};
 ghost use Rattle.rules.specs.Host.{output_call, assembly_answer};
 ghost use Rattle.state_rules.specs.Places.{assemblies_of};

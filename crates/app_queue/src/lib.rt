@@ -1,5 +1,6 @@
 // The events that were not read.
 #![tactic(auto)]
+
 ghost use Rattle.std.specs.Prelude.{◌≡◌};
 ghost use Rattle.rules.specs.Host.{next_event_call};
 ghost use Rattle.state_image.specs.Lift.{lifted_out};

@@ -1,5 +1,6 @@
 // Setup: what the host's block and EDS say, whether that is accepted, and the state's bytes that it leaves.
 #![tactic(auto)]
+
 pub mod checks;
 pub mod columns;
 pub mod shapes;

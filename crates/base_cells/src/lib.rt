@@ -1,5 +1,6 @@
 // Little-endian numbers in byte slices.
 #![tactic(auto)]
+
 ghost use Rattle.std.specs.Prelude.{◌≡◌, ℕ, ◌+◌, ◌≤◌, ◌<◌, ◌*◌, length, drop, replicate};
 ghost use Rattle.std.proofs.Math.Seq.{paste};
 ghost use Rattle.std.proofs.lemmas.List.Edits.{sets};

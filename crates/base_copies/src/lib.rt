@@ -1,6 +1,7 @@
 // Bytes copied and compared by 8-byte numbers. Where the length is no multiple of the width, the last number overlaps the one before, so
 // that no single bytes are left over.
 #![tactic(auto)]
+
 ghost use Rattle.std.specs.Prelude.{◌≡◌, ◌+◌, ◌≤◌, length, take, drop};
 ghost use Rattle.std.proofs.lemmas.List.Edits.{sets};
 ghost use Rattle.base_copies.specs.Same.{Tells};

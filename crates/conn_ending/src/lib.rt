@@ -1,5 +1,6 @@
 // Close and expiry on a lent state in place.
 #![tactic(auto)]
+
 ghost use Rattle.std.specs.Prelude.{◌≡◌, ◌<◌};
 ghost use Rattle.state_rules.specs.Places.{connections_of};
 ghost use Rattle.state_image.specs.Holds.{Ready};

@@ -1,5 +1,6 @@
 // Tests of a connection's row on the numbers that they need, and searches along the rows in use.
 #![tactic(auto)]
+
 ghost use Rattle.std.specs.Prelude.{◌≡◌, ◌≤◌, ◌<◌, min, length};
 ghost use Rattle.base_tables.specs.Tables.{rows};
 ghost use Rattle.rules.specs.Lists.{place, any};

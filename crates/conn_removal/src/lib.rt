@@ -1,6 +1,7 @@
 // Removal of a connection from a lent state in place: hand-over of its stream, the listeners of a stream that ends, the output's run bit,
 // and the event.
 #![tactic(auto)]
+
 ghost use Rattle.std.specs.Prelude.{◌≡◌, ◌<◌};
 ghost use Rattle.rules.specs.State.{produces};
 ghost use Rattle.state_rules.specs.Rows.{of_due};

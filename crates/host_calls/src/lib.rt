@@ -1,5 +1,6 @@
 // Each C function under the contract that the theorem of runs has for it: what a run asks of a call, the code does.
 #![tactic(auto)]
+
 ghost use Rattle.std.specs.Prelude.{[]};
 ghost use Rattle.host_runs.specs.Contracts.{Met, saying};
 ghost use Rattle.host_runs.specs.HostCalls.{HostCall, contract_of, CCall, contract};

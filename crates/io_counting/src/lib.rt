@@ -1,5 +1,6 @@
 // What is due, counted before anything is written: its bytes, its packets, and how late they are.
 #![tactic(auto)]
+
 ghost use Rattle.std.specs.Prelude.{◌≡◌, ◌+◌, ◌<◌, ◌≤◌, min, max, length, nat_le};
 ghost use Rattle.base_cells.specs.Numbers.{le};
 ghost use Rattle.base_cells.specs.Records.{of_bool};

@@ -1,5 +1,6 @@
 // The next deadline: the least of producing due times and receive time plus timeout.
 #![tactic(auto)]
+
 ghost use Rattle.std.specs.Prelude.{◌≡◌, ℕ, ◌+◌, ◌*◌, ◌<◌, ◌≤◌, min, length};
 ghost use Rattle.std.proofs.Math.Option.{some};
 ghost use Rattle.rules.specs.Removal.{deadline_of, deadline, deadline_answer};

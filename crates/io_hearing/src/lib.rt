@@ -1,5 +1,6 @@
 // What receive decides: whom a frame is for, whether it is newer, whether it has a CIP sequence, and whether that was the last one.
 #![tactic(auto)]
+
 ghost use Rattle.std.specs.Prelude.{◌≡◌, ◌&&◌, ◌||◌, ◌+◌, ◌≤◌, ◌<◌, eqb, leb, length};
 ghost use Rattle.rules.specs.Lists.{place};
 ghost use Rattle.rules.specs.State.{is_owner};

@@ -1,5 +1,6 @@
 // One connection's packet: when it is due, how the connection steps, and the packet's bytes.
 #![tactic(auto)]
+
 ghost use Rattle.std.specs.Prelude.{◌≡◌, true, false, ◌+◌, ◌*◌, ◌≤◌, ◌<◌, length};
 ghost use Rattle.std.proofs.lemmas.List.Edits.{sets};
 ghost use Rattle.base_cells.specs.Records.{of_bool};

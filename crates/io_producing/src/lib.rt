@@ -1,6 +1,7 @@
 // Packets out. First what is due is counted and its bytes added up, so that too little room changes nothing; then each packet is
 // written behind the one before, and the connection steps.
 #![tactic(auto)]
+
 ghost use Rattle.std.specs.Prelude.{◌≡◌, ◌+◌, ◌*◌, ◌≤◌, ◌<◌, length};
 ghost use Rattle.rules.specs.Producing.{counted};
 ghost use Rattle.state_rules.specs.Places.{connections_of};

@@ -1,6 +1,7 @@
 // Frames in. A frame is for the first connection with its O→T id and its sender's address; the rules' order (chapter 9) decides what is
 // recorded before what is looked at.
 #![tactic(auto)]
+
 ghost use Rattle.std.specs.Prelude.{◌≡◌, not, ◌||◌, ◌+◌, ◌≤◌, ◌<◌, length};
 ghost use Rattle.std.specs.Bool.{beq};
 ghost use Rattle.wire_rules.specs.Timeout.{timeout_of};

@@ -1,6 +1,7 @@
 // A message to the adapter's own objects: its request, the object that it names, and the reply. Every message gets a reply; the
 // state stays, and the position of an upload is the only thing that a message may change.
 #![tactic(auto)]
+
 ghost use Rattle.std.specs.Prelude.{◌≡◌, true, ℕ, ◌≤◌, ◌<◌, length};
 ghost use Rattle.std.proofs.lemmas.List.Edits.{sets};
 ghost use Rattle.rules.specs.Attributes.{status_number};

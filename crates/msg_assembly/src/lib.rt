@@ -1,5 +1,6 @@
 // Assembly, class 0x04: the data of an assembly of any kind, and its size.
 #![tactic(auto)]
+
 ghost use Rattle.std.specs.Prelude.{◌≡◌, ℕ, ◌≤◌, ◌<◌, max, [], length};
 ghost use Rattle.rules.specs.Lists.{place};
 ghost use Rattle.rules.specs.State.{content_at};

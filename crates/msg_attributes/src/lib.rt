@@ -1,6 +1,7 @@
 // What an object answers, as code says it: how many bytes of its data stand at the start of the lent output, or why there are none.
 // The writers here put one attribute's value each; the output always has room, since the call asks for it first.
 #![tactic(auto)]
+
 ghost use Rattle.std.specs.Prelude.{◌≡◌, ℕ, ◌+◌, ◌≤◌, ◌<◌, [], ◌∷◌, length};
 ghost use Rattle.std.proofs.lemmas.List.Edits.{sets};
 ghost use Rattle.base_cells.specs.Numbers.{le_bytes};

@@ -1,5 +1,6 @@
 // File, class 0x37: the attributes of the EDS, and its upload over the lent position.
 #![tactic(auto)]
+
 ghost use Rattle.std.specs.Prelude.{◌≡◌, [], ℕ, ◌≤◌, ◌<◌, length};
 ghost use Rattle.base_cells.specs.Numbers.{le};
 ghost use Rattle.rules.specs.Attributes.{Gives, tagged_text, value_of, single};

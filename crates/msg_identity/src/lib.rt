@@ -1,5 +1,6 @@
 // Identity, class 0x01.
 #![tactic(auto)]
+
 ghost use Rattle.std.specs.Prelude.{◌≡◌, ℕ, ◌≤◌, ◌<◌, length};
 ghost use Rattle.base_cells.specs.Numbers.{le};
 ghost use Rattle.rules.specs.Attributes.{Gives, short_string, value_of, single};

@@ -1,5 +1,6 @@
 // TCP/IP, class 0xF5, and Ethernet Link, class 0xF6.
 #![tactic(auto)]
+
 ghost use Rattle.std.specs.Prelude.{◌≡◌, ℕ, ◌≤◌, ◌<◌, [], length};
 ghost use Rattle.rules.specs.Attributes.{Gives, value_of, single};
 ghost use Rattle.rules.specs.Objects.{interface, tcp_ip_attributes, tcp_ip, ethernet_attributes, ethernet_link};

@@ -1,5 +1,6 @@
 // An upload's position as lent bytes: read, written in one way, and tested.
 #![tactic(auto)]
+
 ghost use Rattle.std.specs.Prelude.{◌≡◌, ◌+◌, ◌≤◌, ◌<◌, [], ◌∷◌, length};
 ghost use Rattle.base_cells.specs.Records.{dec_fields, put_fields};
 ghost use Rattle.rules.specs.Upload.{last_ok};

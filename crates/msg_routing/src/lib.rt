@@ -1,5 +1,6 @@
 // What a host reads to route bytes by itself: the record of a path, 32 bytes, and of an explicit message, 20. No state is touched.
 #![tactic(auto)]
+
 ghost use Rattle.std.specs.Prelude.{◌≡◌, [], ◌∷◌, ◌+◌, ◌≤◌, length};
 ghost use Rattle.base_cells.specs.Records.{put_fields, of_bool};
 ghost use Rattle.rules.specs.Routing.{path_answer, request_answer, is_named, class_of, instance_of, has_attribute, attribute_of};

@@ -1,5 +1,6 @@
 // The identity status: whether an exclusive owner is in the table, and the extended device status.
 #![tactic(auto)]
+
 ghost use Rattle.std.specs.Prelude.{◌≡◌, ℕ, ◌≤◌, ◌<◌, length};
 ghost use Rattle.rules.specs.Lists.{any};
 ghost use Rattle.rules.specs.State.{content_at};

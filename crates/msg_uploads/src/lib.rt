@@ -1,5 +1,6 @@
 // The EDS upload: the checksum, the size that is agreed, what a transfer's number asks for, and its steps over the position.
 #![tactic(auto)]
+
 mod replies;
 pub mod steps;
 

@@ -1,6 +1,7 @@
 // The decision of an open: the thirteen checks of chapter 6 in their order, over the lent state. The first that does not hold stops the open;
 // where all hold the plan says what the open comes to. Nothing is changed here.
 #![tactic(auto)]
+
 ghost use Rattle.std.specs.Prelude.{◌≡◌, true, cond, not, [], eqb};
 ghost use Rattle.rules.specs.declared.Stores.TheVariants.{Nothing};
 ghost use Rattle.rules.specs.Lists.{is_some};

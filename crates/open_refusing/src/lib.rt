@@ -1,5 +1,6 @@
 // What a refused open is answered with: the number that carries its status and words, and the data of its reply.
 #![tactic(auto)]
+
 ghost use Rattle.std.specs.Prelude.{◌≡◌, ◌+◌, [], ◌∷◌, length};
 ghost use Rattle.rules.specs.Answers.{Failed, wordsNumber, answerNumber};
 ghost use Rattle.rules.specs.Opening.{open_asked, refusal_answer};

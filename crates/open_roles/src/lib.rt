@@ -1,6 +1,7 @@
 // Check 4 of an open, and what its points come to: who the connection serves and the assemblies that it reads and writes, by their
 // places in the setup's list. The points are looked up once; sizes.rt has the checks that need what they came to.
 #![tactic(auto)]
+
 pub mod sizes;
 
 ghost use Rattle.std.specs.Prelude.{◌≡◌, [], ◌&&◌, ◌||◌, ◌≤◌, eqb, length};

@@ -2,6 +2,7 @@
 // Here stand the types that code passes by value; specs/State.antt has the whole state, and the other files of specs/
 // the rules, in its order and words.
 #![tactic(auto)]
+
 pub mod objects;
 
 use base_ids::{OtId, ToId, Triad};

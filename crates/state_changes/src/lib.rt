@@ -1,6 +1,7 @@
 // Changes in place of a whole lent state that passed the state test: each leaves the bytes of the changed state, whatever state the
 // bytes held (Becomes), and keeps the bounds that code goes by (Kept).
 #![tactic(auto)]
+
 ghost use Rattle.std.specs.Prelude.{◌≡◌, ℕ, ◌+◌, ◌-◌, ◌≤◌, ◌<◌, length};
 ghost use Rattle.rules.specs.State.{with_fault, with_next_id};
 ghost use Rattle.state_rules.specs.Rows.{of_due};

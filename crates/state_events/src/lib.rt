@@ -1,5 +1,6 @@
 // One event more in the list of the lent state: the record of 32 bytes that the host reads, of a connection or of an assembly.
 #![tactic(auto)]
+
 ghost use Rattle.std.specs.Prelude.{◌≡◌};
 ghost use Rattle.state_rules.specs.Places.{connections_of};
 ghost use Rattle.state_image.specs.Holds.{Ready, Becomes};

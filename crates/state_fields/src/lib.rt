@@ -1,5 +1,6 @@
 // One field of a row of the lent state's table (crates/state_rules/specs/Rows.antt).
 #![tactic(auto)]
+
 ghost use Rattle.std.specs.Prelude.{◌≡◌, ◌*◌, ◌≤◌, ◌<◌, length};
 ghost use Rattle.rules.specs.State.{is_owner, is_listener};
 ghost use Rattle.state_rules.specs.Places.{table_size};

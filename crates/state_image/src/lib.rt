@@ -1,5 +1,6 @@
 // The lent state as the rules' state: its view, what writing a state over it leaves, and the state test.
 #![tactic(auto)]
+
 ghost use Rattle.std.specs.Prelude.{◌≡◌, ◌&&◌, ℕ, ◌≤◌, ◌<◌, length};
 ghost use Rattle.state_rules.specs.Setups.{good_setup, good_shapes};
 ghost use Rattle.state_rules.specs.Places.{setup_size, state_size};

@@ -1,6 +1,7 @@
 // The rows of the lent state's table written in place: what produce changes, what a frame changes, a whole row, a row gone. Every
 // function here is given the row or the table's region; crate state_layout says what stands where.
 #![tactic(auto)]
+
 ghost use Rattle.std.specs.Prelude.{◌≡◌, ℕ, ◌+◌, ◌*◌, ◌/◌, ◌≤◌, ◌<◌, [], ◌∷◌, length};
 ghost use Rattle.std.proofs.lemmas.List.Edits.{sets};
 ghost use Rattle.base_cells.specs.Numbers.{le};

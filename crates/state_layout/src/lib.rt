@@ -1,5 +1,6 @@
 // Where the lent state's regions stand, and its shapes, ring and marks as code reads them (crates/state_rules says what they hold).
 #![tactic(auto)]
+
 ghost use Rattle.std.specs.Prelude.{◌≡◌, ◌*◌, ◌≤◌, ◌<◌, length};
 ghost use Rattle.base_cells.specs.Records.{to_bool};
 ghost use Rattle.rules.specs.State.{is_owner};

@@ -1,5 +1,6 @@
 // Where an assembly stands in the setup's list, by its kind and its instance.
 #![tactic(auto)]
+
 ghost use Rattle.std.specs.Prelude.{◌≡◌, ℕ, ◌≤◌, ◌<◌, length};
 ghost use Rattle.rules.specs.Lists.{place};
 ghost use Rattle.rules.specs.Checks.{is_at};

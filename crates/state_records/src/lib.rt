@@ -1,6 +1,7 @@
 // The record that tells the host of a connection, 32 bytes: for an event, or for the list of connections. It names the assemblies by
 // instance and size, which the setup's region has; the row of the connection has their places.
 #![tactic(auto)]
+
 ghost use Rattle.std.specs.Prelude.{◌≡◌, ℕ, ◌+◌, ◌≤◌, ◌<◌, [], ◌∷◌, length};
 ghost use Rattle.std.proofs.lemmas.List.Edits.{sets};
 ghost use Rattle.base_cells.specs.Records.{put_fields, of_bool};

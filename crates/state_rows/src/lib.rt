@@ -1,5 +1,6 @@
 // Rows of the lent state's table read whole: what a connection is, what was heard of it, what was sent (crates/state_rules/specs/Rows.antt).
 #![tactic(auto)]
+
 ghost use Rattle.std.specs.Prelude.{◌≡◌, ◌*◌, ◌≤◌, ◌<◌, length};
 ghost use Rattle.state_rules.specs.Places.{table_size, row_size};
 ghost use Rattle.state_rules.specs.Rows.{row_at, to_due, kind_in, output_in, multicast_in, input_in, any_in, anycip_in, dec_sent, dec_heard, dec_fixed};

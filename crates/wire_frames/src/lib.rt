@@ -1,6 +1,7 @@
 // The frame writer: an I/O frame of two items, the sequenced address item and the connected data item, whose bytes begin with
 // the 16-bit CIP sequence. What was written is read again by `wire_items` (proofs/RoundLaws.antt).
 #![tactic(auto)]
+
 ghost use Rattle.std.specs.Prelude.{◌≡◌, ◌≤◌, length};
 ghost use Rattle.base_cells.specs.Records.{put_fields};
 ghost use Rattle.wire_rules.specs.Writing.{frame_written, frame_appended, front_widths, front_values};

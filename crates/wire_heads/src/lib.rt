@@ -1,5 +1,6 @@
 // The head of every reply: the service with bit 7 set, the general status, and the words behind it (rule 5.22).
 #![tactic(auto)]
+
 ghost use Rattle.std.specs.Prelude.{◌≡◌, ◌≤◌, length};
 ghost use Rattle.base_cells.specs.Records.{put_fields};
 ghost use Rattle.base_cells.specs.Writes.{written};

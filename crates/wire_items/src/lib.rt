@@ -1,6 +1,7 @@
 // The items of a frame (rules 3.2 to 3.11): a 16-bit count, then kind, size, bytes; the last must end with the data. A list that
 // is not well formed has an offset: that of the first item or count that does not fit, or of the first spare byte after the last item.
 #![tactic(auto)]
+
 ghost use Rattle.std.specs.Prelude.{◌≡◌, ℕ, ◌+◌, ◌≤◌, ◌<◌, length};
 ghost use Rattle.base_cells.specs.Numbers.{le};
 ghost use Rattle.wire_rules.specs.Items.{start_of, step_at, items_from, items_of, whole_of};

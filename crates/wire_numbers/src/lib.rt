@@ -1,5 +1,6 @@
 // The numbers that an open carries and what they come to: the transport byte, a key's major revision, the timeout, the group address.
 #![tactic(auto)]
+
 ghost use Rattle.std.specs.Prelude.{◌≡◌, ◌*◌, ◌≤◌, min};
 ghost use Rattle.wire_rules.specs.Transport.{transport_class, direction_bit, transport_ok, compatible_bit, major_of};
 ghost use Rattle.wire_rules.specs.Timeout.{factor_of, timeout_of};

@@ -1,6 +1,7 @@
 // The Forward Open and Forward Close requests; `wire_numbers` has what their numbers come to. A large open has network parameters
 // of four bytes where a small one has two. Bytes after the path are ignored, and a close's path is not parsed here.
 #![tactic(auto)]
+
 ghost use Rattle.std.specs.Prelude.{◌≡◌, ◌+◌, ◌*◌, ◌≤◌, length};
 ghost use Rattle.base_cells.specs.Numbers.{le};
 ghost use Rattle.wire_rules.specs.Params.{net_of, small_params, large_params, params_at};

@@ -2,6 +2,7 @@
 // configuration data is a place in these bytes, never a copy. Bytes that are no path are answered with the offset of the
 // first segment that does not parse or runs past the end.
 #![tactic(auto)]
+
 ghost use Rattle.std.specs.Prelude.{◌≡◌, ◌/◌, []};
 ghost use Rattle.wire_rules.specs.ConnectionPath.{connection_path, path_of};
 ghost use Rattle.wire_paths.specs.Adding.{with_number, added};

@@ -1,5 +1,6 @@
 // The reader of a frame's items, over the cursor of `wire_items`: a struct that holds the frame and a place in it.
 #![tactic(auto)]
+
 ghost use Rattle.std.specs.Prelude.{◌≡◌};
 ghost use Rattle.wire_rules.specs.Items.{step_at};
 

@@ -1,6 +1,7 @@
 // What the adapter answers an open, a close and any message with. Each writer puts its bytes at the start of the lent
 // output and says how many they are; where they do not fit it writes nothing. Numbers are little-endian.
 #![tactic(auto)]
+
 ghost use Rattle.std.specs.Prelude.{◌≡◌, ◌+◌, ◌≤◌, [], ◌∷◌, length};
 ghost use Rattle.base_cells.specs.Records.{put_fields};
 ghost use Rattle.base_cells.specs.Writes.{written};

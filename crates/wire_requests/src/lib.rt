@@ -1,6 +1,7 @@
 // CIP requests: a service, a path that names an object and perhaps one of its attributes, then the service's data. A message
 // is lent bytes, at most 65,536 of them; the path is its bytes from 2 to datastart, and the data the rest.
 #![tactic(auto)]
+
 ghost use Rattle.std.specs.Prelude.{◌≡◌, ℕ, ◌+◌, ◌*◌, ◌≤◌, ◌<◌, length, get_or};
 ghost use Rattle.wire_rules.specs.Segments.{segs_of};
 ghost use Rattle.wire_rules.specs.Requests.{attribute_of, first_of, first_attribute, request_with, request_of};

@@ -1,6 +1,7 @@
 // What bytes on the wire say: the definitions of items, paths, requests, opens, closes and replies (docs/RULES.md, chapters 3 to 5), and the
 // types that code passes them in. This crate has types and definitions, no code; specs/ has one file for each.
 #![tactic(auto)]
+
 use base_ids::{OtId, ToId, Triad};
 
 // A place in a list and how many items are to come.

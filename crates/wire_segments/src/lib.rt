@@ -1,6 +1,7 @@
 // The segments of a padded EPATH. A path is lent bytes, at most 510 of them; a link or data is a place in these bytes, never a copy. Bytes that are
 // no segment are answered with their offset.
 #![tactic(auto)]
+
 ghost use Rattle.std.specs.Prelude.{◌≡◌, ◌+◌, ◌*◌, ◌/◌, ◌%◌, ◌≤◌, ◌<◌, length, get_or};
 ghost use Rattle.wire_rules.specs.Segments.{port_offset, link_offset, link_size, port_of, port_at, logical_at, key_of, key_at, data_at, seg_at, step_at};
 ghost use Rattle.wire_segments.specs.Logical.{named};

@@ -6,9 +6,9 @@ use Rattle.conn_ending.proofs.expire_all.Goals as goal
 
 pub returns-then-not-any_expired : goal.returns-then-not-any_expired
 returns-then-not-any_expired c = let a = c.args in (
-      fewer_none a.s.now c.requires,
-      none_expired a.time c.u16_at-n.result a.s.now c.u16_at-n.ensures (sym c.any_expired.ensures ∙ c.if-not-any_expired.true),
-    )
+  fewer_none a.s.now c.requires,
+  none_expired a.time c.u16_at-n.result a.s.now c.u16_at-n.ensures (sym c.any_expired.ensures ∙ c.if-not-any_expired.true),
+)
 
 pub returns : goal.returns
 returns c = c.expire_some.ensures

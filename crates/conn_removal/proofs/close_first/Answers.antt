@@ -13,17 +13,17 @@ fixed_at-f-requires c = let a = c.args in
 
 pub remove_row-requires : goal.remove_row-requires
 remove_row-requires c = let a = c.args in (
-      c.requires,
-      found_in (in_stream a.id) a.s.now c.u16_at-n.result c.find_stream.result c.u16_at-n.ensures c.find_stream.ensures
-          c.in-At.j c.in-At.is,
-    )
+  c.requires,
+  found_in (in_stream a.id) a.s.now c.u16_at-n.result c.find_stream.result c.u16_at-n.ensures c.find_stream.ensures
+      c.in-At.j c.in-At.is,
+)
 
 pub returns-in-Nowhere : goal.returns-in-Nowhere
 returns-in-Nowhere c = let a = c.args in (
-      dropped_none a.s.now c.requires,
-      closes_none a.id a.s.now c.u16_at-n.result c.find_stream.result c.u16_at-n.ensures
-          c.find_stream.ensures c.in-Nowhere.is,
-    )
+  dropped_none a.s.now c.requires,
+  closes_none a.id a.s.now c.u16_at-n.result c.find_stream.result c.u16_at-n.ensures
+      c.find_stream.ensures c.in-Nowhere.is,
+)
 
 pub returns-in-At : goal.returns-in-At
 returns-in-At c = let a = c.args in

@@ -14,14 +14,14 @@ u64_at-requires c = let e = c.requires.0.long in omega arith
 
 pub loop-i-init : goal.loop-i-init
 loop-i-init c = let a = c.args in (
-      omega arith,
-      omega arith,
-      omega arith,
-      omega arith,
-      c.u16_at-n.ensures,
-      (let e = c.requires.0.conns in let f = c.u16_at-n.ensures in omega arith),
-      tally_start a.time c.late_limit-limit.result (max_late_of a.s.now) a.s.now c.u64_at.result c.u64_at.ensures,
-    )
+  omega arith,
+  omega arith,
+  omega arith,
+  omega arith,
+  c.u16_at-n.ensures,
+  (let e = c.requires.0.conns in let f = c.u16_at-n.ensures in omega arith),
+  tally_start a.time c.late_limit-limit.result (max_late_of a.s.now) a.s.now c.u64_at.result c.u64_at.ensures,
+)
 
 pub count_row-k-requires : goal.count_row-k-requires
 count_row-k-requires c = let w = c.loop-i.invariant in

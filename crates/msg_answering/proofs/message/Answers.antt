@@ -21,11 +21,11 @@ of_object-given-requires c = let out = c.args.out.now in
 
 pub finish-requires-in-Parsed : goal.finish-requires-in-Parsed
 finish-requires-in-Parsed c = let s = c.args.s.now in (
-      search rules,
-      few _ c.args.out.now c.requires.2 _ _ _ _ (object_lent (view s) c.args.local c.args.mask c.in-Parsed.request c.args.message.now (dec_upload c.args.position.now) _ _ c.of_object-given.ensures)
-          (reply_short (view s) c.args.local c.args.mask c.args.message.now (dec_upload c.args.position.now) _ (sym c.parse_request.ensures ∙ c.in-Parsed.is)
-          (sized_tested s c.requires.0.test (λ j. omega (arith, c.shared_slice_known-1.given j))) (position_ok_lem (view s).setup c.args.position.now c.requires.1)),
-    )
+  search rules,
+  few _ c.args.out.now c.requires.2 _ _ _ _ (object_lent (view s) c.args.local c.args.mask c.in-Parsed.request c.args.message.now (dec_upload c.args.position.now) _ _ c.of_object-given.ensures)
+      (reply_short (view s) c.args.local c.args.mask c.args.message.now (dec_upload c.args.position.now) _ (sym c.parse_request.ensures ∙ c.in-Parsed.is)
+      (sized_tested s c.requires.0.test (λ j. omega (arith, c.shared_slice_known-1.given j))) (position_ok_lem (view s).setup c.args.position.now c.requires.1)),
+)
 
 pub returns-in-Unparsed : goal.returns-in-Unparsed
 returns-in-Unparsed c = let s = c.args.s.now in
@@ -37,8 +37,8 @@ returns-in-Unparsed c = let s = c.args.s.now in
 
 pub returns-in-Parsed : goal.returns-in-Parsed
 returns-in-Parsed c = let s = c.args.s.now in (
-      reply_for_lem (view s) c.args.local c.args.mask c.args.message.now (dec_upload c.args.position.now) _ (sym c.parse_request.ensures ∙ c.in-Parsed.is) c.args.out.now _
-          (reply_done _ c.args.out.now c.requires.2 _ _ _ _ _ _
-          (object_lent (view s) c.args.local c.args.mask c.in-Parsed.request c.args.message.now (dec_upload c.args.position.now) _ _ c.of_object-given.ensures) c.finish-in-Parsed.ensures.0),
-      c.finish-in-Parsed.ensures.1,
-    )
+  reply_for_lem (view s) c.args.local c.args.mask c.args.message.now (dec_upload c.args.position.now) _ (sym c.parse_request.ensures ∙ c.in-Parsed.is) c.args.out.now _
+      (reply_done _ c.args.out.now c.requires.2 _ _ _ _ _ _
+      (object_lent (view s) c.args.local c.args.mask c.in-Parsed.request c.args.message.now (dec_upload c.args.position.now) _ _ c.of_object-given.ensures) c.finish-in-Parsed.ensures.0),
+  c.finish-in-Parsed.ensures.1,
+)

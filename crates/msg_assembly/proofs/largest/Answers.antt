@@ -13,10 +13,10 @@ instance_at-requires c = let e = c.u8_at-n.ensures in let p = c.requires in (ome
 
 pub loop-i-preserved : goal.loop-i-preserved
 loop-i-preserved c = let a = c.args in let w = c.loop-i in let e = c.u8_at-n.ensures in (
-      omega arith,
-      ap (λ (m : ℕ). max m (largest_instance (drop (w.i + 1) (shapes_of a.r.now)))) c.greater-most.ensures
-          ∙ largest_on (assemblies_of a.r.now) a.r.now w.i w.most (omega arith) _ c.instance_at.ensures ∙ w.invariant.1,
-    )
+  omega arith,
+  ap (λ (m : ℕ). max m (largest_instance (drop (w.i + 1) (shapes_of a.r.now)))) c.greater-most.ensures
+      ∙ largest_on (assemblies_of a.r.now) a.r.now w.i w.most (omega arith) _ c.instance_at.ensures ∙ w.invariant.1,
+)
 
 pub returns : goal.returns
 returns c = let a = c.args in let w = c.loop-i in let e = c.u8_at-n.ensures in largest_ends (assemblies_of a.r.now) a.r.now w.i w.most (omega arith) ∙ w.invariant.1

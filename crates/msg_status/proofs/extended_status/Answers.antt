@@ -11,14 +11,14 @@ returns-then-u16_at-eq0 c = (status_none c.args.s.now c.faulty.result c.faulty.e
 
 pub returns-then-is_running : goal.returns-then-is_running
 returns-then-is_running c = (
-      status_run c.args.s.now c.faulty.result c.faulty.ensures c.if-faulty.false
-          (λ e. c.if-u16_at-eq0.false (c.u16_at.ensures ∙ e)) _ c.is_running.ensures c.if-is_running.true,
-      omega arith,
-    )
+  status_run c.args.s.now c.faulty.result c.faulty.ensures c.if-faulty.false
+      (λ e. c.if-u16_at-eq0.false (c.u16_at.ensures ∙ e)) _ c.is_running.ensures c.if-is_running.true,
+  omega arith,
+)
 
 pub returns : goal.returns
 returns c = (
-      status_idle c.args.s.now c.faulty.result c.faulty.ensures c.if-faulty.false
-          (λ e. c.if-u16_at-eq0.false (c.u16_at.ensures ∙ e)) _ c.is_running.ensures c.if-is_running.false,
-      omega arith,
-    )
+  status_idle c.args.s.now c.faulty.result c.faulty.ensures c.if-faulty.false
+      (λ e. c.if-u16_at-eq0.false (c.u16_at.ensures ∙ e)) _ c.is_running.ensures c.if-is_running.false,
+  omega arith,
+)

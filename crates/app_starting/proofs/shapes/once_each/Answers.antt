@@ -19,10 +19,10 @@ returns-then-again c = let a = c.args in let w = c.loop-i in
 
 pub loop-i-preserved : goal.loop-i-preserved
 loop-i-preserved c = let a = c.args in let w = c.loop-i in (
-      omega arith,
-      w.invariant.1 ∙ once_on a.n a.r.now w.i c.loop-i-test.true
-          (ap (λ (x : ℕ). any (eqb x) (drop (w.i + 1) (instances_in a.n a.r.now))) (sym c.instance_at.ensures) ∙ sym c.again.ensures ∙ c.if-again.false),
-    )
+  omega arith,
+  w.invariant.1 ∙ once_on a.n a.r.now w.i c.loop-i-test.true
+      (ap (λ (x : ℕ). any (eqb x) (drop (w.i + 1) (instances_in a.n a.r.now))) (sym c.instance_at.ensures) ∙ sym c.again.ensures ∙ c.if-again.false),
+)
 
 pub returns : goal.returns
 returns c = let a = c.args in let w = c.loop-i in sym (w.invariant.1 ∙ once_ends a.n a.r.now w.i c.loop-i-test.false)

@@ -13,10 +13,10 @@ u32_at-n-requires c = let n = (ready_tested c.args.s.now c.requires.0).long in o
 
 pub new_conn-c-requires : goal.new_conn-c-requires
 new_conn-c-requires c = let a = c.args in (
-      c.requires.1,
-      side_here a.time a.o a.g a.config.now a.p a.s.now a.out.now c.requires.0 (λ i. omega (arith, c.slice_known-1.given i)) c.u32_at-n.result c.after_id.result c.u32_at-n.ensures
-          c.after_id.ensures c.side_of-side.result c.side_of-side.ensures,
-    )
+  c.requires.1,
+  side_here a.time a.o a.g a.config.now a.p a.s.now a.out.now c.requires.0 (λ i. omega (arith, c.slice_known-1.given i)) c.u32_at-n.result c.after_id.result c.u32_at-n.ensures
+      c.after_id.ensures c.side_of-side.result c.side_of-side.ensures,
+)
 
 pub effect-requires : goal.effect-requires
 effect-requires c = let a = c.args in
