@@ -1,5 +1,6 @@
 // The limits of the rules that concern the wire, run and compared: stdin is the table of inputs, each line of stdout one input and its answer.
 #![tactic(auto)]
+
 ghost use Rattle.std.specs.Prelude.{◌≤◌, IfOk, length};
 
 mod cases;
