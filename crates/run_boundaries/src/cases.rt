@@ -1,6 +1,7 @@
 // The table of cases, a line each: what is read (its first letter), how many bytes, those that they begin with in hexadecimal (zeros
 // follow), and the name that the report has for them.
 use crate::{cuts, frames, opens};
+use std::io;
 
 // The number that a column has, in digits that may be hexadecimal; a blank is passed over.
 fn number(column: &[u8], hex: bool) -> usize {
@@ -39,37 +40,37 @@ fn put_bytes(input: &mut [u8], column: &[u8]) {
     }
 }
 
-fn answer(kind: u8, name: &[u8], input: &[u8]) {
+fn answer(rt: &impl Print, kind: u8, name: &[u8], input: &[u8]) -> io::Result<()> {
     match kind {
-        b's' => opens::say_open(name, input, false),
-        b'l' => opens::say_open(name, input, true),
-        b'c' => opens::say_close_or_path(name, input, false),
-        b'p' => opens::say_close_or_path(name, input, true),
-        b'd' => frames::say_data(name, input),
-        b'i' => frames::say_items(name, input),
-        b'e' => cuts::say_cuts(name, input),
-        b't' => opens::say_timeout(name, input),
-        _ => {}
+        b's' => opens::say_open(rt, name, input, false),
+        b'l' => opens::say_open(rt, name, input, true),
+        b'c' => opens::say_close_or_path(rt, name, input, false),
+        b'p' => opens::say_close_or_path(rt, name, input, true),
+        b'd' => frames::say_data(rt, name, input),
+        b'i' => frames::say_items(rt, name, input),
+        b'e' => cuts::say_cuts(rt, name, input),
+        b't' => opens::say_timeout(rt, name, input),
+        _ => Ok(()),
     }
 }
 
-fn say_case(line: &[u8], room: &mut [u8]) {
+fn say_case(rt: &impl Print, line: &[u8], room: &mut [u8]) -> io::Result<()> {
     let start: usize = 0;
     if line.len() < 48 {
-        return;
+        return Ok(());
     }
     put_bytes(room, &line[17..47]);
     let n = number(&line[8..16], false);
     if n <= room.len() {
-        answer(line[0], &line[48..], &room[start..n]);
+        answer(rt, line[0], &line[48..], &room[start..n])?;
     }
+    Ok(())
 }
 
-pub fn say_all(table: &[u8], room: &mut [u8]) {
-    let mut at: usize = 0;
-    while at < table.len() {
-        let end = bytes::scan::find(table, at, table.len(), b'\n');
-        say_case(&table[at..end], room);
-        at = end + 1;
+// A line of the table is a case; what is too short for one, as behind the last line, is passed over.
+pub fn say_all(rt: &impl Print, table: &[u8], room: &mut [u8]) -> io::Result<()> {
+    for line in table.split(|c| *c == b'\n') {
+        say_case(rt, line, room)?;
     }
+    Ok(())
 }

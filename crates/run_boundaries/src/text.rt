@@ -1,17 +1,17 @@
 // A line of the report: what went in, and what came out.
-use libc::STDOUT_FILENO;
+use std::io;
 
-pub fn words(s: &[u8]) {
-    io::write_all(STDOUT_FILENO, s);
+pub fn words(rt: &impl Print, s: &[u8]) -> io::Result<()> {
+    rt.write_all(s)
 }
 
-pub fn number(before: &[u8], n: usize) {
-    words(before);
-    io::print_decimal(STDOUT_FILENO, n as u64);
+pub fn number(rt: &impl Print, before: &[u8], n: usize) -> io::Result<()> {
+    words(rt, before)?;
+    print!(rt; "{n}")
 }
 
-pub fn input(name: &[u8], n: usize) {
-    words(name);
-    number(b" of ", n);
-    words(b" bytes: ");
+pub fn input(rt: &impl Print, name: &[u8], n: usize) -> io::Result<()> {
+    words(rt, name)?;
+    number(rt, b" of ", n)?;
+    words(rt, b" bytes: ")
 }

@@ -5,6 +5,7 @@ use adapter::conn_calls::threshtide_expire;
 use adapter::io_calls::{threshtide_produce, threshtide_receive};
 use adapter::msg_calls::threshtide_message;
 use adapter::open_calls::threshtide_open;
+use std::io;
 
 // Connection serial by its number, RPI 10,000 both ways; the path is class 4, point 238 (input-only), point 100.
 fn open(serial: u8, time: u64, state: &mut [u8], out: &mut [u8]) -> u64 {
@@ -61,6 +62,7 @@ fn call_in(
 
 // The call with so much room, its answer, and whether a byte of the state changed; of a message and a packet the next lines tell more.
 pub fn say(
+    rt: &impl Print,
     letter: u8,
     name: &[u8],
     a: u64,
@@ -69,43 +71,43 @@ pub fn say(
     block: &[u8; 192],
     state: &mut [u8; 109056],
     out: &mut [u8; 1184],
-) {
+) -> io::Result<()> {
     let before = *state;
     let answer = call_in(letter, a, b, room, block, state, out);
     if name.len() < 2 {
-        return;
+        return Ok(());
     }
-    text::line(name, answer);
+    text::line(rt, name, answer)?;
     if letter == b'm' {
-        return;
+        return Ok(());
     }
     if letter == b's' {
-        text::words(b"\n");
-    } else if check::same(&before, state) {
-        text::words(b"; no byte of the state changed\n");
+        text::words(rt, b"\n")
+    } else if before == *state {
+        text::words(rt, b"; no byte of the state changed\n")
     } else {
-        text::words(b"; the state changed\n");
+        text::words(rt, b"; the state changed\n")
     }
 }
 
 // Whether the reply is this text as rules 13.18 and 13.19 have it: the reply's head, the language tag, a length byte, the text.
-pub fn say_wanted(wanted: &[u8], out: &[u8]) {
+pub fn say_wanted(rt: &impl Print, wanted: &[u8], out: &[u8]) -> io::Result<()> {
     let mut reply = [0u8; 64];
     let start: usize = 0;
     let n = wanted.len();
     if n > 50 {
-        return;
+        return Ok(());
     }
     if out.len() < 64 {
-        return;
+        return Ok(());
     }
     let end = n + 12;
     base_copies::copy_in(&mut reply, 0, b"\x8E\x00\x00\x00\x01eng\xDA\x04\x00");
     base_cells::put_u8(&mut reply, 11, n as u8);
     base_copies::copy_in(&mut reply, 12, wanted);
-    if check::same(&out[start..end], &reply[start..end]) {
-        text::words(b"; as wanted, byte by byte\n");
+    if out[start..end] == reply[start..end] {
+        text::words(rt, b"; as wanted, byte by byte\n")
     } else {
-        text::words(b"; NOT AS WANTED\n");
+        text::words(rt, b"; NOT AS WANTED\n")
     }
 }

@@ -1,12 +1,33 @@
 // The ends of what is counted: the table's last row, the last id, the last sequence, the last time, the last byte of room; and the fixed
 // texts. stdin is the table of calls, each line of stdout one call and what it gave.
 #![tactic(auto)]
+
+ghost use Rattle.std.specs.Prelude.{◌≤◌, IfOk, length};
+
 mod calls;
 mod cases;
 mod text;
 
-fn main() {
-    let mut table = io::large_buffer();
-    let n = io::read_full(libc::STDIN_FILENO, &mut table);
-    cases::say_all(&table[..n]);
+use std::io;
+use std::io::Read;
+
+// Reads until the buffer is full or the input ends, and says how many bytes that were.
+fn read_full(input: &mut impl Read, buf: &mut [u8]) -> io::Result<usize>
+    ensures { IfOk result (λ n. n ≤ length buf.new) }
+{
+    let mut done: usize = 0;
+    while done < buf.len() {
+        let n = input.read(&mut buf[done..])?;
+        if n == 0 {
+            return Ok(done);
+        }
+        done += n;
+    }
+    Ok(done)
+}
+
+fn main(rt: HostRuntime) -> io::Result<()> {
+    let mut table = [0u8; 65536];
+    let n = read_full(&mut rt.reader(), &mut table)?;
+    cases::say_all(&rt, &table[..n])
 }

@@ -1,27 +1,29 @@
 // Lines on standard output.
-use libc::STDOUT_FILENO;
+use std::io;
 
-pub fn words(s: &[u8]) {
-    io::write_all(STDOUT_FILENO, s);
+pub fn words(rt: &impl Print, s: &[u8]) -> io::Result<()> {
+    rt.write_all(s)
 }
 
-pub fn hex(before: &[u8], n: u64, width: usize) {
-    words(before);
-    words(b"0x");
-    io::print_hex(STDOUT_FILENO, n, width);
+pub fn number(rt: &impl Print, before: &[u8], n: u64) -> io::Result<()> {
+    words(rt, before)?;
+    print!(rt; "{n}")
+}
+
+pub fn hex(rt: &impl Print, before: &[u8], n: u64, width: usize) -> io::Result<()> {
+    words(rt, before)?;
+    print!(rt; "0x{n:0width$x}")
 }
 
 // A yes with what it counts, or the number for no, and the word that refuses an open.
-pub fn line(name: &[u8], answer: u64) {
-    words(name);
+pub fn line(rt: &impl Print, name: &[u8], answer: u64) -> io::Result<()> {
+    words(rt, name)?;
     if answer % 256 == 0 {
-        words(b": yes, ");
-        io::print_decimal(STDOUT_FILENO, answer / 256);
-        return;
+        return number(rt, b": yes, ", answer / 256);
     }
-    words(b": No. ");
-    io::print_decimal(STDOUT_FILENO, answer % 256);
+    number(rt, b": No. ", answer % 256)?;
     if answer % 256 == 5 {
-        hex(b" with the word ", answer / 4294967296 % 65536, 4);
+        hex(rt, b" with the word ", answer / 4294967296 % 65536, 4)?;
     }
+    Ok(())
 }

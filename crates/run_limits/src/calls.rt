@@ -9,6 +9,7 @@ use adapter::app_calls::{
 };
 use adapter::conn_calls::{threshtide_close, threshtide_expire};
 use adapter::io_calls::{threshtide_next_deadline, threshtide_receive};
+use std::io;
 
 pub const PEER: u32 = 0x0A000001;
 
@@ -94,16 +95,23 @@ fn step_in(letter: u8, n: [u64; 4], state: &mut [u8], out: &mut [u8]) -> u64 {
 }
 
 // A call with so much room for its output, its answer, and for a no whether all that was lent stayed as it was.
-pub fn say(letter: u8, name: &[u8], n: [u64; 4], state: &mut [u8; 109057], out: &mut [u8; 1024]) {
+pub fn say(
+    rt: &impl Print,
+    letter: u8,
+    name: &[u8],
+    n: [u64; 4],
+    state: &mut [u8; 109057],
+    out: &mut [u8; 1024],
+) -> io::Result<()> {
     let instance = out[4];
     let before = *state;
     let blank = [FILL; 1024];
     *out = blank;
     let r = step_in(letter, n, state, out);
-    let kept = check::same(&before, state) && check::same(&blank, out);
+    let kept = before == *state && blank == *out;
     match letter {
-        b'w' => text::waiting(name, r),
-        b'f' => text::oldest(name, instance, r),
-        _ => text::line(name, r, letter != b'h', kept),
+        b'w' => text::waiting(rt, name, r),
+        b'f' => text::oldest(rt, name, instance, r),
+        _ => text::line(rt, name, r, letter != b'h', kept),
     }
 }

@@ -1,6 +1,9 @@
 // The limits of the rules that concern the calls, run and compared: stdin is the table of calls, each line of stdout one call and its
 // answer.
 #![tactic(auto)]
+
+ghost use Rattle.std.specs.Prelude.{◌≤◌, IfOk, length};
+
 mod calls;
 mod cases;
 mod chance;
@@ -9,8 +12,26 @@ mod setups;
 mod tally;
 mod text;
 
-fn main() {
-    let mut table = io::large_buffer();
-    let n = io::read_full(libc::STDIN_FILENO, &mut table);
-    cases::say_all(&table[..n]);
+use std::io;
+use std::io::Read;
+
+// Reads until the buffer is full or the input ends, and says how many bytes that were.
+fn read_full(input: &mut impl Read, buf: &mut [u8]) -> io::Result<usize>
+    ensures { IfOk result (λ n. n ≤ length buf.new) }
+{
+    let mut done: usize = 0;
+    while done < buf.len() {
+        let n = input.read(&mut buf[done..])?;
+        if n == 0 {
+            return Ok(done);
+        }
+        done += n;
+    }
+    Ok(done)
+}
+
+fn main(rt: HostRuntime) -> io::Result<()> {
+    let mut table = [0u8; 65536];
+    let n = read_full(&mut rt.reader(), &mut table)?;
+    cases::say_all(&rt, &table[..n])
 }

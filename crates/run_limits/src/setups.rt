@@ -1,6 +1,7 @@
 // Setup: a good block, bytes of it changed, and the lengths of what is lent.
 use crate::text;
 use adapter::app_setup::threshtide_setup;
+use std::io;
 
 // What is lent is full of this before a call, so that a byte written shows.
 pub const FILL: u8 = 170;
@@ -49,11 +50,19 @@ fn setup(state: &mut [u8], n: usize, block: &[u8], m: usize, eds: &[u8], k: usiz
 }
 
 // A setup with so many bytes of state, block and EDS. The next begins with a good block again.
-pub fn begin(name: &[u8], n: u64, m: u64, k: u64, state: &mut [u8; 109057], block: &mut [u8; 193]) {
+pub fn begin(
+    rt: &impl Print,
+    name: &[u8],
+    n: u64,
+    m: u64,
+    k: u64,
+    state: &mut [u8; 109057],
+    block: &mut [u8; 193],
+) -> io::Result<()> {
     let eds = [1u8; 65536];
     let before = [FILL; 109057];
     *state = before;
     let r = setup(state, n as usize, block, m as usize, &eds, k as usize);
-    text::line(name, r, true, check::same(&before, state));
     good_block(block);
+    text::line(rt, name, r, true, before == *state)
 }

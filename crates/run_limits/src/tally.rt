@@ -1,5 +1,6 @@
 // Ten calls on one state: what each answers, and whether the state passes its test after it.
 use crate::{calls, chance, text};
+use std::io;
 
 // How many calls were made, how many answered 1, how many a number of their row in docs/INTERFACE.md, and how many left a state that
 // passes the test.
@@ -97,11 +98,19 @@ fn count_states(many: u64, seed: u32, good: bool, state: &mut [u8]) -> Tally {
     t
 }
 
-pub fn say(name: &[u8], n: u64, many: u64, seed: u64, good: u64, state: &mut [u8]) {
+pub fn say(
+    rt: &impl Print,
+    name: &[u8],
+    n: u64,
+    many: u64,
+    seed: u64,
+    good: u64,
+    state: &mut [u8],
+) -> io::Result<()> {
     let start: usize = 0;
     let end = n as usize;
     if state.len() < end {
-        return;
+        return Ok(());
     }
     let t = count_states(
         many,
@@ -109,10 +118,10 @@ pub fn say(name: &[u8], n: u64, many: u64, seed: u64, good: u64, state: &mut [u8
         good > 0,
         &mut state[start..end],
     );
-    text::words(name);
-    text::number(b", ", t.calls);
-    text::number(b" calls: ", t.ones);
-    text::number(b" answers of 1, ", t.known);
-    text::number(b" other numbers of theirs, ", t.passed);
-    text::words(b" times the state passed its test\n");
+    text::words(rt, name)?;
+    text::number(rt, b", ", t.calls)?;
+    text::number(rt, b" calls: ", t.ones)?;
+    text::number(rt, b" answers of 1, ", t.known)?;
+    text::number(rt, b" other numbers of theirs, ", t.passed)?;
+    text::words(rt, b" times the state passed its test\n")
 }

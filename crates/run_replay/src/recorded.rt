@@ -2,6 +2,8 @@
 ghost use Rattle.std.specs.Prelude.{◌≤◌, length};
 
 use crate::{calls, text};
+use std::io;
+use std::io::Read;
 
 #[derive(Clone, Copy)]
 enum Step {
@@ -30,22 +32,31 @@ fn first_difference(out: &[u8], written: &[u8]) -> usize {
     i
 }
 
-fn tell_difference(call: u8, found: u64, recorded: u64, out: &[u8], written: &[u8], at: usize) {
-    text::words(b"DIFFERENT: ");
-    text::name(call);
-    text::hex(b" answered ", found);
-    text::hex(b", recorded ", recorded);
+fn tell_difference(
+    rt: &impl Print,
+    call: u8,
+    found: u64,
+    recorded: u64,
+    out: &[u8],
+    written: &[u8],
+    at: usize,
+) -> io::Result<()> {
+    text::words(rt, b"DIFFERENT: ")?;
+    text::name(rt, call)?;
+    text::hex(rt, b" answered ", found)?;
+    text::hex(rt, b", recorded ", recorded)?;
     if at < out.len() {
-        text::number(b"; output byte ", at, b"");
-        text::hex(b" is ", base_cells::u8_at(out, at) as u64);
-        text::hex(b", recorded ", recorded_byte(written, at) as u64);
+        text::number(rt, b"; output byte ", at, b"")?;
+        text::hex(rt, b" is ", base_cells::u8_at(out, at) as u64)?;
+        text::hex(rt, b", recorded ", recorded_byte(written, at) as u64)
     } else {
-        text::words(b"; output as recorded");
+        text::words(rt, b"; output as recorded")
     }
 }
 
 // One call, into the lent output; true where its answer and every byte of the output are as recorded.
 fn replay_call(
+    rt: &impl Print,
     head: &[u8],
     bytes: &[u8],
     eds: &[u8],
@@ -53,7 +64,7 @@ fn replay_call(
     state: &mut [u8],
     uploads: &mut [u8],
     out: &mut [u8],
-) -> bool
+) -> io::Result<bool>
     requires { 56 ≤ length head.now }
 {
     let found = calls::call(head, bytes, eds, state, uploads, out);
@@ -61,15 +72,21 @@ fn replay_call(
     let at = first_difference(out, written);
     if found == recorded {
         if at == out.len() {
-            return true;
+            return Ok(true);
         }
     }
-    tell_difference(head[0], found, recorded, out, written, at);
-    false
+    tell_difference(rt, head[0], found, recorded, out, written, at)?;
+    Ok(false)
 }
 
 // The record that begins the bytes, as far as its numbers say.
-fn replay_record(part: &[u8], state: &mut [u8], uploads: &mut [u8], lent: &mut [u8]) -> bool
+fn replay_record(
+    rt: &impl Print,
+    part: &[u8],
+    state: &mut [u8],
+    uploads: &mut [u8],
+    lent: &mut [u8],
+) -> io::Result<bool>
     requires { 56 ≤ length part.now }
 {
     let bytes = 56 + base_cells::u32_at(part, 32) as usize;
@@ -78,12 +95,13 @@ fn replay_record(part: &[u8], state: &mut [u8], uploads: &mut [u8], lent: &mut [
     let end = eds + base_cells::u32_at(part, 44) as usize;
     let start: usize = 0;
     if part.len() < end {
-        return false;
+        return Ok(false);
     }
     if lent.len() < room {
-        return false;
+        return Ok(false);
     }
     replay_call(
+        rt,
         part,
         &part[56..bytes],
         &part[bytes..eds],
@@ -118,86 +136,105 @@ fn record_length(part: &[u8]) -> usize
         + written as usize
 }
 
+// Reads until the buffer is full, the file ends or a read fails, and says how many bytes that were.
+fn read_full(file: &mut impl Read, buf: &mut [u8]) -> usize
+    ensures { result ≤ length buf.new }
+{
+    let mut done: usize = 0;
+    while done < buf.len() {
+        let n = file.read(&mut buf[done..]).unwrap_or(0);
+        if n == 0 {
+            return done;
+        }
+        done += n;
+    }
+    done
+}
+
+// Says why the file breaks off.
+fn broken_off(rt: &impl Print, why: &[u8]) -> io::Result<Step> {
+    text::words(rt, b"BROKEN OFF: ")?;
+    text::words(rt, why)?;
+    Ok(Step::Stop)
+}
+
 // The next record of the file, with its length; or why there is none.
-fn read_record(fd: i32, part: &mut [u8]) -> Step
+fn read_record(rt: &impl Print, file: &mut impl Read, part: &mut [u8]) -> io::Result<Step>
     requires { 56 ≤ length part.old }
 {
     let start: usize = 0;
-    let n = io::read_full(fd, &mut part[start..56]);
+    let n = read_full(file, &mut part[start..56]);
     if n == 0 {
-        return Step::End;
+        return Ok(Step::End);
     }
     if n < 56 {
-        text::words(b"BROKEN OFF: the numbers of a call are cut");
-        return Step::Stop;
+        return broken_off(rt, b"the numbers of a call are cut");
     }
     let end = record_length(part);
     if end < 56 {
-        text::words(b"BROKEN OFF: no call has such numbers");
-        return Step::Stop;
+        return broken_off(rt, b"no call has such numbers");
     }
     if part.len() < end {
-        text::words(b"BROKEN OFF: a call has more bytes than any may have");
-        return Step::Stop;
+        return broken_off(rt, b"a call has more bytes than any may have");
     }
-    if io::read_full(fd, &mut part[56..end]) != end - 56 {
-        text::words(b"BROKEN OFF: the bytes of a call are cut");
-        return Step::Stop;
+    if read_full(file, &mut part[56..end]) != end - 56 {
+        return broken_off(rt, b"the bytes of a call are cut");
     }
-    Step::Call(end)
+    Ok(Step::Call(end))
 }
 
 // The same as replay_record on arrays, whose lengths are known.
 fn turn(
+    rt: &impl Print,
     part: &[u8; 65536],
     state: &mut [u8; 109056],
     uploads: &mut [u8; 32],
     lent: &mut [u8; 17440],
-) -> bool {
+) -> io::Result<bool> {
     *lent = [LENT; 17440];
-    replay_record(part, state, uploads, lent)
+    replay_record(rt, part, state, uploads, lent)
 }
 
 // Replays the record, if there is one.
 fn next(
-    fd: i32,
+    rt: &impl Print,
+    file: &mut impl Read,
     part: &mut [u8; 65536],
     state: &mut [u8; 109056],
     uploads: &mut [u8; 32],
     lent: &mut [u8; 17440],
-) -> Step {
-    let step = read_record(fd, part);
+) -> io::Result<Step> {
+    let step = read_record(rt, file, part)?;
     match step {
         Step::Call(length) => {
-            if turn(part, state, uploads, lent) {
-                Step::Call(length)
+            if turn(rt, part, state, uploads, lent)? {
+                Ok(Step::Call(length))
             } else {
-                Step::Stop
+                Ok(Step::Stop)
             }
         }
-        Step::End => Step::End,
-        Step::Stop => Step::Stop,
+        Step::End => Ok(Step::End),
+        Step::Stop => Ok(Step::Stop),
     }
 }
 
-fn tell_end(n: usize, counts: &[usize; 19]) {
+fn tell_end(rt: &impl Print, n: usize, counts: &[usize; 19]) -> io::Result<()> {
     if n == 0 {
-        text::words(b"NO CALL: the file is empty, or cannot be read\n");
-        return;
+        return text::words(rt, b"NO CALL: the file is empty, or cannot be read\n");
     }
     let mut k: u8 = 1;
     while k < 19 {
-        text::words(b"  ");
-        text::name(k);
-        text::number(b" ", counts[k as usize], b"\n");
+        text::words(rt, b"  ")?;
+        text::name(rt, k)?;
+        text::number(rt, b" ", counts[k as usize], b"\n")?;
         k += 1;
     }
-    text::number(b"", n, b" calls replayed, all as recorded\n");
+    text::number(rt, b"", n, b" calls replayed, all as recorded\n")
 }
 
 // All records of a file, as far as each goes as recorded; at most a million.
-pub fn replay_all(fd: i32) {
-    let mut part = io::large_buffer();
+pub fn replay_all(rt: &impl Print, file: &mut impl Read) -> io::Result<()> {
+    let mut part = [0u8; 65536];
     let mut state = [0u8; 109056];
     let mut uploads = [0u8; 32];
     let mut lent = [0u8; 17440];
@@ -205,22 +242,19 @@ pub fn replay_all(fd: i32) {
     let mut at: usize = 0;
     let mut n: usize = 0;
     while n < 1000000 {
-        match next(fd, &mut part, &mut state, &mut uploads, &mut lent) {
+        match next(rt, file, &mut part, &mut state, &mut uploads, &mut lent)? {
             Step::Call(length) => {
                 let k = (part[0] % 19) as usize;
                 counts[k] = std::num::wrapping_add_usize(counts[k], 1);
                 at = std::num::wrapping_add_usize(at, length);
             }
-            Step::End => {
-                tell_end(n, &counts);
-                return;
-            }
+            Step::End => return tell_end(rt, n, &counts),
             Step::Stop => {
-                text::number(b"; call ", n + 1, b" of the file, at byte ");
-                text::number(b"", at, b"\n");
-                return;
+                text::number(rt, b"; call ", n + 1, b" of the file, at byte ")?;
+                return text::number(rt, b"", at, b"\n");
             }
         }
         n += 1;
     }
+    Ok(())
 }

@@ -1,29 +1,30 @@
 // Words and numbers on standard output.
-use libc::STDOUT_FILENO;
+use std::io;
 
-pub fn words(s: &[u8]) {
-    io::write_all(STDOUT_FILENO, s);
+pub fn words(rt: &impl Print, s: &[u8]) -> io::Result<()> {
+    rt.write_all(s)
 }
 
-pub fn number(before: &[u8], n: usize, after: &[u8]) {
-    words(before);
-    io::print_decimal(STDOUT_FILENO, n as u64);
-    words(after);
+pub fn number(rt: &impl Print, before: &[u8], n: usize, after: &[u8]) -> io::Result<()> {
+    words(rt, before)?;
+    print!(rt; "{n}")?;
+    words(rt, after)
 }
 
-pub fn hex(before: &[u8], n: u64) {
-    words(before);
-    words(b"0x");
-    io::print_hex(STDOUT_FILENO, n, 2);
+pub fn hex(rt: &impl Print, before: &[u8], n: u64) -> io::Result<()> {
+    words(rt, before)?;
+    print!(rt; "0x{n:02x}")
 }
 
 // The name of a call, by its number in a record: the word that begins at so many times 14 bytes.
-pub fn name(call: u8) {
+pub fn name(rt: &impl Print, call: u8) -> io::Result<()> {
     let names: &[u8] =
         b"none          setup         set_input     output        assembly      open          open_refusal  close         receive       produce       expire        next_deadline next_event    connections   stats         message       path          request       new_session   ";
     let at = 14 * (call as usize);
-    if at <= names.len() {
-        let end = bytes::scan::find(names, at, names.len(), b' ');
-        words(&names[at..end]);
+    if at > names.len() {
+        return Ok(());
     }
+    let word = &names[at..];
+    let end = word.iter().position(|c| *c == b' ').unwrap_or(word.len());
+    words(rt, &word[..end])
 }

@@ -1,107 +1,136 @@
 // Shows what bytes of the wire say, or where they break: words and files in pairs, as `show frame FILE open FILE`.
 #![tactic(auto)]
+
+ghost use Rattle.std.specs.Prelude.{◌≤◌, IfOk, length};
+
 mod frames;
 mod opens;
 mod paths;
 mod text;
 
-use libc::STDERR_FILENO;
+use std::env::FillError;
+use std::io::{ErrorKind, Read};
+use std::process::ExitCode;
+use std::rt::{Env, Files};
+use std::{fs, io, str};
 
 // One byte more than the greatest frame or message (chapter 1 of the rules), so that a file over size is seen to be.
 const ROOM: usize = 65537;
 
-fn usage() {
-    io::write_all(
-        STDERR_FILENO,
-        b"usage: show WORD FILE [WORD FILE ..]\n
+// What became of a word and its file.
+#[derive(Clone, Copy)]
+enum Pair {
+    Said,
+    Unread,
+    Unknown,
+}
+
+fn usage(rt: &impl Eprint) -> io::Result<()> {
+    rt.eprint(
+        "usage: show WORD FILE [WORD FILE ..]\n
   frame FILE     an I/O frame, as it stands in a UDP packet
   open FILE      the service data of a Forward Open (0x54)
   large FILE     the service data of a Large Forward Open (0x5B)
   close FILE     the service data of a Forward Close (0x4E)
   path FILE      a padded path
   request FILE   an explicit message: service, path, data\n",
-    );
+    )
 }
 
 // What the bytes say as the word asks; false where there is no such word.
-fn say_as(word: &[u8], bytes: &[u8]) -> bool {
-    if check::same(word, b"frame") {
-        frames::say_frame(bytes);
-        return true;
+fn say_as(rt: &impl Print, word: &[u8], bytes: &[u8]) -> io::Result<bool> {
+    match word {
+        b"frame" => frames::say_frame(rt, bytes)?,
+        b"open" => opens::say_open(rt, bytes, false)?,
+        b"large" => opens::say_open(rt, bytes, true)?,
+        b"close" => opens::say_close(rt, bytes)?,
+        b"path" => paths::say_path(rt, bytes)?,
+        b"request" => paths::say_request(rt, bytes)?,
+        _ => return Ok(false),
     }
-    if check::same(word, b"open") {
-        opens::say_open(bytes, false);
-        return true;
-    }
-    if check::same(word, b"large") {
-        opens::say_open(bytes, true);
-        return true;
-    }
-    if check::same(word, b"close") {
-        opens::say_close(bytes);
-        return true;
-    }
-    if check::same(word, b"path") {
-        paths::say_path(bytes);
-        return true;
-    }
-    if check::same(word, b"request") {
-        paths::say_request(bytes);
-        return true;
-    }
-    false
+    Ok(true)
 }
 
-fn say_file(word: &[u8], path: &[u8]) -> bool {
-    let fd = os::open_read(path);
-    if fd < 0 {
-        os::fail(path);
-        return true;
-    }
+// The file's bytes, as far as there is room, and how many they are.
+fn read_file(rt: &impl Files, path: &[u8], bytes: &mut [u8]) -> io::Result<usize>
+    ensures { IfOk result (λ n. n ≤ length bytes.new) }
+{
+    let Ok(name) = str::from_utf8(path) else {
+        return Err(io::Error::from(ErrorKind::InvalidFilename));
+    };
+    fs::open(rt, name)?.read(bytes)
+}
+
+// Says on standard error why a file was not read.
+fn fail(rt: &impl Eprint, path: &[u8], e: &io::Error) -> io::Result<()> {
+    let name = str::from_utf8(path).unwrap_or("a name that is not UTF-8");
+    eprintln!(rt; "{name}: {e}")
+}
+
+fn say_file<R: Print + Eprint + Files>(rt: &R, word: &[u8], path: &[u8]) -> io::Result<Pair> {
     let mut bytes = [0u8; ROOM];
-    let got = libc::read(fd, &mut bytes);
-    libc::close(fd);
-    if got < 0 {
-        os::fail(path);
-        return true;
-    }
-    let n = io::count(got, &bytes);
-    text::words(word);
-    text::words(b" ");
-    text::words(path);
-    text::number(b": ", n);
-    text::words(b" bytes\n");
-    say_as(word, &bytes[..n])
-}
-
-// A word and a file's name, as arguments of these numbers; false where one is missing or too long.
-fn say_pair(first: usize, second: usize) -> bool {
-    let mut word = [0u8; 16];
-    let w = os::arg(first, &mut word);
-    if os::errno() != 0 {
-        return false;
-    }
-    let mut path = io::buffer();
-    let p = os::arg(second, &mut path);
-    if os::errno() != 0 {
-        return false;
-    }
-    say_file(&word[..w], &path[..p])
-}
-
-fn main() {
-    let n = os::arg_count();
-    if n < 3 {
-        usage();
-        return;
-    }
-    let pairs = n / 2;
-    let mut k: usize = 0;
-    while k < pairs {
-        if !say_pair(k + k + 1, k + k + 2) {
-            usage();
-            return;
+    let n = match read_file(rt, path, &mut bytes) {
+        Ok(n) => n,
+        Err(e) => {
+            fail(rt, path, &e)?;
+            return Ok(Pair::Unread);
         }
-        k += 1;
+    };
+    text::words(rt, word)?;
+    text::words(rt, b" ")?;
+    text::words(rt, path)?;
+    text::number(rt, b": ", n)?;
+    text::words(rt, b" bytes\n")?;
+    if say_as(rt, word, &bytes[..n])? {
+        Ok(Pair::Said)
+    } else {
+        Ok(Pair::Unknown)
     }
+}
+
+// A word and a file's name, as arguments of these numbers; unknown where one is missing or too long.
+fn say_pair<R: Print + Eprint + Env + Files>(
+    rt: &R,
+    first: usize,
+    second: usize,
+) -> io::Result<Pair> {
+    let mut word = [0u8; 16];
+    let mut path = [0u8; 4096];
+    let Ok(w) = rt.arg(first, &mut word) else {
+        return Ok(Pair::Unknown);
+    };
+    let Ok(p) = rt.arg(second, &mut path) else {
+        return Ok(Pair::Unknown);
+    };
+    say_file(rt, &word[..w], &path[..p])
+}
+
+// How many arguments there are, the program's name among them.
+fn arg_count(rt: &impl Env) -> usize {
+    for n in 0..usize::MAX {
+        if matches!(rt.arg(n, &mut []), Err(FillError::NotPresent)) {
+            return n;
+        }
+    }
+    usize::MAX
+}
+
+fn main(rt: HostRuntime) -> io::Result<ExitCode> {
+    let n = arg_count(&rt);
+    let mut unread = false;
+    if n < 3 {
+        usage(&rt)?;
+        return Ok(ExitCode::SUCCESS);
+    }
+    for k in 0..n / 2 {
+        match say_pair(&rt, k + k + 1, k + k + 2)? {
+            Pair::Said => {}
+            Pair::Unread => unread = true,
+            Pair::Unknown => {
+                usage(&rt)?;
+                break;
+            }
+        }
+    }
+    Ok(ExitCode::from(u8::from(unread)))
 }

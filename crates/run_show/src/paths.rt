@@ -1,103 +1,100 @@
 // Paths segment by segment, and explicit messages.
 use crate::text;
+use std::io;
 use wire_rules::{FirstAttribute, Key, Object, RequestAnswer, Seg, SegStep};
 
-fn say_key(k: Key) {
-    text::hex(b"key: vendor ", k.vendor as u32, 4);
-    text::hex(b", device type ", k.device as u32, 4);
-    text::hex(b", product code ", k.product as u32, 4);
-    text::number32(b", revision ", wire_numbers::major_of(k.major) as u32);
-    text::number32(b".", k.minor as u32);
+fn say_key(rt: &impl Print, k: Key) -> io::Result<()> {
+    text::hex(rt, b"key: vendor ", k.vendor as u32, 4)?;
+    text::hex(rt, b", device type ", k.device as u32, 4)?;
+    text::hex(rt, b", product code ", k.product as u32, 4)?;
+    text::number32(rt, b", revision ", wire_numbers::major_of(k.major) as u32)?;
+    text::number32(rt, b".", k.minor as u32)?;
     if wire_numbers::compatible(k.major) {
-        text::words(b" or compatible");
+        text::words(rt, b" or compatible")?;
     }
-    text::words(b"\n");
+    text::words(rt, b"\n")
 }
 
-fn say_value(name: &[u8], v: u32) {
-    text::number32(name, v);
-    text::hex(b" (", v, 2);
-    text::words(b")\n");
+fn say_value(rt: &impl Print, name: &[u8], v: u32) -> io::Result<()> {
+    text::number32(rt, name, v)?;
+    text::hex(rt, b" (", v, 2)?;
+    text::words(rt, b")\n")
 }
 
-fn say_bytes(name: &[u8], start: usize, len: usize) {
-    text::words(name);
-    text::number(b"", len);
-    text::number(b" bytes at ", start);
-    text::words(b"\n");
+fn say_bytes(rt: &impl Print, name: &[u8], start: usize, len: usize) -> io::Result<()> {
+    text::words(rt, name)?;
+    text::number(rt, b"", len)?;
+    text::number(rt, b" bytes at ", start)?;
+    text::words(rt, b"\n")
 }
 
-fn say_segment(at: usize, s: Seg) {
-    text::number(b"    ", at);
-    text::words(b": ");
+fn say_segment(rt: &impl Print, at: usize, s: Seg) -> io::Result<()> {
+    text::number(rt, b"    ", at)?;
+    text::words(rt, b": ")?;
     match s {
         Seg::Port { port, start, len } => {
-            text::number32(b"port ", port as u32);
-            say_bytes(b", link of ", start, len);
+            text::number32(rt, b"port ", port as u32)?;
+            say_bytes(rt, b", link of ", start, len)
         }
-        Seg::Class(v) => say_value(b"class ", v),
-        Seg::Instance(v) => say_value(b"instance ", v),
-        Seg::Point(v) => say_value(b"point ", v),
-        Seg::Attribute(v) => say_value(b"attribute ", v),
-        Seg::Keyed(k) => say_key(k),
-        Seg::Data { start, len } => say_bytes(b"data of ", start, len),
+        Seg::Class(v) => say_value(rt, b"class ", v),
+        Seg::Instance(v) => say_value(rt, b"instance ", v),
+        Seg::Point(v) => say_value(rt, b"point ", v),
+        Seg::Attribute(v) => say_value(rt, b"attribute ", v),
+        Seg::Keyed(k) => say_key(rt, k),
+        Seg::Data { start, len } => say_bytes(rt, b"data of ", start, len),
     }
 }
 
-pub fn say_path(path: &[u8]) {
+pub fn say_path(rt: &impl Print, path: &[u8]) -> io::Result<()> {
     let mut at: usize = 0;
-    let mut turns: usize = 65538;
-    while 0 < turns {
+    for _ in 0..65538 {
         match wire_segments::next_segment(path, at) {
             SegStep::Segment { seg, next } => {
-                say_segment(at, seg);
+                say_segment(rt, at, seg)?;
                 at = next;
             }
-            SegStep::End => {
-                return;
-            }
+            SegStep::End => break,
             SegStep::Broken(o) => {
-                text::number(b"    does not parse at byte ", o);
-                text::words(b" of the path\n");
-                return;
+                text::number(rt, b"    does not parse at byte ", o)?;
+                return text::words(rt, b" of the path\n");
             }
         }
-        turns -= 1;
     }
+    Ok(())
 }
 
-fn say_object(o: Object) {
+fn say_object(rt: &impl Print, o: Object) -> io::Result<()> {
     match o {
         Object::Named { class, instance } => {
-            text::hex(b"  class ", class, 2);
-            text::number32(b", instance ", instance);
+            text::hex(rt, b"  class ", class, 2)?;
+            text::number32(rt, b", instance ", instance)
         }
-        Object::NoObject => text::words(b"  its path names no object"),
+        Object::NoObject => text::words(rt, b"  its path names no object"),
     }
 }
 
-fn say_attribute(a: FirstAttribute) {
+fn say_attribute(rt: &impl Print, a: FirstAttribute) -> io::Result<()> {
     match a {
-        FirstAttribute::Number(n) => text::number32(b", attribute ", n),
-        FirstAttribute::NoAttribute => text::words(b", no attribute"),
+        FirstAttribute::Number(n) => text::number32(rt, b", attribute ", n),
+        FirstAttribute::NoAttribute => text::words(rt, b", no attribute"),
     }
 }
 
-pub fn say_request(message: &[u8]) {
+pub fn say_request(rt: &impl Print, message: &[u8]) -> io::Result<()> {
     match wire_requests::parse_request(message) {
         RequestAnswer::Parsed(r) => {
-            text::hex(b"  service ", r.service as u32, 2);
-            text::words(b"\n");
+            text::hex(rt, b"  service ", r.service as u32, 2)?;
+            text::words(rt, b"\n")?;
             let object = r.object;
             let attribute = r.attribute;
-            say_object(object);
-            say_attribute(attribute);
-            text::number(b", data from byte ", r.datastart);
-            text::words(b"\n");
+            say_object(rt, object)?;
+            say_attribute(rt, attribute)?;
+            text::number(rt, b", data from byte ", r.datastart)?;
+            text::words(rt, b"\n")
         }
         RequestAnswer::Unparsed(service) => {
-            text::hex(b"  does not parse (No. 4), service ", service as u32, 2);
-            text::words(b"\n");
+            text::hex(rt, b"  does not parse (No. 4), service ", service as u32, 2)?;
+            text::words(rt, b"\n")
         }
     }
 }

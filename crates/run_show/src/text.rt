@@ -1,23 +1,27 @@
 // Words and numbers on standard output.
-use libc::STDOUT_FILENO;
+use std::io;
 
-pub fn words(s: &[u8]) {
-    io::write_all(STDOUT_FILENO, s);
+pub fn words(rt: &impl Print, s: &[u8]) -> io::Result<()> {
+    rt.write_all(s)
 }
 
-pub fn number(before: &[u8], n: usize) {
-    io::write_all(STDOUT_FILENO, before);
-    io::print_decimal(STDOUT_FILENO, n as u64);
+pub fn number(rt: &impl Print, before: &[u8], n: usize) -> io::Result<()> {
+    words(rt, before)?;
+    print!(rt; "{n}")
 }
 
-pub fn number32(before: &[u8], n: u32) {
-    io::write_all(STDOUT_FILENO, before);
-    io::print_decimal(STDOUT_FILENO, n as u64);
+pub fn number32(rt: &impl Print, before: &[u8], n: u32) -> io::Result<()> {
+    words(rt, before)?;
+    print!(rt; "{n}")
+}
+
+pub fn number64(rt: &impl Print, before: &[u8], n: u64) -> io::Result<()> {
+    words(rt, before)?;
+    print!(rt; "{n}")
 }
 
 // A number in as many hexadecimal digits as are asked.
-pub fn hex(before: &[u8], n: u32, width: usize) {
-    io::write_all(STDOUT_FILENO, before);
-    io::write_all(STDOUT_FILENO, b"0x");
-    io::print_hex(STDOUT_FILENO, n as u64, width);
+pub fn hex(rt: &impl Print, before: &[u8], n: u32, width: usize) -> io::Result<()> {
+    words(rt, before)?;
+    print!(rt; "0x{n:0width$x}")
 }
