@@ -2,7 +2,7 @@
 #![tactic(auto)]
 
 ghost use Rattle.std.specs.Prelude.{[]};
-ghost use Rattle.host_runs.specs.Contracts.{Met, saying};
+ghost use Rattle.host_runs.specs.CallContracts.{Met, saying};
 ghost use Rattle.host_runs.specs.HostCalls.{HostCall, contract_of, CCall, contract};
 
 pub fn setup(state: &mut [u8], block: &[u8], eds: &[u8], seed: u32) -> u64

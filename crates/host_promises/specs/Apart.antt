@@ -14,7 +14,7 @@ use Rattle.state_rules.specs.Image.{view, tested}
 use Rattle.rules_isolation.specs.Demand.{Same_expiries, Answered_alike, All_answered_alike, Never_owned, other, demand_3, inputs_equal}
 use Rattle.app_starting.specs.Block.{setup_given, setup_call}
 use Rattle.app_starting.specs.Calls.{setup_fresh}
-use Rattle.host_runs.specs.Contracts.{Said, Answers}
+use Rattle.host_runs.specs.CallContracts.{Said, Answers}
 use Rattle.host_runs.specs.HostCalls.{HostCall, contract_of, call_of}
 use Rattle.host_promises.specs.Rows.{conns, conns_view}
 use Rattle.host_promises.specs.Pairs.{Pair, end, both, first_only, second_only, Same_going, Not_owned, firsts, seconds, paired, step, both_run, premise, unowned}

@@ -42,7 +42,7 @@ use Rattle.rules_lastword.specs.Clearing.{Heard_lately}
 use Rattle.app_starting.specs.Block.{dec_shape, marked_block, setup_given, kind_given, accepted, started, setup_call}
 use Rattle.app_starting.specs.Calls.{set_up}
 use Rattle.adapter.specs.Origins.{origin_of}
-use Rattle.host_runs.specs.Contracts.{Said, Met}
+use Rattle.host_runs.specs.CallContracts.{Said, Met}
 use Rattle.host_runs.specs.HostCalls.{HostCall, contract_of, call_of, CCall}
 use Rattle.host_runs.specs.Runs.{Turn, Ran, none, one, held, run_is_ruled}
 use Rattle.host_promises.specs.Owners.{Owner, run_read}

@@ -19,7 +19,7 @@ use Rattle.rules_lastword.specs.Words.{Word, word_of, no_word, in_run, holds, op
 use Rattle.rules_lastword.specs.LastWord.{lane_obeys, host_reads_the_word}
 use Rattle.rules_lastword.specs.Clearing.{Heard_lately, in_run_was_heard}
 use Rattle.app_starting.specs.Block.{setup_given, setup_call}
-use Rattle.host_runs.specs.Contracts.{Said, Met, Told}
+use Rattle.host_runs.specs.CallContracts.{Said, Met, Told}
 use Rattle.host_runs.specs.HostCalls.{HostCall, contract_of, call_of, CCall, contract}
 use Rattle.host_runs.specs.Steps.{agrees}
 use Rattle.host_runs.specs.Runs.{Turn, Ran, none, one, run_is_ruled}

@@ -22,7 +22,7 @@ use Rattle.app_starting.specs.Block.{accepted}
 use Rattle.msg_positions.specs.Positions.{dec_upload}
 use Rattle.rules_lastword.specs.Knows.{id_told}
 use Rattle.adapter.specs.Origins.{origin_of}
-use Rattle.host_runs.specs.Contracts.{Said, Answers}
+use Rattle.host_runs.specs.CallContracts.{Said, Answers}
 use Rattle.host_runs.specs.HostCalls.{HostCall, contract_of, call_of, CCall, contract, next_c, answer_c}
 use Rattle.host_runs.specs.Runs.{Turn, run_c, Answered}
 use Rattle.host_promises.specs.Refusals.{low_zero}

@@ -12,7 +12,7 @@ use Rattle.rules.specs.declared.Conn.{Conn}
 use Rattle.rules_isolation.specs.Survive.{in_table}
 use Rattle.rules_isolation.specs.Demand
 use Rattle.rules_isolation.specs.Demand.{Paired, removes, Removes_alike, Same_expiries, owned_by, Never_owned}
-use Rattle.host_runs.specs.Contracts.{Said, Met}
+use Rattle.host_runs.specs.CallContracts.{Said, Met}
 use Rattle.host_runs.specs.HostCalls.{HostCall, contract_of, call_of, CCall}
 use Rattle.host_runs.specs.Steps.{Agrees, agrees}
 use Rattle.host_promises.specs.Rows.{conns, conns_view}

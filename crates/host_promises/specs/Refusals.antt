@@ -23,7 +23,7 @@ use Rattle.msg_positions.specs.Positions.{dec_upload}
 use Rattle.msg_answering.specs.Positions.{position_tested, whole_tested}
 use Rattle.msg_answering.specs.Lifted.{lifted_message}
 use Rattle.rules_faults.specs.Bounds.{refused_leaves}
-use Rattle.host_runs.specs.Contracts.{Said, Contract, Sets, Changes, Writes, Reads, Says, Replies, Met, next_by, answer_by}
+use Rattle.host_runs.specs.CallContracts.{Said, Contract, Sets, Changes, Writes, Reads, Says, Replies, Met, next_by, answer_by}
 use Rattle.host_runs.specs.HostCalls.{contract_of, call_of, CCall, contract}
 use Rattle.host_runs.specs.Steps.{same_next, same_answer, out_passes, read_passes}
 

@@ -12,7 +12,7 @@ use Rattle.state_rules.specs.Image.{view, tested}
 use Rattle.msg_answering.specs.Positions.{position_tested}
 use Rattle.msg_answering.specs.Lifted.{lifted_message}
 use Rattle.msg_answering.specs.Accepted.{zeros_pass, message_accepted, message_bytes}
-use Rattle.host_runs.specs.Contracts.{Said, Met}
+use Rattle.host_runs.specs.CallContracts.{Said, Met}
 use Rattle.host_runs.specs.HostCalls.{HostCall, contract_of, CCall}
 use Rattle.host_runs.specs.Steps.{same_next, suits, agrees}
 use Rattle.host_runs.specs.Runs.{Held, held_passes}

@@ -12,7 +12,7 @@ use Rattle.rules.specs.Calls
 use Rattle.rules.specs.Calls.{Call, answer, next}
 use Rattle.msg_positions.specs.Positions.{dec_upload}
 use Rattle.adapter.specs.Origins.{origin_of}
-use Rattle.host_runs.specs.Contracts.{Contract, Sets, Changes, Writes, Reads, Says, Replies, next_by, answer_by}
+use Rattle.host_runs.specs.CallContracts.{Contract, Sets, Changes, Writes, Reads, Says, Replies, next_by, answer_by}
 
 -- the calls that the rules have on a state that is set up; `out` and `upload` are the lent bytes as the call finds them
 pub data HostCall : Type 0 where

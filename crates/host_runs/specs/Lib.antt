@@ -1,4 +1,4 @@
-pub mod Contracts
+pub mod CallContracts
 pub mod HostCalls
 pub mod Steps
 pub mod Runs

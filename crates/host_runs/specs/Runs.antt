@@ -10,7 +10,7 @@ use Rattle.rules.specs.Calls.{Call, next, run}
 use Rattle.state_rules.specs.Image.{view, tested}
 use Rattle.app_starting.specs.Block.{setup_given, accepted, setup_call}
 use Rattle.app_starting.specs.Calls.{setup_fresh}
-use Rattle.host_runs.specs.Contracts.{Said, Met, Answers}
+use Rattle.host_runs.specs.CallContracts.{Said, Met, Answers}
 use Rattle.host_runs.specs.HostCalls.{call_of, CCall, contract, next_c, answer_c}
 use Rattle.host_runs.specs.Steps.{agrees}
 

@@ -27,7 +27,7 @@ use Rattle.io_producing.specs.Accepted.{produce_suits}
 use Rattle.conn_ending.specs.Accepted.{close_suits, expire_suits}
 use Rattle.open_answering.specs.Accepted.{open_suits}
 use Rattle.adapter.specs.Origins.{origin_of}
-use Rattle.host_runs.specs.Contracts.{Said, Contract, Sets, Changes, Writes, Reads, Says, Replies, Met, next_by, answer_by, Answers}
+use Rattle.host_runs.specs.CallContracts.{Said, Contract, Sets, Changes, Writes, Reads, Says, Replies, Met, next_by, answer_by, Answers}
 use Rattle.host_runs.specs.HostCalls.{HostCall, contract_of, call_of, CCall, contract, next_c, answer_c}
 
 -- ---- each kind of contract
