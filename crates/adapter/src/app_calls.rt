@@ -7,16 +7,14 @@ ghost use Rattle.state_image.specs.Lift.{lifted, lifted_out, lifted_read};
 use app_answers::answers;
 
 // How many bytes a host has to lend as the state.
-#[unsafe(no_mangle)]
-pub extern "C" fn threshtide_state_size() -> u64
+pub fn threshtide_state_size() -> u64
     ensures { result ≡ state_size }
 {
     109056
 }
 
 // Gives an input new bytes; what they do not reach becomes zero. No: 1, 6, 7.
-#[unsafe(no_mangle)]
-pub extern "C" fn threshtide_set_input(state: &mut [u8], instance: u32, bytes: &[u8]) -> u64
+pub fn threshtide_set_input(state: &mut [u8], instance: u32, bytes: &[u8]) -> u64
     ensures { (result, state.new) ≡ lifted (set_input_call instance bytes.now) state.old }
 {
     if !state_image::test_state(state) {
@@ -26,8 +24,7 @@ pub extern "C" fn threshtide_set_input(state: &mut [u8], instance: u32, bytes: &
 }
 
 // Reads an output: the run byte, then its bytes; the next change gives an event again. No: 1, 6, 8.
-#[unsafe(no_mangle)]
-pub extern "C" fn threshtide_output(state: &mut [u8], instance: u32, out: &mut [u8]) -> u64
+pub fn threshtide_output(state: &mut [u8], instance: u32, out: &mut [u8]) -> u64
     ensures { (result, (state.new, out.new)) ≡ lifted_out (output_call instance) state.old out.old }
 {
     if !state_image::test_state(state) {
@@ -37,8 +34,7 @@ pub extern "C" fn threshtide_output(state: &mut [u8], instance: u32, out: &mut [
 }
 
 // Reads the bytes of an assembly of a kind: 1 input, 2 output, 3 configuration. No: 1, 6, 8.
-#[unsafe(no_mangle)]
-pub extern "C" fn threshtide_assembly(state: &[u8], kind: u8, instance: u32, out: &mut [u8]) -> u64
+pub fn threshtide_assembly(state: &[u8], kind: u8, instance: u32, out: &mut [u8]) -> u64
     ensures { (result, out.new) ≡ lifted_read (assembly_answer kind instance) state.now out.old }
 {
     if !state_image::test_state(state) {
@@ -48,8 +44,7 @@ pub extern "C" fn threshtide_assembly(state: &[u8], kind: u8, instance: u32, out
 }
 
 // Takes the oldest event: a record of 32 bytes. No: 1, 9, 8.
-#[unsafe(no_mangle)]
-pub extern "C" fn threshtide_next_event(state: &mut [u8], out: &mut [u8]) -> u64
+pub fn threshtide_next_event(state: &mut [u8], out: &mut [u8]) -> u64
     ensures { (result, (state.new, out.new)) ≡ lifted_out next_event_call state.old out.old }
 {
     if !state_image::test_state(state) {
@@ -59,8 +54,7 @@ pub extern "C" fn threshtide_next_event(state: &mut [u8], out: &mut [u8]) -> u64
 }
 
 // Packets produced, those that were late, the greatest lateness in microseconds: 8 bytes each. No: 1, 8.
-#[unsafe(no_mangle)]
-pub extern "C" fn threshtide_stats(state: &[u8], out: &mut [u8]) -> u64
+pub fn threshtide_stats(state: &[u8], out: &mut [u8]) -> u64
     ensures { (result, out.new) ≡ lifted_read stats_answer state.now out.old }
 {
     if !state_image::test_state(state) {
@@ -70,8 +64,7 @@ pub extern "C" fn threshtide_stats(state: &[u8], out: &mut [u8]) -> u64
 }
 
 // The connections in table order, a record of 32 bytes each. No: 1, 8.
-#[unsafe(no_mangle)]
-pub extern "C" fn threshtide_connections(state: &[u8], out: &mut [u8]) -> u64
+pub fn threshtide_connections(state: &[u8], out: &mut [u8]) -> u64
     ensures { (result, out.new) ≡ lifted_read connections_answer state.now out.old }
 {
     if !state_image::test_state(state) {

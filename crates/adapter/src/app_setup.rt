@@ -5,8 +5,7 @@ ghost use Rattle.app_starting.specs.Block.{setup_call};
 use app_starting::checks;
 
 // Sets a state up from a block of 192 bytes and an EDS; ids begin at the seed. No: 1, 2.
-#[unsafe(no_mangle)]
-pub extern "C" fn threshtide_setup(state: &mut [u8], block: &[u8], eds: &[u8], seed: u32) -> u64
+pub fn threshtide_setup(state: &mut [u8], block: &[u8], eds: &[u8], seed: u32) -> u64
     ensures { (result, state.new) ≡ setup_call state.old block.now eds.now seed }
 {
     if state.len() != state_layout::STATE_SIZE {

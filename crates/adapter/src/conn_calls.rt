@@ -6,8 +6,7 @@ ghost use Rattle.state_image.specs.Lift.{lifted, lifted_out};
 use wire_rules::CloseAnswer;
 
 // Closes a connection. Yes: 10 reply bytes. No: 1, 4, 9, 8.
-#[unsafe(no_mangle)]
-pub extern "C" fn threshtide_close(state: &mut [u8], request: &[u8], out: &mut [u8]) -> u64
+pub fn threshtide_close(state: &mut [u8], request: &[u8], out: &mut [u8]) -> u64
     ensures { (result, (state.new, out.new)) ≡ lifted_out (close_call request.now) state.old out.old }
 {
     if !state_image::test_state(state) {
@@ -20,8 +19,7 @@ pub extern "C" fn threshtide_close(state: &mut [u8], request: &[u8], out: &mut [
 }
 
 // Removes what was silent for longer than its timeout; how many went stands in bits 8 and up. No: 1, 3.
-#[unsafe(no_mangle)]
-pub extern "C" fn threshtide_expire(state: &mut [u8], time: u64) -> u64
+pub fn threshtide_expire(state: &mut [u8], time: u64) -> u64
     ensures { (result, state.new) ≡ lifted (expire_call time) state.old }
 {
     if !state_image::test_state(state) {

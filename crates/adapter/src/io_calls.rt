@@ -6,8 +6,7 @@ ghost use Rattle.rules.specs.Producing.{produce_call};
 ghost use Rattle.state_image.specs.Lift.{lifted, lifted_out, lifted_read};
 
 // The time when a packet is due or a connection lives no longer, 8 bytes. No: 1, 9, 8.
-#[unsafe(no_mangle)]
-pub extern "C" fn threshtide_next_deadline(state: &[u8], out: &mut [u8]) -> u64
+pub fn threshtide_next_deadline(state: &[u8], out: &mut [u8]) -> u64
     ensures { (result, out.new) ≡ lifted_read deadline_answer state.now out.old }
 {
     if !state_image::test_state(state) {
@@ -17,8 +16,7 @@ pub extern "C" fn threshtide_next_deadline(state: &[u8], out: &mut [u8]) -> u64
 }
 
 // A frame from an address; one of no use is ignored. No: 1, 3.
-#[unsafe(no_mangle)]
-pub extern "C" fn threshtide_receive(state: &mut [u8], time: u64, from: u32, frame: &[u8]) -> u64
+pub fn threshtide_receive(state: &mut [u8], time: u64, from: u32, frame: &[u8]) -> u64
     ensures { (result, state.new) ≡ lifted (receive_call time from frame.now) state.old }
 {
     if !state_image::test_state(state) {
@@ -32,8 +30,7 @@ pub extern "C" fn threshtide_receive(state: &mut [u8], time: u64, from: u32, fra
 }
 
 // All packets that are due, one behind the other; their length stands in bits 8 and up. No: 1, 3, 8.
-#[unsafe(no_mangle)]
-pub extern "C" fn threshtide_produce(state: &mut [u8], time: u64, out: &mut [u8]) -> u64
+pub fn threshtide_produce(state: &mut [u8], time: u64, out: &mut [u8]) -> u64
     ensures { (result, (state.new, out.new)) ≡ lifted_out (produce_call time) state.old out.old }
 {
     if !state_image::test_state(state) {

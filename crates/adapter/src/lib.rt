@@ -1,4 +1,5 @@
-// The C functions. Each tests the lent state and calls one function down; docs/INTERFACE.md says what a host gives and gets.
+// What a host calls. Each tests the lent state and calls one function down; `adapter_c` exports them to C. docs/INTERFACE.md says what a
+// host gives and gets.
 #![tactic(auto)]
 
 pub mod app_calls;

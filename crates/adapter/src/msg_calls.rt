@@ -3,16 +3,14 @@ ghost use Rattle.std.specs.Prelude.{◌≡◌};
 ghost use Rattle.msg_answering.specs.Lifted.{lifted_message};
 
 // How many bytes an upload position has; all zero is none.
-#[unsafe(no_mangle)]
-pub extern "C" fn threshtide_upload_size() -> u64
+pub fn threshtide_upload_size() -> u64
     ensures { result ≡ 8 }
 {
     8
 }
 
 // The reply to an explicit message; an upload of the EDS moves its position. No: 1, 8.
-#[unsafe(no_mangle)]
-pub extern "C" fn threshtide_message(
+pub fn threshtide_message(
     state: &[u8],
     upload: &mut [u8],
     local: u32,

@@ -4,16 +4,14 @@ ghost use Rattle.rules.specs.Routing.{path_answer, request_answer};
 ghost use Rattle.msg_routing.specs.Answered.{answered};
 
 // What a path holds, a record of 32 bytes. No: 4, 8.
-#[unsafe(no_mangle)]
-pub extern "C" fn threshtide_path(path: &[u8], out: &mut [u8]) -> u64
+pub fn threshtide_path(path: &[u8], out: &mut [u8]) -> u64
     ensures { (result, out.new) ≡ answered (path_answer path.now) out.old }
 {
     msg_routing::tell_path(path, out)
 }
 
 // What an explicit message asks, a record of 20 bytes. No: 4, 8.
-#[unsafe(no_mangle)]
-pub extern "C" fn threshtide_request(message: &[u8], out: &mut [u8]) -> u64
+pub fn threshtide_request(message: &[u8], out: &mut [u8]) -> u64
     ensures { (result, out.new) ≡ answered (request_answer message.now) out.old }
 {
     msg_routing::tell_request(message, out)

@@ -10,8 +10,7 @@ use rules::{Origin, Socket};
 use wire_rules::OpenAnswer;
 
 // Opens a connection. Yes: 26 reply bytes; multicast in bits 8 to 15, port in 16 to 31, address in 32 to 63. No: 1, 3, 4, 5, 8.
-#[unsafe(no_mangle)]
-pub extern "C" fn threshtide_open(
+pub fn threshtide_open(
     state: &mut [u8],
     time: u64,
     service: u8,
@@ -49,8 +48,7 @@ pub extern "C" fn threshtide_open(
 }
 
 // The 10 bytes of data of a refused open's reply. No: 4, 8.
-#[unsafe(no_mangle)]
-pub extern "C" fn threshtide_open_refusal(service: u8, request: &[u8], out: &mut [u8]) -> u64
+pub fn threshtide_open_refusal(service: u8, request: &[u8], out: &mut [u8]) -> u64
     ensures { (result, out.new) ≡ answered (refusal_answer service request.now) out.old }
 {
     open_refusing::refusal(service, request, out)
