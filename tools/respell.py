@@ -4,8 +4,8 @@
 usage: respell.py [--list]     at the top of the repository; --list prints the pairs and changes nothing
 
 Own names are those that a file of specs/ or of proofs/ (not a proof of one function) declares: definitions, lemmas, fields of
-records and constructors. A name's humps and dashes become underscores; a part that begins with a capital names a type and keeps
-its humps. A name that a file takes from a library stays as it is there. Names that would fall together are in APART.
+records and constructors. A name's humps and dashes become underscores; a name that begins with a capital is a type's, in camel
+case. A name that a file takes from a library stays as it is there. Names that would fall together are in APART.
 """
 
 import collections
@@ -23,6 +23,7 @@ APART = {
     "bytesLe": "le_bytes",
     "length-bytesLe": "length_le_bytes",
     "leOf-bytesLe": "le_of_le_bytes",
+    "T-true": "T_true",
 }
 
 
@@ -75,6 +76,9 @@ def respelled(name):
     if name in APART:
         return APART[name]
     parts = [p for p in name.split("-") if p]
+    if name[0].isupper():
+        # a type, in camel case
+        return "".join(p[0].upper() + p[1:] for p in parts)
     out = []
     for p in parts:
         if p[0].islower():

@@ -38,7 +38,7 @@ use Rattle.rules.proofs.Examples.{setup, start, owner, heard}
 use Rattle.state_rules.specs.Places.{marks_at, state_size}
 use Rattle.state_rules.specs.Image.{view}
 use Rattle.state_image.specs.Lift.{lifted, lifted_out}
-use Rattle.rules_lastword.specs.Clearing.{Heard_lately}
+use Rattle.rules_lastword.specs.Clearing.{HeardLately}
 use Rattle.app_starting.specs.Block.{dec_shape, marked_block, setup_given, kind_given, accepted, started, setup_call}
 use Rattle.app_starting.specs.Calls.{set_up}
 use Rattle.adapter.specs.Origins.{origin_of}
@@ -134,7 +134,7 @@ module _ (s s₁ s₂ s₃ : List ℕ) (a b c : Said) (set : (0, s) ≡ setup_ca
 
 module _ (s s₁ s₂ s₃ s₄ : List ℕ) (a b d c : Said) (set : (0, s) ≡ setup_call (replicate state_size 0) block [] 4) (opening : Met (contract_of opens) s s₁ a)
     (hearing : Met (contract_of hears) s₁ s₂ b) (expiring : Met (contract_of expires) s₂ s₃ d) (reading : Met (contract_of reads) s₃ s₄ c) where
-  pub its_owner_was_heard : Heard_lately 3000 (last_word (setup_given block []) 150 0 ((CCall.On opens, a) ∷ (CCall.On hears, b) ∷ (CCall.On expires, d) ∷ []))
+  pub its_owner_was_heard : HeardLately 3000 (last_word (setup_given block []) 150 0 ((CCall.On opens, a) ∷ (CCall.On hears, b) ∷ (CCall.On expires, d) ∷ []))
   unfolding place_of answerNumber
   its_owner_was_heard =
       let ran-all : Ran ((CCall.On opens, a) ∷ (CCall.On hears, b) ∷ (CCall.On expires, d) ∷ (CCall.On reads, c) ∷ []) s s₄ =

@@ -17,14 +17,14 @@ use Rattle.state_rules.specs.Image.{view, tested}
 use Rattle.rules_steps.specs.Steps.{log, News, Opening, Closing, Hearing, Expiring, Nothing, news, learnt, history, history_next, run_next}
 use Rattle.rules_lastword.specs.Words.{Word, word_of, no_word, in_run, holds, opens, early}
 use Rattle.rules_lastword.specs.LastWord.{lane_obeys, host_reads_the_word}
-use Rattle.rules_lastword.specs.Clearing.{Heard_lately, in_run_was_heard}
+use Rattle.rules_lastword.specs.Clearing.{HeardLately, in_run_was_heard}
 use Rattle.app_starting.specs.Block.{setup_given, setup_call}
 use Rattle.host_runs.specs.CallContracts.{Said, Met, Told}
 use Rattle.host_runs.specs.HostCalls.{HostCall, contract_of, call_of, CCall, contract}
 use Rattle.host_runs.specs.Steps.{agrees}
 use Rattle.host_runs.specs.Runs.{Turn, Ran, none, one, run_is_ruled}
 use Rattle.host_promises.specs.Owners.{late_refused}
-use Rattle.host_promises.specs.Logs.{calls_of, ruled, log_of, anew, One_setup, Looks, history_same, run_same}
+use Rattle.host_promises.specs.Logs.{calls_of, ruled, log_of, anew, OneSetup, Looks, history_same, run_same}
 
 -- ---- what the calls made and the answers given tell
 
@@ -77,7 +77,7 @@ ran_more : {ts : List Turn} {s s' s'' : List ℕ} (c : CCall) (a : Said) → Ran
 ran_more c a none m = one c a m none
 ran_more c a (one d b k r) m = one d b k (ran_more c a r m)
 
-setup_more : (ts : List Turn) (c : CCall) (a : Said) → One_setup ts → anew c a ≡ false → One_setup (ts ++ ((c, a) ∷ []))
+setup_more : (ts : List Turn) (c : CCall) (a : Said) → OneSetup ts → anew c a ≡ false → OneSetup (ts ++ ((c, a) ∷ []))
 setup_more [] c a h n = (n, tt)
 setup_more (t ∷ ts) c a h n = (h.0, setup_more ts c a h.1 n)
 
@@ -93,7 +93,7 @@ pub record Since (all : List Turn) (s'' : List ℕ) : Type 0 where
   pub turns : List Turn
   pub whole : earlier ++ turns ≡ all
   pub ran : Ran turns s s''
-  pub setup : One_setup turns
+  pub setup : OneSetup turns
 
 since_turn : (c : CCall) (a : Said) {all : List Turn} {s s' : List ℕ} → Met (contract c) s s' a → Since all s → (b : Bool) → anew c a ≡ b → Since (all ++ ((c, a) ∷ [])) s'
 since_turn (CCall.Setup block eds seed) a {all} {s} {s'} m h true e =
@@ -170,7 +170,7 @@ module _ (l block eds : List ℕ) (seed : ℕ) (s : List ℕ) (e : (0, s) ≡ se
   u = setup_given block eds
 
   -- the state is the rules', and so are the history's words
-  module _ {ts : List Turn} {s' : List ℕ} (r : Ran ts s s') (same : One_setup ts) where
+  module _ {ts : List Turn} {s' : List ℕ} (r : Ran ts s s') (same : OneSetup ts) where
     as_run : view s' ≡ run (calls_of ts) (fresh u seed)
     as_run = let f = run_is_ruled l block eds seed s e r in f.holds ∙ run_same ts (fresh u seed) f.answers same
 
@@ -184,7 +184,7 @@ module _ (l block eds : List ℕ) (seed : ℕ) (s : List ℕ) (e : (0, s) ≡ se
 
   module _ (n i : ℕ) (there : place_of is_output u n ≡ some i) where
     -- WHAT OUTPUT ANSWERS is the last word of its live owner
-    pub output_is_the_last_word : {ts : List Turn} {s' : List ℕ} → Ran ts s s' → One_setup ts → early (opens_in ts) ≡ true
+    pub output_is_the_last_word : {ts : List Turn} {s' : List ℕ} → Ran ts s s' → OneSetup ts → early (opens_in ts) ≡ true
         → (out s'' : List ℕ) (a : Said) → Met (contract_of (HostCall.Output n out)) s' s'' a → Gives (said_by u i (last_word u n i ts)) out a
     output_is_the_last_word {ts} {s'} r same few out s'' a m =
         let f = run_is_ruled l block eds seed s e r in
@@ -198,10 +198,10 @@ module _ (l block eds : List ℕ) (seed : ℕ) (s : List ℕ) (e : (0, s) ≡ se
 
     -- AND IT WAS HEARD: after an expiry call at time t, answered yes, the run byte 1 means that a frame of the owner was recorded, the last one
     -- at most its timeout before t
-    pub run_byte_was_heard : {ts : List Turn} {s' : List ℕ} → Ran ts s s' → One_setup ts → early (opens_in ts) ≡ true
+    pub run_byte_was_heard : {ts : List Turn} {s' : List ℕ} → Ran ts s s' → OneSetup ts → early (opens_in ts) ≡ true
         → (t : ℕ) (s'' : List ℕ) (a : Said) → Met (contract_of (HostCall.Expire t)) s' s'' a → a.number % 256 ≡ 0
         → (out s''' : List ℕ) (b : Said) → Met (contract_of (HostCall.Output n out)) s'' s''' b → b.number % 256 ≡ 0 → get_or b.output 0 0 ≡ 1
-        → Heard_lately t (last_word u n i (ts ++ ((CCall.On (HostCall.Expire t), a) ∷ [])))
+        → HeardLately t (last_word u n i (ts ++ ((CCall.On (HostCall.Expire t), a) ∷ [])))
     run_byte_was_heard {ts} {s'} r same few t s'' a m y out s''' b k z one_byte =
         let cs : List Call = calls_of ts in
         let c : Call = Calls.Expire t in
@@ -219,7 +219,7 @@ module _ (l block eds : List ℕ) (seed : ℕ) (s : List ℕ) (e : (0, s) ≡ se
         let w' = ap (λ (x : List Call). history (word_of u n (shape_at u i).size) (log x st) no_word) (sym more) ∙ w in
         let runs : (content_at (next c (run cs st)) i).run ≡ true =
         ap (λ (x : State). (content_at x i).run) (sym (run_next cs c st)) ∙ (lane_obeys u n i there seed small (cs ++ (c ∷ [])) few₁).run ∙ ap in_run w' ∙ says in
-        subst (Heard_lately t) w' (in_run_was_heard u n i there seed small cs few₀ t (in_time (run_is_ruled l block eds seed s e r).passes) runs)
+        subst (HeardLately t) w' (in_run_was_heard u n i there seed small cs few₀ t (in_time (run_is_ruled l block eds seed s e r).passes) runs)
       where
         no_open : (q : Bool) (t d : ℕ) → learnt opens (cond q (Expiring t) Nothing) d ≡ d
         no_open true t d = refl

@@ -60,9 +60,9 @@ anew (CCall.On c) a = false
 anew (CCall.Path path out) a = false
 anew (CCall.Request message out) a = false
 
-abbrev pub One_setup : List Turn → Type 0
-One_setup [] = Unit {0}
-One_setup (t ∷ ts) = (anew t.0 t.1 ≡ false) × One_setup ts
+abbrev pub OneSetup : List Turn → Type 0
+OneSetup [] = Unit {0}
+OneSetup (t ∷ ts) = (anew t.0 t.1 ≡ false) × OneSetup ts
 
 -- ---- a yes is seen as a yes
 
@@ -201,7 +201,7 @@ module _ {G : Type 0} (r : Reading G) (looks : Looks r) where
   turn_same (CCall.Path path out) a ts st w h k n on = on st w k
   turn_same (CCall.Request message out) a ts st w h k n on = on st w k
 
-  pub history_same : (ts : List Turn) (st : State) (w : G) → Answered ts st → One_setup ts → history r (log_of ts) w ≡ history r (log (calls_of ts) st) w
+  pub history_same : (ts : List Turn) (st : State) (w : G) → Answered ts st → OneSetup ts → history r (log_of ts) w ≡ history r (log (calls_of ts) st) w
   history_same [] st w h n = refl
   history_same (t ∷ ts) st w h n = turn_same t.0 t.1 ts st w h.0 h.1 n.0 (λ st w k. history_same ts st w k n.1)
 
@@ -215,6 +215,6 @@ turn_run (CCall.On c) a ts st h k n on = on (next (call_of c) st) k
 turn_run (CCall.Path path out) a ts st h k n on = on st k
 turn_run (CCall.Request message out) a ts st h k n on = on st k
 
-pub run_same : (ts : List Turn) (st : State) → Answered ts st → One_setup ts → run_c ts st ≡ run (calls_of ts) st
+pub run_same : (ts : List Turn) (st : State) → Answered ts st → OneSetup ts → run_c ts st ≡ run (calls_of ts) st
 run_same [] st h n = refl
 run_same (t ∷ ts) st h n = turn_run t.0 t.1 ts st h.0 h.1 n.0 (λ st k. run_same ts st k n.1)

@@ -11,7 +11,7 @@ use Rattle.base_ids.specs.declared.Triad.{Triad}
 use Rattle.rules.specs.declared.Conn.{Conn}
 use Rattle.rules_isolation.specs.Survive.{in_table}
 use Rattle.rules_isolation.specs.Demand
-use Rattle.rules_isolation.specs.Demand.{Paired, removes, Removes_alike, Same_expiries, owned_by, Never_owned}
+use Rattle.rules_isolation.specs.Demand.{Paired, removes, RemovesAlike, SameExpiries, owned_by, NeverOwned}
 use Rattle.host_runs.specs.CallContracts.{Said, Met}
 use Rattle.host_runs.specs.HostCalls.{HostCall, contract_of, call_of, CCall}
 use Rattle.host_runs.specs.Steps.{Agrees, agrees}
@@ -29,18 +29,18 @@ pub data Pair (A : ℕ) : List ℕ → List ℕ → List ℕ → List ℕ → Ty
 abbrev pub goes : Triad → List ℕ → List ℕ → Bool
 goes d l l' = in_table (conns l) d && not (in_table (conns l') d)
 
-abbrev pub Same_going : {A : ℕ} {l m l'' m'' : List ℕ} → Pair A l m l'' m'' → Type 0
-Same_going end = Unit {0}
-Same_going (both c d a b {l} {m} {l'} {m'} e f g p) = ((t : ℕ) → call_of c ≡ Calls.Expire t → (x : Triad) → goes x l l' ≡ goes x m m') × Same_going p
-Same_going (first_only t frame a f p) = Same_going p
-Same_going (second_only t frame b g p) = Same_going p
+abbrev pub SameGoing : {A : ℕ} {l m l'' m'' : List ℕ} → Pair A l m l'' m'' → Type 0
+SameGoing end = Unit {0}
+SameGoing (both c d a b {l} {m} {l'} {m'} e f g p) = ((t : ℕ) → call_of c ≡ Calls.Expire t → (x : Triad) → goes x l l' ≡ goes x m m') × SameGoing p
+SameGoing (first_only t frame a f p) = SameGoing p
+SameGoing (second_only t frame b g p) = SameGoing p
 
 -- an assembly, by its place, that an address never owned in the first run: no bytes of it have a row of that address that owns it
-abbrev pub Not_owned : ℕ → {A : ℕ} {l m l'' m'' : List ℕ} → Pair A l m l'' m'' → Type 0
-Not_owned i {A} {l} end = any (owned_by A i) (conns l) ≡ false
-Not_owned i {A} {l} (both c d a b e f g p) = (any (owned_by A i) (conns l) ≡ false) × Not_owned i p
-Not_owned i {A} {l} (first_only t frame a f p) = (any (owned_by A i) (conns l) ≡ false) × Not_owned i p
-Not_owned i (second_only t frame b g p) = Not_owned i p
+abbrev pub NotOwned : ℕ → {A : ℕ} {l m l'' m'' : List ℕ} → Pair A l m l'' m'' → Type 0
+NotOwned i {A} {l} end = any (owned_by A i) (conns l) ≡ false
+NotOwned i {A} {l} (both c d a b e f g p) = (any (owned_by A i) (conns l) ≡ false) × NotOwned i p
+NotOwned i {A} {l} (first_only t frame a f p) = (any (owned_by A i) (conns l) ≡ false) × NotOwned i p
+NotOwned i (second_only t frame b g p) = NotOwned i p
 
 -- ---- it is a pair of runs of the rules
 
@@ -89,7 +89,7 @@ both_run {A} (second_only t frame b {l} {m} {m'} g p) x y =
 
 -- ---- the premise on bytes is the rules' premise
 
-alike : (x : Call) (s r : State) → ((t : ℕ) → x ≡ Calls.Expire t → (d : Triad) → removes t d s ≡ removes t d r) → Removes_alike x s r
+alike : (x : Call) (s r : State) → ((t : ℕ) → x ≡ Calls.Expire t → (d : Triad) → removes t d s ≡ removes t d r) → RemovesAlike x s r
 alike (Calls.Open t service request g room) s r h = tt
 alike (Calls.OpenRefusal service request room) s r h = tt
 alike (Calls.Close request room) s r h = tt
@@ -109,7 +109,7 @@ goes_is : (t : ℕ) (d : Triad) (l l' : List ℕ) → view l' ≡ next (Calls.Ex
 goes_is t d l l' h =
     ap₂ (λ (x y : List Conn). in_table x d && not (in_table y d)) (sym (conns_view l)) (sym (conns_view l') ∙ ap (λ (st : State). st.table) h)
 
-pub premise : {A : ℕ} {l m l'' m'' : List ℕ} (p : Pair A l m l'' m'') → tested l ≡ true → tested m ≡ true → Same_going p → Same_expiries (paired p) (view l) (view m)
+pub premise : {A : ℕ} {l m l'' m'' : List ℕ} (p : Pair A l m l'' m'') → tested l ≡ true → tested m ≡ true → SameGoing p → SameExpiries (paired p) (view l) (view m)
 premise end x y h = tt
 premise (both c d a b {l} {m} {l'} {m'} e f g p) x y h =
     let u = step c l x l' a f in
@@ -117,25 +117,25 @@ premise (both c d a b {l} {m} {l'} {m'} e f g p) x y h =
     let w : view m' ≡ next (call_of c) (view m) = v.holds ∙ ap (λ (z : Call). next z (view m)) (sym e) in (
       alike (call_of c) (view l) (view m)
           (λ t q z. sym (goes_is t z l l' (u.holds ∙ ap (λ (k : Call). next k (view l)) q)) ∙ h.0 t q z ∙ goes_is t z m m' (w ∙ ap (λ (k : Call). next k (view m)) q)),
-      subst (λ (s : State). Same_expiries (paired p) s (next (call_of c) (view m))) u.holds
-          (subst (λ (r : State). Same_expiries (paired p) (view l') r) w (premise p u.passes v.passes h.1)),
+      subst (λ (s : State). SameExpiries (paired p) s (next (call_of c) (view m))) u.holds
+          (subst (λ (r : State). SameExpiries (paired p) (view l') r) w (premise p u.passes v.passes h.1)),
     )
 premise {A} (first_only t frame a {l} {m} {l'} f p) x y h =
     let u = step (HostCall.Receive t A frame) l x l' a f in
-    subst (λ (s : State). Same_expiries (paired p) s (view m)) u.holds (premise p u.passes y h)
+    subst (λ (s : State). SameExpiries (paired p) s (view m)) u.holds (premise p u.passes y h)
 premise {A} (second_only t frame b {l} {m} {m'} g p) x y h =
     let v = step (HostCall.Receive t A frame) m y m' b g in
-    subst (λ (r : State). Same_expiries (paired p) (view l) r) v.holds (premise p x v.passes h)
+    subst (λ (r : State). SameExpiries (paired p) (view l) r) v.holds (premise p x v.passes h)
 
-pub unowned : {A : ℕ} (i : ℕ) {l m l'' m'' : List ℕ} (p : Pair A l m l'' m'') → tested l ≡ true → tested m ≡ true → Not_owned i p → Never_owned A i (firsts p) (view l)
+pub unowned : {A : ℕ} (i : ℕ) {l m l'' m'' : List ℕ} (p : Pair A l m l'' m'') → tested l ≡ true → tested m ≡ true → NotOwned i p → NeverOwned A i (firsts p) (view l)
 unowned {A} i {l} end x y h = ap (any (owned_by A i)) (conns_view l) ∙ h
 unowned {A} i (both c d a b {l} {m} {l'} {m'} e f g p) x y h =
     let u = step c l x l' a f in
     let v = step d m y m' b g in
-    (ap (any (owned_by A i)) (conns_view l) ∙ h.0, subst (Never_owned A i (firsts p)) u.holds (unowned i p u.passes v.passes h.1))
+    (ap (any (owned_by A i)) (conns_view l) ∙ h.0, subst (NeverOwned A i (firsts p)) u.holds (unowned i p u.passes v.passes h.1))
 unowned {A} i (first_only t frame a {l} {m} {l'} f p) x y h =
     let u = step (HostCall.Receive t A frame) l x l' a f in
-    (ap (any (owned_by A i)) (conns_view l) ∙ h.0, subst (Never_owned A i (firsts p)) u.holds (unowned i p u.passes y h.1))
+    (ap (any (owned_by A i)) (conns_view l) ∙ h.0, subst (NeverOwned A i (firsts p)) u.holds (unowned i p u.passes y h.1))
 unowned {A} i (second_only t frame b {l} {m} {m'} g p) x y h =
     let v = step (HostCall.Receive t A frame) m y m' b g in
     unowned i p x v.passes h

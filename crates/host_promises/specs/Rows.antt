@@ -10,7 +10,7 @@ use Rattle.state_rules.specs.Rows.{dec_conn, conn_at, conns_in}
 use Rattle.state_rules.specs.Image.{view}
 use Rattle.state_image.specs.Fits.{is_long, few_events, few_conns}
 use Rattle.rules.specs.declared.Conn.{Conn}
-use Rattle.rules_faults.specs.Streams.{All_fed, streams_are_fed}
+use Rattle.rules_faults.specs.Streams.{AllFed, streams_are_fed}
 use Rattle.host_runs.specs.Runs.{Held, held_passes, held_reached}
 
 -- the connection in a row, and those in use
@@ -44,8 +44,8 @@ pub nothing_grows : {s : List ℕ} → Held s → (length s ≡ state_size) × (
 nothing_grows {s} h = let ok = held_passes h in (is_long s ok, few_conns s ok, few_events s ok)
 
 -- STREAMS ARE FED: a row that only listens is multicast and has a row on its id that does not; a multicast row has one that produces
-pub streams_fed : {s : List ℕ} → Held s → All_fed (conns s)
+pub streams_fed : {s : List ℕ} → Held s → AllFed (conns s)
 unfolding view
 streams_fed {s} h =
     let r = held_reached h in
-    subst (λ (st : State). All_fed st.table) (sym r.3) (streams_are_fed r.0 r.1 r.2)
+    subst (λ (st : State). AllFed st.table) (sym r.3) (streams_are_fed r.0 r.1 r.2)

@@ -26,10 +26,10 @@ pub data Session : List ℕ → List ℕ → List ℕ → List ℕ → Type 0 wh
       → Met (contract_of (HostCall.Message local mask message p out)) s s' a → Session s' a.position s'' p'' → Session s p s'' p''
 
 -- none of its messages is answered No. 1
-abbrev pub Never_1 : {s p s'' p'' : List ℕ} → Session s p s'' p'' → Type 0
-Never_1 done = Unit {0}
-Never_1 (other c a m r) = Never_1 r
-Never_1 (asks local mask message out a b m r) = (a.number ≡ 1 → ⊥) × Never_1 r
+abbrev pub Never1 : {s p s'' p'' : List ℕ} → Session s p s'' p'' → Type 0
+Never1 done = Unit {0}
+Never1 (other c a m r) = Never1 r
+Never1 (asks local mask message out a b m r) = (a.number ≡ 1 → ⊥) × Never1 r
 
 -- what is set up stays
 setup_stays : (c : HostCall) (s : List ℕ) → tested s ≡ true → (s' : List ℕ) (a : Said) → Met (contract_of c) s s' a → (view s').setup ≡ (view s).setup
@@ -48,7 +48,7 @@ not_1 st local mask message upload room n e f =
 
 -- A SESSION THAT HANDS BACK WHAT IT GOT IS SERVED
 pub served : {s p s'' p'' : List ℕ} (r : Session s p s'' p'') → tested s ≡ true → Bytes p → position_tested (view s).setup p ≡ true
-    → (position_tested (view s'').setup p'' ≡ true) × Never_1 r
+    → (position_tested (view s'').setup p'' ≡ true) × Never1 r
 served done ok b t = (t, tt)
 served (other c a {s} {s'} {p = p} m r) ok b t =
     let e = setup_stays c s ok s' a m in
@@ -70,5 +70,5 @@ zero_bytes (suc n) zero = omega arith
 zero_bytes (suc n) (suc i) = zero_bytes n i
 
 -- and it may begin with eight zeros on any bytes that a host holds
-pub served_from_zeros : {s s'' p'' : List ℕ} → Held s → (r : Session s (replicate 8 0) s'' p'') → (position_tested (view s'').setup p'' ≡ true) × Never_1 r
+pub served_from_zeros : {s s'' p'' : List ℕ} → Held s → (r : Session s (replicate 8 0) s'' p'') → (position_tested (view s'').setup p'' ≡ true) × Never1 r
 served_from_zeros {s} h r = served r (held_passes h) (zero_bytes 8) (zeros_pass (view s).setup)

@@ -36,8 +36,8 @@ pub record Fed (l : List Conn) (c : Conn) : Type 0 where
   pub feeder : is_listener c.fixed.kind ≡ true → any (feeds c.fixed.toid) l ≡ true
   pub sender : c.fixed.multicast ≡ true → any (source c.fixed.toid) l ≡ true
 
-abbrev pub All_fed : List Conn → Type 0
-All_fed l = All (Fed l) l
+abbrev pub AllFed : List Conn → Type 0
+AllFed l = All (Fed l) l
 
 -- a connection is in one stream only
 one_stream : (j k : ToId) (y : Conn) → eqb j.0 k.0 ≡ false → in_stream j y ≡ true → in_stream k y ≡ false
@@ -164,7 +164,7 @@ module _ (p : Conn → Bool) (c : Conn) (l : List Conn) (e : find p l ≡ some c
       ((g : Conn → Bool) → g x ≡ true → any g left_over ≡ true) → Fed left_over x
   fed_left x f n in-it = record { joined = f.joined; feeder = feeder_left x f n; sender = sender_left x f n in-it }
 
-  pub removal_fed : All_fed l → All_fed left_over
+  pub removal_fed : AllFed l → AllFed left_over
   removal_fed a =
       let b = all_removal (Fed l) (λ x s f. record { joined = f.joined; feeder = f.feeder; sender = f.sender }) c (without_first p l) (ListLaws.all_without (Fed l) p l a) in
       ListLaws.all_two (λ x. Fed l x × (ends_stream c handed ≡ true → in_stream c.fixed.toid x ≡ false)) (λ x. (g : Conn → Bool) → g x ≡ true → any g left_over ≡ true) (Fed left_over)
@@ -196,7 +196,7 @@ joined_stream true none toid dest torpi e k = clash true refl (cc)
 joined_stream false x toid dest torpi e k = clash true refl (cc)
 
 -- the new connection: it joins a stream that is fed and sent, or sends its own
-module _ (now : ℕ) (q : ForwardOpen) (g : Origin) (l : List Conn) (n : ℕ) (p : Plan) (a : Admitted q (fixeds l) p) (fed : All_fed l) where
+module _ (now : ℕ) (q : ForwardOpen) (g : Origin) (l : List Conn) (n : ℕ) (p : Plan) (a : Admitted q (fixeds l) p) (fed : AllFed l) where
   carries_is : (f : Fixed) → carries q a.roles f ≡ true → (f.multicast ≡ true) × (not (is_listener f.kind) ≡ true)
   carries_is f y =
       let i = eqb f.input a.roles.input in
@@ -249,7 +249,7 @@ module _ (now : ℕ) (q : ForwardOpen) (g : Origin) (l : List Conn) (n : ℕ) (p
         sender = λ y. grown (source (new_conn now q g p n).fixed.toid) (subst (λ j. any (source j) l ≡ true) (sym id) (joined_sent f x));
       })
 
-  open_fed : All_fed (l ++ (new_conn now q g p n ∷ []))
+  open_fed : AllFed (l ++ (new_conn now q g p n ∷ []))
   open_fed =
       ListLaws.all_append (Fed (l ++ (new_conn now q g p n ∷ []))) l (new_conn now q g p n)
       (ListLaws.all_to (Fed l) (Fed (l ++ (new_conn now q g p n ∷ [])))
@@ -270,12 +270,12 @@ module _ (u : Conn → Conn) (same : (c : Conn) → (u c).fixed ≡ c.fixed) (sa
       subst (λ (x : Fixed). Fed m (record { fixed = x; heard = (u c).heard; sent = (u c).sent })) (sym (same c))
       (record { joined = k.joined; feeder = λ y. sym (f c.fixed.toid) ∙ k.feeder y; sender = λ y. sym (g c.fixed.toid) ∙ k.sender y })
 
-  map_fed : (l : List Conn) → All_fed l → All_fed (map u l)
+  map_fed : (l : List Conn) → AllFed l → AllFed (map u l)
   map_fed l a =
       ListLaws.all_mapped u (Fed l) (Fed (map u l))
       (fed_same l (map u l) (λ j. sym (ListLaws.any_map u (feeds j) (feeds j) (feeds_same j) l)) (λ j. sym (ListLaws.any_map u (source j) (source j) (source_same j) l))) l a
 
-  change_fed : (p : Conn → Bool) (l : List Conn) → All_fed l → All_fed (change_first p u l)
+  change_fed : (p : Conn → Bool) (l : List Conn) → AllFed l → AllFed (change_first p u l)
   change_fed p l a =
       let m = change_first p u l in
       let f : (j : ToId) → any (feeds j) l ≡ any (feeds j) m = λ j. sym (ListLaws.any_change (feeds j) p u (feeds_same j) l) in
@@ -283,16 +283,16 @@ module _ (u : Conn → Conn) (same : (c : Conn) → (u c).fixed ≡ c.fixed) (sa
       ListLaws.all_change (Fed m) p u (fed_same m m (λ j. refl) (λ j. refl)) l
       (ListLaws.all_to (Fed l) (Fed m) (λ x k. record { joined = k.joined; feeder = λ y. sym (f x.fixed.toid) ∙ k.feeder y; sender = λ y. sym (g x.fixed.toid) ∙ k.sender y }) l a)
 
-abbrev Fed_state : State → Type 0
-Fed_state s = All_fed s.table
+abbrev FedState : State → Type 0
+FedState s = AllFed s.table
 
-opening : (t : ℕ) (request : List ℕ) (q : ForwardOpen) (g : Origin) (p : Plan) (s : State) → verdict_of request q s ≡ Planned p → Fed_state s →
-    Fed_state (opened t q g (config_bytes request q) p s)
+opening : (t : ℕ) (request : List ℕ) (q : ForwardOpen) (g : Origin) (p : Plan) (s : State) → verdict_of request q s ≡ Planned p → FedState s →
+    FedState (opened t q g (config_bytes request q) p s)
 unfolding opened
 opening t request q g p s e a = open_fed t q g s.table s.nextId p (admitted request q s p e) a
 
-removing : (fault : Bool) (why : Info → Event) (p : Conn → Bool) (c : Conn) (s : State) → find p s.table ≡ some c → Fed_state s →
-    Fed_state (removed fault why c (without_first p s.table) s)
+removing : (fault : Bool) (why : Info → Event) (p : Conn → Bool) (c : Conn) (s : State) → find p s.table ≡ some c → FedState s →
+    FedState (removed fault why c (without_first p s.table) s)
 unfolding removed
 removing fault why p c s e a = removal_fed p c s.table e a
 
@@ -309,19 +309,19 @@ unfolding sent
 sends_sent now c =
     either_way (λ (x : Conn). produces x.sent.due ≡ produces c.sent.due) (due now c) (still_produces now c.fixed.torpi c.sent.due) refl
 
-hearing : (t from : ℕ) (f : Frame) (s : State) → Fed_state s → Fed_state (received t from f s)
+hearing : (t from : ℕ) (f : Frame) (s : State) → FedState s → FedState (received t from f s)
 unfolding received
 hearing t from f s a = change_fed (hear t f) (hear_fixed t f) (hear_sent t f) (meant_for from f) s.table a
 
-producing : (t : ℕ) (s : State) → Fed_state s → Fed_state (produce_effect t s)
+producing : (t : ℕ) (s : State) → FedState s → FedState (produce_effect t s)
 unfolding produce_effect
 producing t s a = map_fed (sends t) (send_fixed t) (sends_sent t) s.table a
 
-noting : (s : State) → Fed_state s → Fed_state (next_event_effect s)
+noting : (s : State) → FedState s → FedState (next_event_effect s)
 unfolding next_event_effect
 noting s a = a
 
-fed_kept : Kept Fed_state
+fed_kept : Kept FedState
 fed_kept =
     record {
       quiet = record { producing = producing; setting = λ n i bytes s e a. a; reading = λ n i s e a. a; noting = noting };
@@ -331,6 +331,6 @@ fed_kept =
     }
 
 -- NO DISPLAY STAYS JOINED TO A STREAM THAT NOBODY SENDS
-pub streams_are_fed : (u : Setup) (seed : ℕ) (cs : List Call) → All_fed (run cs (fresh u seed)).table
+pub streams_are_fed : (u : Setup) (seed : ℕ) (cs : List Call) → AllFed (run cs (fresh u seed)).table
 unfolding fresh
-streams_are_fed u seed cs = run_kept Fed_state fed_kept cs (fresh u seed) tt
+streams_are_fed u seed cs = run_kept FedState fed_kept cs (fresh u seed) tt

@@ -40,50 +40,50 @@ pub data Paired (A : ℕ) : List Call → List Call → Type 0 where
 abbrev pub removes : ℕ → Triad → State → Bool
 removes t d s = in_table s.table d && not (in_table (next (Calls.Expire t) s).table d)
 
-abbrev pub Removes_alike : Call → State → State → Type 0
-Removes_alike (Calls.Open t service request g room) s r = Unit {0}
-Removes_alike (Calls.OpenRefusal service request room) s r = Unit {0}
-Removes_alike (Calls.Close request room) s r = Unit {0}
-Removes_alike (Calls.Receive t from frame) s r = Unit {0}
-Removes_alike (Calls.Produce t room) s r = Unit {0}
-Removes_alike (Calls.Expire t) s r = (d : Triad) → removes t d s ≡ removes t d r
-Removes_alike (Calls.Deadline room) s r = Unit {0}
-Removes_alike (Calls.SetInput n bytes) s r = Unit {0}
-Removes_alike (Calls.ReadOutput n room) s r = Unit {0}
-Removes_alike (Calls.ReadAssembly kind n room) s r = Unit {0}
-Removes_alike (Calls.NextEvent room) s r = Unit {0}
-Removes_alike (Calls.Connections room) s r = Unit {0}
-Removes_alike (Calls.Stats room) s r = Unit {0}
-Removes_alike (Calls.Message local mask message room position) s r = Unit {0}
+abbrev pub RemovesAlike : Call → State → State → Type 0
+RemovesAlike (Calls.Open t service request g room) s r = Unit {0}
+RemovesAlike (Calls.OpenRefusal service request room) s r = Unit {0}
+RemovesAlike (Calls.Close request room) s r = Unit {0}
+RemovesAlike (Calls.Receive t from frame) s r = Unit {0}
+RemovesAlike (Calls.Produce t room) s r = Unit {0}
+RemovesAlike (Calls.Expire t) s r = (d : Triad) → removes t d s ≡ removes t d r
+RemovesAlike (Calls.Deadline room) s r = Unit {0}
+RemovesAlike (Calls.SetInput n bytes) s r = Unit {0}
+RemovesAlike (Calls.ReadOutput n room) s r = Unit {0}
+RemovesAlike (Calls.ReadAssembly kind n room) s r = Unit {0}
+RemovesAlike (Calls.NextEvent room) s r = Unit {0}
+RemovesAlike (Calls.Connections room) s r = Unit {0}
+RemovesAlike (Calls.Stats room) s r = Unit {0}
+RemovesAlike (Calls.Message local mask message room position) s r = Unit {0}
 
-abbrev pub Same_expiries : {A : ℕ} {cs ds : List Call} → Paired A cs ds → State → State → Type 0
-Same_expiries end s r = Unit {0}
-Same_expiries (both c p) s r = Removes_alike c s r × Same_expiries p (next c s) (next c r)
-Same_expiries {A} (first_only t frame p) s r = Same_expiries p (next (Calls.Receive t A frame) s) r
-Same_expiries {A} (second_only t frame p) s r = Same_expiries p s (next (Calls.Receive t A frame) r)
+abbrev pub SameExpiries : {A : ℕ} {cs ds : List Call} → Paired A cs ds → State → State → Type 0
+SameExpiries end s r = Unit {0}
+SameExpiries (both c p) s r = RemovesAlike c s r × SameExpiries p (next c s) (next c r)
+SameExpiries {A} (first_only t frame p) s r = SameExpiries p (next (Calls.Receive t A frame) s) r
+SameExpiries {A} (second_only t frame p) s r = SameExpiries p s (next (Calls.Receive t A frame) r)
 
 -- the answers that are the same; of event reads, deadlines, messages and of what an output holds nothing is said
-abbrev pub Answered_alike : Call → State → State → Type 0
-Answered_alike (Calls.Open t service request g room) s r = answer (Calls.Open t service request g room) s ≡ answer (Calls.Open t service request g room) r
-Answered_alike (Calls.OpenRefusal service request room) s r = answer (Calls.OpenRefusal service request room) s ≡ answer (Calls.OpenRefusal service request room) r
-Answered_alike (Calls.Close request room) s r = answer (Calls.Close request room) s ≡ answer (Calls.Close request room) r
-Answered_alike (Calls.Receive t from frame) s r = answer (Calls.Receive t from frame) s ≡ answer (Calls.Receive t from frame) r
-Answered_alike (Calls.Produce t room) s r = answer (Calls.Produce t room) s ≡ answer (Calls.Produce t room) r
-Answered_alike (Calls.Expire t) s r = answer (Calls.Expire t) s ≡ answer (Calls.Expire t) r
-Answered_alike (Calls.Deadline room) s r = Unit {0}
-Answered_alike (Calls.SetInput n bytes) s r = answer (Calls.SetInput n bytes) s ≡ answer (Calls.SetInput n bytes) r
-Answered_alike (Calls.ReadOutput n room) s r = Unit {0}
-Answered_alike (Calls.ReadAssembly kind n room) s r = Unit {0}
-Answered_alike (Calls.NextEvent room) s r = Unit {0}
-Answered_alike (Calls.Connections room) s r = answer (Calls.Connections room) s ≡ answer (Calls.Connections room) r
-Answered_alike (Calls.Stats room) s r = answer (Calls.Stats room) s ≡ answer (Calls.Stats room) r
-Answered_alike (Calls.Message local mask message room position) s r = Unit {0}
+abbrev pub AnsweredAlike : Call → State → State → Type 0
+AnsweredAlike (Calls.Open t service request g room) s r = answer (Calls.Open t service request g room) s ≡ answer (Calls.Open t service request g room) r
+AnsweredAlike (Calls.OpenRefusal service request room) s r = answer (Calls.OpenRefusal service request room) s ≡ answer (Calls.OpenRefusal service request room) r
+AnsweredAlike (Calls.Close request room) s r = answer (Calls.Close request room) s ≡ answer (Calls.Close request room) r
+AnsweredAlike (Calls.Receive t from frame) s r = answer (Calls.Receive t from frame) s ≡ answer (Calls.Receive t from frame) r
+AnsweredAlike (Calls.Produce t room) s r = answer (Calls.Produce t room) s ≡ answer (Calls.Produce t room) r
+AnsweredAlike (Calls.Expire t) s r = answer (Calls.Expire t) s ≡ answer (Calls.Expire t) r
+AnsweredAlike (Calls.Deadline room) s r = Unit {0}
+AnsweredAlike (Calls.SetInput n bytes) s r = answer (Calls.SetInput n bytes) s ≡ answer (Calls.SetInput n bytes) r
+AnsweredAlike (Calls.ReadOutput n room) s r = Unit {0}
+AnsweredAlike (Calls.ReadAssembly kind n room) s r = Unit {0}
+AnsweredAlike (Calls.NextEvent room) s r = Unit {0}
+AnsweredAlike (Calls.Connections room) s r = answer (Calls.Connections room) s ≡ answer (Calls.Connections room) r
+AnsweredAlike (Calls.Stats room) s r = answer (Calls.Stats room) s ≡ answer (Calls.Stats room) r
+AnsweredAlike (Calls.Message local mask message room position) s r = Unit {0}
 
-abbrev pub All_answered_alike : {A : ℕ} {cs ds : List Call} → Paired A cs ds → State → State → Type 0
-All_answered_alike end s r = Unit {0}
-All_answered_alike (both c p) s r = Answered_alike c s r × All_answered_alike p (next c s) (next c r)
-All_answered_alike {A} (first_only t frame p) s r = All_answered_alike p (next (Calls.Receive t A frame) s) r
-All_answered_alike {A} (second_only t frame p) s r = All_answered_alike p s (next (Calls.Receive t A frame) r)
+abbrev pub AllAnsweredAlike : {A : ℕ} {cs ds : List Call} → Paired A cs ds → State → State → Type 0
+AllAnsweredAlike end s r = Unit {0}
+AllAnsweredAlike (both c p) s r = AnsweredAlike c s r × AllAnsweredAlike p (next c s) (next c r)
+AllAnsweredAlike {A} (first_only t frame p) s r = AllAnsweredAlike p (next (Calls.Receive t A frame) s) r
+AllAnsweredAlike {A} (second_only t frame p) s r = AllAnsweredAlike p s (next (Calls.Receive t A frame) r)
 
 -- the connections of other addresses
 abbrev pub other : ℕ → Conn → Bool
@@ -93,15 +93,15 @@ other A c = not (eqb c.fixed.originator A)
 abbrev pub owned_by : ℕ → ℕ → Conn → Bool
 owned_by A i c = eqb c.fixed.originator A && owns i c.fixed
 
-abbrev pub Never_owned : ℕ → ℕ → List Call → State → Type 0
-Never_owned A i [] s = any (owned_by A i) s.table ≡ false
-Never_owned A i (c ∷ cs) s = (any (owned_by A i) s.table ≡ false) × Never_owned A i cs (next c s)
+abbrev pub NeverOwned : ℕ → ℕ → List Call → State → Type 0
+NeverOwned A i [] s = any (owned_by A i) s.table ≡ false
+NeverOwned A i (c ∷ cs) s = (any (owned_by A i) s.table ≡ false) × NeverOwned A i cs (next c s)
 
 -- THE CONCLUSION
 pub record Independent {A : ℕ} {cs ds : List Call} (p : Paired A cs ds) (s : State) : Type 0 where
   pub connections : keep (other A) (run cs s).table ≡ keep (other A) (run ds s).table
-  pub answers : All_answered_alike p s s
-  pub assemblies : (i : ℕ) → Never_owned A i cs s → get_or (run cs s).contents i no_content ≡ get_or (run ds s).contents i no_content
+  pub answers : AllAnsweredAlike p s s
+  pub assemblies : (i : ℕ) → NeverOwned A i cs s → get_or (run cs s).contents i no_content ≡ get_or (run ds s).contents i no_content
 
 -- ---- the proof
 
@@ -171,8 +171,8 @@ module _ (A : ℕ) (o : ℕ → Bool) (u : Setup) (sparing : Sparing o u) where
       (λ l. Seen.joined_map (hide A) (λ c. info_record 0 (info_of r.setup c.fixed)) (λ c. refl) l) s.table r.table a.table
 
   -- one call
-  one_call : (c : Call) (s r : State) → Alike A o s r → Sound u s → Sound u r → Covers A o s.table → Removes_alike c s r →
-      Answered_alike c s r × Alike A o (next c s) (next c r)
+  one_call : (c : Call) (s r : State) → Alike A o s r → Sound u s → Sound u r → Covers A o s.table → RemovesAlike c s r →
+      AnsweredAlike c s r × Alike A o (next c s) (next c r)
   unfolding open_call close_call receive_call produce_call set_input_call next_event_call connections_answer stats_answer
   one_call (Calls.Open t service request g room) s r a hs hr c e =
       let x = Seen.open_says_alike A o s r a t service request g room in
@@ -201,8 +201,8 @@ module _ (A : ℕ) (o : ℕ → Bool) (u : Setup) (sparing : Sparing o u) where
   one_call (Calls.Message local mask message room position) s r a hs hr c e = (tt, a)
 
   -- THE INDUCTION
-  independent : {cs ds : List Call} (p : Paired A cs ds) (s r : State) → Alike A o s r → Sound u s → Sound u r → Covered A o cs s → Same_expiries p s r →
-      All_answered_alike p s r × Alike A o (run cs s) (run ds r)
+  independent : {cs ds : List Call} (p : Paired A cs ds) (s r : State) → Alike A o s r → Sound u s → Sound u r → Covered A o cs s → SameExpiries p s r →
+      AllAnsweredAlike p s r × Alike A o (run cs s) (run ds r)
   independent end s r a hs hr c e = (tt, a)
   independent (both x p) s r a hs hr c e =
       let b = one_call x s r a hs hr c.0 e.0 in
@@ -241,7 +241,7 @@ never_stray u A i l e w =
     ListLaws.none_is (stray A (but u i)) l
     (ListLaws.all_two (λ c. owned_by A i c ≡ false) (Owning u) (λ c. stray A (but u i) c ≡ false) (stray_owned u A i) l (ListLaws.none_passes (owned_by A i) l e) w)
 
-never_covered : (u : Setup) (A i : ℕ) (cs : List Call) (s : State) → Sound u s → Never_owned A i cs s → Covered A (but u i) cs s
+never_covered : (u : Setup) (A i : ℕ) (cs : List Call) (s : State) → Sound u s → NeverOwned A i cs s → Covered A (but u i) cs s
 never_covered u A i [] s h n = never_stray u A i s.table n h.outputs
 never_covered u A i (c ∷ cs) s h n = (never_stray u A i s.table n.0 h.outputs, never_covered u A i cs (next c s) (sound u c s h) n.1)
 
@@ -265,7 +265,7 @@ all_covered u A [] s h = all_covers u A s.table h.outputs
 all_covered u A (c ∷ cs) s h = (all_covers u A s.table h.outputs, all_covered u A cs (next c s) (sound u c s h))
 
 -- from any sound state
-pub from_sound : (A : ℕ) (u : Setup) (s : State) → Sound u s → {cs ds : List Call} (p : Paired A cs ds) → Same_expiries p s s → Independent p s
+pub from_sound : (A : ℕ) (u : Setup) (s : State) → Sound u s → {cs ds : List Call} (p : Paired A cs ds) → SameExpiries p s s → Independent p s
 from_sound A u s h {cs} {ds} p e =
     let all = independent A (outs u) u (outs_spare u) p s s (itself A (outs u) s) h h (all_covered u A cs s h) e in
     record {
@@ -278,7 +278,7 @@ from_sound A u s h {cs} {ds} p e =
     }
 
 -- DEMAND 3
-pub demand_3 : (A : ℕ) (u : Setup) (seed : ℕ) {cs ds : List Call} (p : Paired A cs ds) → Same_expiries p (fresh u seed) (fresh u seed) → Independent p (fresh u seed)
+pub demand_3 : (A : ℕ) (u : Setup) (seed : ℕ) {cs ds : List Call} (p : Paired A cs ds) → SameExpiries p (fresh u seed) (fresh u seed) → Independent p (fresh u seed)
 demand_3 A u seed p e = from_sound A u (fresh u seed) (fresh_sound u seed) p e
 
 -- an assembly that is no output is never owned: inputs and configuration are equal in both runs
@@ -293,10 +293,10 @@ no_owner u A i n c w =
 no_owners : (u : Setup) (A i : ℕ) → is_output (shape_at u i).kind ≡ false → (l : List Conn) → All (Owning u) l → any (owned_by A i) l ≡ false
 no_owners u A i n l w = ListLaws.none_is (owned_by A i) l (ListLaws.all_to (Owning u) (λ c. owned_by A i c ≡ false) (no_owner u A i n) l w)
 
-never_owned : (u : Setup) (A i : ℕ) → is_output (shape_at u i).kind ≡ false → (cs : List Call) (s : State) → Sound u s → Never_owned A i cs s
+never_owned : (u : Setup) (A i : ℕ) → is_output (shape_at u i).kind ≡ false → (cs : List Call) (s : State) → Sound u s → NeverOwned A i cs s
 never_owned u A i n [] s h = no_owners u A i n s.table h.outputs
 never_owned u A i n (c ∷ cs) s h = (no_owners u A i n s.table h.outputs, never_owned u A i n cs (next c s) (sound u c s h))
 
-pub inputs_equal : (A : ℕ) (u : Setup) (seed : ℕ) {cs ds : List Call} (p : Paired A cs ds) → Same_expiries p (fresh u seed) (fresh u seed) →
+pub inputs_equal : (A : ℕ) (u : Setup) (seed : ℕ) {cs ds : List Call} (p : Paired A cs ds) → SameExpiries p (fresh u seed) (fresh u seed) →
     (i : ℕ) → is_output (shape_at u i).kind ≡ false → get_or (run cs (fresh u seed)).contents i no_content ≡ get_or (run ds (fresh u seed)).contents i no_content
 inputs_equal A u seed {cs} p e i n = (demand_3 A u seed p e).assemblies i (never_owned u A i n cs (fresh u seed) (fresh_sound u seed))

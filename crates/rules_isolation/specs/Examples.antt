@@ -29,7 +29,7 @@ use Rattle.rules.proofs.Examples.{setup, start, ask, from, points, ending}
 use Rattle.rules.specs.State.{State, triad_is}
 use Rattle.rules_steps.specs.Names.{Triad, Conn}
 use Rattle.rules_isolation.specs.Survive.{triad_of, in_table}
-use Rattle.rules_isolation.specs.Demand.{removes, Paired, end, both, second_only, Same_expiries, other, Independent, demand_3}
+use Rattle.rules_isolation.specs.Demand.{removes, Paired, end, both, second_only, SameExpiries, other, Independent, demand_3}
 
 -- an open of serial number n at a point, multicast, with an O→T RPI that decides the timeout
 abbrev opening : ℕ → ℕ → ℕ → ℕ → Call
@@ -119,7 +119,7 @@ removes_all t s ts e f d =
     ap₂ (λ a (l : List Conn). a && not (in_table l d)) (sym (any_map triad_of (triad_is d) (conn_triad d) (λ c. refl) s.table) ∙ ap (any (triad_is d)) e) f
 
 -- the same connections are gone, so the premise is met
-pub premise_met : Same_expiries pair start start
+pub premise_met : SameExpiries pair start start
 premise_met = (
   tt,
   (

@@ -79,10 +79,10 @@ module _ (u : Setup) (n i : ℕ) (there : place_of is_output u n ≡ some i) (se
   told_by c = learnt (word_of u n (shape_at u i).size) (news c (answer c before)) told
 
   -- a call that opens nothing
-  abbrev Opens_none : Call → Type 0
-  Opens_none c = (d : ℕ) → learnt opens (news c (answer c (run cs (fresh u seed)))) d ≡ d
+  abbrev OpensNone : Call → Type 0
+  OpensNone c = (d : ℕ) → learnt opens (news c (answer c (run cs (fresh u seed)))) d ≡ d
 
-  obeys_next : (c : Call) → Opens_none c → (content_at (next c before) i).run ≡ in_run (told_by c)
+  obeys_next : (c : Call) → OpensNone c → (content_at (next c before) i).run ≡ in_run (told_by c)
   obeys_next c none_open =
       let few' : early (accepted u n i there seed small (cs ++ (c ∷ []))) ≡ true = ap early (history_next opens cs c (fresh u seed) 0 ∙ none_open (accepted u n i there seed small cs)) ∙ few in
       ap (λ (s : State). (content_at s i).run) (sym (run_next cs c (fresh u seed))) ∙ (lane_obeys u n i there seed small (cs ++ (c ∷ [])) few').run ∙
@@ -94,7 +94,7 @@ module _ (u : Setup) (n i : ℕ) (there : place_of is_output u n ≡ some i) (se
   frame_says size t from f none x y = clash true refl (sym y)
   frame_says size t from f (some m) x y = ap (λ b. maybe false says_run (cond b (some f) x)) y
 
-  frame_opens_none : (t from : ℕ) (frame : List ℕ) (f : Frame) → timely t ≡ true → frame_of frame (io_of frame) ≡ some f → Opens_none (Calls.Receive t from frame)
+  frame_opens_none : (t from : ℕ) (frame : List ℕ) (f : Frame) → timely t ≡ true → frame_of frame (io_of frame) ≡ some f → OpensNone (Calls.Receive t from frame)
   unfolding receive_call receive_answer
   frame_opens_none t from frame f y e d = rw (y, e) refl
 
@@ -135,7 +135,7 @@ module _ (u : Setup) (n i : ℕ) (there : place_of is_output u n ≡ some i) (se
       by_silence z = rw (y, o, z) refl
 
 -- ---- WHAT IS IN RUN WAS HEARD
-pub record Heard_lately (t : ℕ) (w : Word) : Type 0 where
+pub record HeardLately (t : ℕ) (w : Word) : Type 0 where
   pub who : Contact
   pub owner : w.owner ≡ some who
   pub recorded : is_some who.last ≡ true
@@ -161,7 +161,7 @@ not_silent t m k = let h = ltb-false m.timeout (t - m.at) k in omega arith
 
 lately_heard : (t : ℕ) (o : Option Contact) (x y : Option Frame) → not (is_some x) || maybe true (λ m. is_some m.last) o ≡ true →
     let o' = maybe none (λ m. cond (silent t m) none (some m)) o in
-    maybe false (λ m. maybe false says_run x) o' ≡ true → Heard_lately t (record { owner = o'; said = x; taken = y })
+    maybe false (λ m. maybe false says_run x) o' ≡ true → HeardLately t (record { owner = o'; said = x; taken = y })
 lately_heard t none x y h k = clash true refl (sym k)
 lately_heard t (some m) x y h k =
     by_cases (silent t m)
@@ -178,7 +178,7 @@ module _ (u : Setup) (n i : ℕ) (there : place_of is_output u n ≡ some i) (se
 
   -- AFTER AN EXPIRY CALL at time t, what is in run has an owner with a recorded frame at most its timeout before t
   pub in_run_was_heard : (t : ℕ) → timely t ≡ true → (content_at (next (Calls.Expire t) (run cs (fresh u seed))) i).run ≡ true →
-      Heard_lately t (word u n i there seed small (cs ++ (Calls.Expire t ∷ [])))
+      HeardLately t (word u n i there seed small (cs ++ (Calls.Expire t ∷ [])))
   unfolding expire_call expire_answer
   in_run_was_heard t y k =
       let w = word u n i there seed small cs in
@@ -186,4 +186,4 @@ module _ (u : Setup) (n i : ℕ) (there : place_of is_output u n ≡ some i) (se
       let z : learnt (word_of u n (shape_at u i).size) (news (Calls.Expire t) (answer (Calls.Expire t) (run cs (fresh u seed)))) w ≡ w' = rw y refl in
       let e : word u n i there seed small (cs ++ (Calls.Expire t ∷ [])) ≡ w' = history_next (word_of u n (shape_at u i).size) cs (Calls.Expire t) (fresh u seed) no_word ∙ z in
       let r : in_run w' ≡ true = sym (obeys_next u n i there seed small cs few (Calls.Expire t) (λ d. rw y refl) ∙ ap in_run z) ∙ k in
-      subst (Heard_lately t) (sym e) (lately_heard t w.owner w.said w.taken (always_spoken u n (shape_at u i).size cs (fresh u seed) no_word refl) r)
+      subst (HeardLately t) (sym e) (lately_heard t w.owner w.said w.taken (always_spoken u n (shape_at u i).size cs (fresh u seed) no_word refl) r)
