@@ -15,7 +15,7 @@ import sys
 
 WORD = re.compile(r"[^\s(){}\[\];,.\"«»:]+")
 HEAD = re.compile(r"((?:(?:pub|abbrev|unfoldable)\s+)*)(?:(?:data|record)\s+)?([^\s(){}\[\];,.\"«»:]+)(?:\s*[({][^:]*)?\s*:(?:\s|$)")
-FIELD = re.compile(r"[;{]?\s*([^\s(){}\[\];,.\"«»:]+)\s*:\s")
+FIELD = re.compile(r"(?:[;{]\s*)?(?:pub\s+)?([^\s(){}\[\];,.\"«»:]+)\s*:\s")
 USE = re.compile(r"(?:pub |ghost )?use\s+([^\s{;]+?)(?:\.\{([^}]*)\}|\s+as\s+\S+)?;?\s*$")
 
 # old name: new name, where the rule alone would make two names one
@@ -41,7 +41,7 @@ def text(path):
 
 
 def of_one_function(path):
-    return path.endswith(("/Proof.antt", "/Answers.antt", "/Invariants.antt"))
+    return bool(re.search(r"/proofs/.+/(Proof|Answers|Invariants)\.antt$", path))
 
 
 def declared(source):

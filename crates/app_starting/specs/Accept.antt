@@ -180,7 +180,7 @@ module _ (block eds : List ℕ) (long : length block ≡ 192) (f : le 4 block 4 
       ap₂ (λ (n : ℕ) (z : List ℕ). name_ok (take n z)) (low_same block eds 2 (omega arith)) (rest_same block eds 46 (omega arith))
       ∙ name_fits (le 1 block 2) 46 (leb-true (le 1 block 2) 32 (all_at (tests_setup block) g 2)) (omega arith)
 
-  eds_name_given : name_ok (setup_given block eds).edsName ≡ true
+  eds_name_given : name_ok (setup_given block eds).eds_name ≡ true
   unfolding setup_given good_setup
   eds_name_given =
       ap₂ (λ (n : ℕ) (z : List ℕ). name_ok (take n z)) (low_same block eds 3 (omega arith)) (rest_same block eds 78 (omega arith))
@@ -200,7 +200,7 @@ module _ (block eds : List ℕ) (long : length block ≡ 192) (f : le 4 block 4 
       (λ e. ap (λ (b : Bool). not b || eqb (length eds) 0) e ∙ ap (λ (b : Bool). cond b (eqb (length eds) 0) (leb (length eds) 65535)) (sym e) ∙ x)
       (λ e. ap (λ (b : Bool). not b || eqb (length eds) 0) e)
 
-  transfer_given : le 1 block 1 ≤ 255 → transfer_ok (setup_given block eds).transferLimit ≡ true
+  transfer_given : le 1 block 1 ≤ 255 → transfer_ok (setup_given block eds).transfer_limit ≡ true
   unfolding setup_given good_setup
   transfer_given h =
       let p = ltb-true 0 (le 1 block 1) (all_at (tests_setup block) g 1) in
@@ -217,6 +217,6 @@ module _ (block eds : List ℕ) (long : length block ≡ 192) (f : le 4 block 4 
       (last_of (eqb (length block) 192) (leb (le 4 block 4) 1) (not (eqb (le 4 block 4) 0) || eqb (length eds) 0)
       (all (rows 5 kind_given (assemblies_of block) (drop shapes_at block))) (setup_ok u)
       (eq-eqb (length block) 192 long) (le-leb (le 4 block 4) 1 f) bytes_given (shapes_split (assemblies_of block) (drop shapes_at block) z).0
-      ∙ first_of_five (assemblies_ok u.assemblies) (name_ok u.identity.name) (name_ok u.edsName) (eds_ok u.eds) (transfer_ok u.transferLimit)
+      ∙ first_of_five (assemblies_ok u.assemblies) (name_ok u.identity.name) (name_ok u.eds_name) (eds_ok u.eds) (transfer_ok u.transfer_limit)
       name_given eds_name_given eds_given (transfer_given (let b = le_1 block 1 in omega arith))
       ∙ assemblies_told z)

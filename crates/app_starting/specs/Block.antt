@@ -7,7 +7,7 @@ use Rattle.base_cells.specs.Pick.{pick}
 use Rattle.base_tables.specs.Tables.{rows}
 use Rattle.base_tables.specs.Regions.{joined}
 use Rattle.rules.specs.State.{Shape, Setup}
-use Rattle.rules.specs.Answers.{Done, Refused, BadSetup, answerNumber}
+use Rattle.rules.specs.Answers.{Done, Refused, BadSetup, answer_number}
 use Rattle.rules.specs.Setup.{within, setup_ok, first_id}
 use Rattle.state_rules.specs.Places.{w_head, instances_at, sizes_at, kinds_at, table_size, events_size, data_size, state_size, assemblies_of}
 use Rattle.state_rules.specs.Setups.{kind_named, setup_with}
@@ -101,5 +101,5 @@ started block eds seed = joined (regions_fresh block eds seed)
 unfoldable pub setup_call : List ℕ → List ℕ → List ℕ → ℕ → ℕ × List ℕ
 setup_call l block eds seed =
     pick (eqb (length l) state_size)
-    (pick (accepted block eds) (answerNumber Done, started block eds seed) (answerNumber (Refused BadSetup), l))
+    (pick (accepted block eds) (answer_number Done, started block eds seed) (answer_number (Refused BadSetup), l))
     (1, l)

@@ -4,7 +4,7 @@ use Rattle.std.proofs.Math.Path.{refl}
 use Rattle.std.proofs.Common.{ap, sym, ◌∙◌, arith, eqb-true, eq-eqb, ne_eqb}
 use Rattle.std.proofs.lemmas.Bool.{eqb-false}
 use Rattle.base_tables.specs.Ring.{by_cases}
-use Rattle.rules.specs.Answers.{answerNumber}
+use Rattle.rules.specs.Answers.{answer_number}
 use Rattle.rules.specs.Setup.{fresh}
 use Rattle.state_rules.specs.Places.{state_size}
 use Rattle.state_rules.specs.Image.{view, tested}
@@ -18,11 +18,11 @@ module _ (l block eds : List ℕ) (seed : ℕ) where
 
   module _ (h : length l ≡ state_size) where
     pub bad_setup : accepted block eds ≡ false → (2, l) ≡ setup_call l block eds seed
-    unfolding setup_call answerNumber
+    unfolding setup_call answer_number
     bad_setup e = rw (eq-eqb (length l) state_size h, e) refl
 
     pub set_up : accepted block eds ≡ true → (0, started block eds seed) ≡ setup_call l block eds seed
-    unfolding setup_call answerNumber
+    unfolding setup_call answer_number
     set_up e = rw (eq-eqb (length l) state_size h, e) refl
 
   -- whoever is answered 0 has the rules' fresh state, and it passes the state test

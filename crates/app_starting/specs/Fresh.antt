@@ -256,15 +256,15 @@ module _ (block eds : List ℕ) (seed : ℕ) (ok : accepted block eds ≡ true) 
               serial = number_same 4 16 (omega arith) i;
               name = name_same 2 46 (omega arith) (short_name block eds ok) (omega arith) i;
             };
-        inputOnly = number_same 4 20 (omega arith) i;
-        listenOnly = number_same 4 24 (omega arith) i;
-        rpiMin = number_same 4 28 (omega arith) i;
-        rpiMax = number_same 4 32 (omega arith) i;
+        input_only = number_same 4 20 (omega arith) i;
+        listen_only = number_same 4 24 (omega arith) i;
+        rpi_min = number_same 4 28 (omega arith) i;
+        rpi_max = number_same 4 32 (omega arith) i;
         late_limit = number_same 4 36 (omega arith) i;
-        transferLimit = number_same 1 1 (omega arith) i;
+        transfer_limit = number_same 1 1 (omega arith) i;
         mac = part_same 6 40 (omega arith) i;
         eds = eds_read i;
-        edsName = name_same 3 78 (omega arith) (short_eds_name block eds ok) (omega arith) i;
+        eds_name = name_same 3 78 (omega arith) (short_eds_name block eds ok) (omega arith) i;
         assemblies = shapes_same i;
       })
 
@@ -295,8 +295,8 @@ module _ (block eds : List ℕ) (seed : ℕ) (ok : accepted block eds ≡ true) 
         table = conns_in (number 5 i) (table_in s);
         events = record { gone = number 4 i / 2 % 1024; waiting = ring_of 32 record32 as_is (number 4 i / 2 % 1024) (number 4 i / 2048) (ring_in s) };
         fault = to_bool (number 4 i % 2);
-        nextId = number 3 i;
-        counters = record { produced = number 0 i; late = number 1 i; maxLate = number 2 i };
+        next_id = number 3 i;
+        counters = record { produced = number 0 i; late = number 1 i; max_late = number 2 i };
       }
 
   pub tested_started : tested (started block eds seed) ≡ true

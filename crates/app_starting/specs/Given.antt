@@ -103,11 +103,11 @@ module _ (block eds : List ℕ) (ok : accepted block eds ≡ true) where
   unfolding marked_block
   length_marked = length_put 4 block 4 (eds_mark (le 4 block 4) eds) ∙ long_block
 
-  chain : Five (assemblies_ok (setup_given block eds).assemblies) (name_ok (setup_given block eds).identity.name) (name_ok (setup_given block eds).edsName) (eds_ok (setup_given block eds).eds) (transfer_ok (setup_given block eds).transferLimit)
+  chain : Five (assemblies_ok (setup_given block eds).assemblies) (name_ok (setup_given block eds).identity.name) (name_ok (setup_given block eds).eds_name) (eds_ok (setup_given block eds).eds) (transfer_ok (setup_given block eds).transfer_limit)
   unfolding setup_ok
   chain =
-      five_of (assemblies_ok (setup_given block eds).assemblies) (name_ok (setup_given block eds).identity.name) (name_ok (setup_given block eds).edsName)
-      (eds_ok (setup_given block eds).eds) (transfer_ok (setup_given block eds).transferLimit) sizes_ok
+      five_of (assemblies_ok (setup_given block eds).assemblies) (name_ok (setup_given block eds).identity.name) (name_ok (setup_given block eds).eds_name)
+      (eds_ok (setup_given block eds).eds) (transfer_ok (setup_given block eds).transfer_limit) sizes_ok
 
   assemblies_chain : (leb (length (shapes_given block)) 16 ≡ true)
       × (not (any (λ a. not (shape_ok a)) (shapes_given block)) ≡ true)

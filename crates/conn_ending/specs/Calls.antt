@@ -21,7 +21,7 @@ use Rattle.wire_rules.specs.Replies.{close_reply}
 use Rattle.wire_replies.specs.ReplyLaws.{close_reply_long}
 use Rattle.rules.specs.Lists.{place, any}
 use Rattle.rules.specs.State.{State}
-use Rattle.rules.specs.Answers.{No, BadTime, NotParsed, NoRoom, NothingThere, noNumber, Answer, Wrote, Gone, Refused, is_yes, answerNumber, answerBytes, fitting}
+use Rattle.rules.specs.Answers.{No, BadTime, NotParsed, NoRoom, NothingThere, no_number, Answer, Wrote, Gone, Refused, is_yes, answer_number, answer_bytes, fitting}
 use Rattle.rules.specs.Removal.{conn_triad, closed, close_for, close_by, close_answer, close_effect, close_call, expire_effect, expire_answer, expire_call}
 use Rattle.rules.specs.declared.Conn.{Conn}
 use Rattle.base_ids.specs.declared.Triad.{Triad}
@@ -40,18 +40,18 @@ use Rattle.conn_ending.specs.Expiry.{EndsAll}
 
 -- a call's outcome over a held state: the answer's number, the state left and the answer's bytes
 pub record Settles (a : Answer) (after before : State) (r : ℕ) (s' out out' l : List ℕ) : Type 0 where
-  pub number : r ≡ answerNumber a
+  pub number : r ≡ answer_number a
   pub state : s' ≡ store (cond (is_yes a) after before) l
-  pub bytes : out' ≡ sets out 0 (answerBytes a)
+  pub bytes : out' ≡ sets out 0 (answer_bytes a)
 
 -- a no leaves everything as it was
-settles_no : (a : Answer) (w : No) (after before : State) (s out l : List ℕ) → Refused w ≡ a → s ≡ store before l → Settles a after before (noNumber w) s out out l
-unfolding answerNumber
+settles_no : (a : Answer) (w : No) (after before : State) (s out l : List ℕ) → Refused w ≡ a → s ≡ store before l → Settles a after before (no_number w) s out out l
+unfolding answer_number
 settles_no a w after before s out l e h =
     record {
-      number = ap answerNumber e;
+      number = ap answer_number e;
       state = h ∙ ap (λ (z : Answer). store (cond (is_yes z) after before) l) e;
-      bytes = ap (λ (z : Answer). sets out 0 (answerBytes z)) e;
+      bytes = ap (λ (z : Answer). sets out 0 (answer_bytes z)) e;
     }
 
 -- ---- close
@@ -70,15 +70,15 @@ module _ (i : ℕ) (t : Triad) (s out : List ℕ) where
       (ap (λ (b : Bool). cond b (Wrote (close_reply t)) (Refused NoRoom)) (sym (lt-leb (length (close_reply t)) (length out) (omega arith)))) o.holds.is
 
   pub close_done : 10 ≤ length out → (s' out' : List ℕ) (x : Written) → Turns s s' (gone_at 2 i) → (x, out') ≡ written out (close_reply t) → ClosesAt i t 2560 s s' out out'
-  unfolding answerNumber
+  unfolding answer_number
   close_done h s' out' x d e st l o =
       let n = close_reply_long t in
       let a : Wrote (close_reply t) ≡ reply_for t (length out) =
       ap (λ (b : Bool). cond b (Wrote (close_reply t)) (Refused NoRoom)) (sym (le-leb (length (close_reply t)) (length out) (omega arith))) in
       record {
-        number = ap (λ (k : ℕ). 2 ^ 8 * k) (sym n) ∙ ap answerNumber a;
+        number = ap (λ (k : ℕ). 2 ^ 8 * k) (sym n) ∙ ap answer_number a;
         state = (d st l o).holds.is ∙ ap (λ (z : Answer). store (cond (is_yes z) (gone_at 2 i st) st) l) a;
-        bytes = ap (λ (z : Written × List ℕ). z.1) (e ∙ written_all out (close_reply t) (omega arith)) ∙ ap (λ (z : Answer). sets out 0 (answerBytes z)) a;
+        bytes = ap (λ (z : Written × List ℕ). z.1) (e ∙ written_all out (close_reply t) (omega arith)) ∙ ap (λ (z : Answer). sets out 0 (answer_bytes z)) a;
       }
 
 abbrev pub ClosesFor : Triad → ℕ → List ℕ → List ℕ → List ℕ → List ℕ → Type 0
@@ -98,27 +98,27 @@ module _ (t : Triad) (s out : List ℕ) (n : ℕ) (x : Found) (en : n ≡ connec
       let a : reply_for t (length out) ≡ close_for (length out) st (Close t) =
       ap (λ (b : Bool). cond b (reply_for t (length out)) (Refused NothingThere)) (sym (place_any (conn_triad t) no_conn st.table i g)) in
       record {
-        number = y.number ∙ ap answerNumber a;
+        number = y.number ∙ ap answer_number a;
         state = y.state ∙ (λ j. store (cond (is_yes (a j)) (closed_is t st i g j) st) l);
-        bytes = y.bytes ∙ ap (λ (z : Answer). sets out 0 (answerBytes z)) a;
+        bytes = y.bytes ∙ ap (λ (z : Answer). sets out 0 (answer_bytes z)) a;
       }
 
 -- the call on lent bytes
 module _ (request l out : List ℕ) (ok : tested l ≡ true) (b : Bytes l) where
   pub close_unread : close_of request ≡ NoClose → (4, (l, out)) ≡ lifted_out (close_call request) l out
-  unfolding close_call close_answer close_effect answerNumber
+  unfolding close_call close_answer close_effect answer_number
   close_unread e =
       let a : Refused NotParsed ≡ close_for (length out) (view l) (close_of request) = ap (close_for (length out) (view l)) (sym e) in
-      out_kept (close_call request) l out ok b 4 (ap answerNumber a) (ap (λ (z : Answer). cond (is_yes z) (close_by (view l) (close_of request)) (view l)) (sym a)) (ap answerBytes (sym a))
+      out_kept (close_call request) l out ok b 4 (ap answer_number a) (ap (λ (z : Answer). cond (is_yes z) (close_by (view l) (close_of request)) (view l)) (sym a)) (ap answer_bytes (sym a))
 
   pub close_read : (t : Triad) → close_of request ≡ Close t → (r : ℕ) (l' out' : List ℕ) → ClosesFor t r l l' out out' → (r, (l', out')) ≡ lifted_out (close_call request) l out
   unfolding close_call close_answer close_effect
   close_read t e r l' out' d =
       let y = d (view l) l (held_tested l ok b) in
       let q : Close t ≡ close_of request = sym e in
-      out_done (close_call request) l out ok r l' out' (y.number ∙ ap (λ (z : CloseAnswer). answerNumber (close_for (length out) (view l) z)) q)
+      out_done (close_call request) l out ok r l' out' (y.number ∙ ap (λ (z : CloseAnswer). answer_number (close_for (length out) (view l) z)) q)
       (y.state ∙ ap (λ (z : CloseAnswer). store (cond (is_yes (close_for (length out) (view l) z)) (close_by (view l) z) (view l)) l) q)
-      (y.bytes ∙ ap (λ (z : CloseAnswer). sets out 0 (answerBytes (close_for (length out) (view l) z))) q)
+      (y.bytes ∙ ap (λ (z : CloseAnswer). sets out 0 (answer_bytes (close_for (length out) (view l) z))) q)
 
 -- ---- expire
 
@@ -127,18 +127,18 @@ module _ (time : ℕ) (l : List ℕ) (ok : tested l ≡ true) (b : Bytes l) wher
   gone = Gone (length (view l).table - length (expire_effect time (view l)).table)
 
   pub expire_late : 9223372036854775807 < time → (3, l) ≡ lifted (expire_call time) l
-  unfolding expire_call expire_answer answerNumber gone
+  unfolding expire_call expire_answer answer_number gone
   expire_late h =
       let a : Refused BadTime ≡ expire_answer time (view l) = ap (λ (v : Bool). cond v gone (Refused BadTime)) (sym (lt-leb time 9223372036854775807 h)) in
-      lifted_kept (expire_call time) l ok b 3 (ap answerNumber a) (ap (λ (z : Answer). cond (is_yes z) (expire_effect time (view l)) (view l)) (sym a))
+      lifted_kept (expire_call time) l ok b 3 (ap answer_number a) (ap (λ (z : Answer). cond (is_yes z) (expire_effect time (view l)) (view l)) (sym a))
 
   pub expire_done : time ≤ 9223372036854775807 → (r : ℕ) (l' : List ℕ) → EndsAll time r l l' → (r * 256, l') ≡ lifted (expire_call time) l
-  unfolding expire_call expire_answer answerNumber gone
+  unfolding expire_call expire_answer answer_number gone
   expire_done h r l' d =
       let y = d (view l) l (held_tested l ok b) in
       let a : gone ≡ expire_answer time (view l) = ap (λ (v : Bool). cond v gone (Refused BadTime)) (sym (le-leb time 9223372036854775807 h)) in
       let k : ℕ = length (view l).table - length (expire_effect time (view l)).table in
       let c : r ≡ k = y.count in
       let m : r * 256 ≡ 2 ^ 8 * k = omega arith in
-      lifted_done (expire_call time) l ok (r * 256) l' (m ∙ ap answerNumber a)
+      lifted_done (expire_call time) l ok (r * 256) l' (m ∙ ap answer_number a)
       (y.held.holds.is ∙ ap (λ (z : Answer). store (cond (is_yes z) (expire_effect time (view l)) (view l)) l) a)

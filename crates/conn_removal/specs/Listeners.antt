@@ -37,7 +37,7 @@ all_closed id st =
       table = keep (λ x. not (in_stream id x)) st.table;
       events = pushed_all (closed_events st.setup (keep (in_stream id) st.table)) st.events;
       fault = st.fault;
-      nextId = st.nextId;
+      next_id = st.next_id;
       counters = st.counters;
     }
 
@@ -66,7 +66,7 @@ all_none id st e =
       table = keep_others (in_stream id) st.table e j;
       events = pushed_all (closed_events st.setup (keep_none (in_stream id) st.table e j)) st.events;
       fault = st.fault;
-      nextId = st.nextId;
+      next_id = st.next_id;
       counters = st.counters;
     }
 
@@ -85,7 +85,7 @@ all_found id st c e =
       table = a j;
       events = pushed_all (closed_events st.setup (b j)) st.events;
       fault = st.fault;
-      nextId = st.nextId;
+      next_id = st.next_id;
       counters = st.counters;
     }
 
@@ -200,7 +200,7 @@ ended k multicast id st =
       table = cond (ends_for k multicast id st.table) (keep (λ x. not (in_stream id x)) st.table) st.table;
       events = pushed_all (closed_events st.setup (cond (ends_for k multicast id st.table) (keep (in_stream id) st.table) [])) st.events;
       fault = st.fault;
-      nextId = st.nextId;
+      next_id = st.next_id;
       counters = st.counters;
     }
 
@@ -213,7 +213,7 @@ ended_when k multicast id st true e =
       table = cond b (keep (λ x. not (in_stream id x)) st.table) st.table;
       events = pushed_all (closed_events st.setup (cond b (keep (in_stream id) st.table) [])) st.events;
       fault = st.fault;
-      nextId = st.nextId;
+      next_id = st.next_id;
       counters = st.counters;
     }) (sym e)
 ended_when k multicast id st false e =
@@ -223,7 +223,7 @@ ended_when k multicast id st false e =
       table = cond b (keep (λ x. not (in_stream id x)) st.table) st.table;
       events = pushed_all (closed_events st.setup (cond b (keep (in_stream id) st.table) [])) st.events;
       fault = st.fault;
-      nextId = st.nextId;
+      next_id = st.next_id;
       counters = st.counters;
     }) (sym e)
 

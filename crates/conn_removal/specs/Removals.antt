@@ -70,7 +70,7 @@ after fault e c st rest =
       table = after_removal c rest;
       events = pushed e (pushed_all (closed_events st.setup (listeners_of c (handed_over c rest))) st.events);
       fault = fault;
-      nextId = st.nextId;
+      next_id = st.next_id;
       counters = st.counters;
     }
 

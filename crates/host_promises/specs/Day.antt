@@ -24,7 +24,7 @@ use Rattle.wire_rules.specs.Params.{params_at}
 use Rattle.wire_rules.specs.Opens.{triad_at, way_at, place_at, fields_of, open_with, width_of, open_of}
 use Rattle.wire_rules.specs.Replies.{open_reply}
 use Rattle.rules.specs.State.{Setup, is_output}
-use Rattle.rules.specs.Answers.{Answer, Wrote, Gone, answerNumber, answerBytes}
+use Rattle.rules.specs.Answers.{Answer, Wrote, Gone, answer_number, answer_bytes}
 use Rattle.rules.specs.Setup.{setup_ok, fresh}
 use Rattle.rules.specs.Events.{info_of, info_record, event_record, oldest_gone, appended, pushed, pushed_all}
 use Rattle.rules.specs.Checks.{must, and_then, transport_check, path_check, revision_ok, key_stop, key_check, kind_of, place_of, points_check, roles_of, config_check, rpi_check, type_check, ot_size_check, to_size_check}
@@ -109,12 +109,12 @@ module _ (s s₁ s₂ s₃ : List ℕ) (a b c : Said) (set : (0, s) ≡ setup_ca
 
   -- the application is told run, and the frame's bytes
   pub told_run : (c.number ≡ 256 * 3) × (c.output ≡ 1 ∷ 0xAA ∷ 0xBB ∷ [])
-  unfolding answerNumber
+  unfolding answer_number
   told_run =
       let f = (run_is_ruled (replicate state_size 0) block [] 4 s set ran).answers.1.1.0 in
       let e : answer (call_of reads) (run (call_of opens ∷ call_of hears ∷ []) (fresh (setup_given block []) 4)) ≡ Wrote (1 ∷ 0xAA ∷ 0xBB ∷ []) =
       ap (λ (u : Setup). answer (call_of reads) (run (call_of opens ∷ call_of hears ∷ []) (fresh u 4))) block_says ∙ computed.0 in
-      (f.0 ∙ ap answerNumber e, f.1 ∙ ap (λ (x : Answer). sets (replicate 3 0) 0 (answerBytes x)) e)
+      (f.0 ∙ ap answer_number e, f.1 ∙ ap (λ (x : Answer). sets (replicate 3 0) 0 (answer_bytes x)) e)
 
   -- so a row of the table owns it
   pub its_owner : (i : ℕ) × (place_of is_output (view s₂).setup 150 ≡ some i) × Owner s₂ i
@@ -135,7 +135,7 @@ module _ (s s₁ s₂ s₃ : List ℕ) (a b c : Said) (set : (0, s) ≡ setup_ca
 module _ (s s₁ s₂ s₃ s₄ : List ℕ) (a b d c : Said) (set : (0, s) ≡ setup_call (replicate state_size 0) block [] 4) (opening : Met (contract_of opens) s s₁ a)
     (hearing : Met (contract_of hears) s₁ s₂ b) (expiring : Met (contract_of expires) s₂ s₃ d) (reading : Met (contract_of reads) s₃ s₄ c) where
   pub its_owner_was_heard : HeardLately 3000 (last_word (setup_given block []) 150 0 ((CCall.On opens, a) ∷ (CCall.On hears, b) ∷ (CCall.On expires, d) ∷ []))
-  unfolding place_of answerNumber
+  unfolding place_of answer_number
   its_owner_was_heard =
       let ran-all : Ran ((CCall.On opens, a) ∷ (CCall.On hears, b) ∷ (CCall.On expires, d) ∷ (CCall.On reads, c) ∷ []) s s₄ =
       one (CCall.On opens) a opening (one (CCall.On hears) b hearing (one (CCall.On expires) d expiring (one (CCall.On reads) c reading none))) in
@@ -147,8 +147,8 @@ module _ (s s₁ s₂ s₃ s₄ : List ℕ) (a b d c : Said) (set : (0, s) ≡ s
       let there : place_of is_output (setup_given block []) 150 ≡ some 0 = ap (λ (u : Setup). place_of is_output u 150) block_says in
       run_byte_was_heard (replicate state_size 0) block [] 4 s set (omega arith) 150 0 there
       (one (CCall.On opens) a opening (one (CCall.On hears) b hearing none)) (refl, (refl, tt)) (few_calls ((CCall.On opens, a) ∷ (CCall.On hears, b) ∷ []) (omega arith))
-      3000 s₃ d expiring (ap (λ (n : ℕ). n % 256) (f.0 ∙ ap answerNumber x)) (replicate 3 0) s₄ c reading
-      (ap (λ (n : ℕ). n % 256) (f.1.0.0 ∙ ap answerNumber y)) (ap (λ (l : List ℕ). get_or l 0 0) (f.1.0.1 ∙ ap (λ (z : Answer). sets (replicate 3 0) 0 (answerBytes z)) y))
+      3000 s₃ d expiring (ap (λ (n : ℕ). n % 256) (f.0 ∙ ap answer_number x)) (replicate 3 0) s₄ c reading
+      (ap (λ (n : ℕ). n % 256) (f.1.0.0 ∙ ap answer_number y)) (ap (λ (l : List ℕ). get_or l 0 0) (f.1.0.1 ∙ ap (λ (z : Answer). sets (replicate 3 0) 0 (answer_bytes z)) y))
 
 -- ---- and there are such bytes and answers: those that the contracts name
 

@@ -8,7 +8,7 @@ use Rattle.std.proofs.lemmas.Bool.{lt-leb}
 use Rattle.base_cells.specs.Records.{of_bool, to_bool, to_of}
 use Rattle.rules_laws.specs.ListLaws.{by_cases, clash}
 use Rattle.rules.specs.State.{Setup, State, shape_at, content_at, is_output}
-use Rattle.rules.specs.Answers.{Answer, Wrote, Refused, NoRoom, timely, fitting, is_yes, answerNumber, answerBytes}
+use Rattle.rules.specs.Answers.{Answer, Wrote, Refused, NoRoom, timely, fitting, is_yes, answer_number, answer_bytes}
 use Rattle.rules.specs.Setup.{fresh}
 use Rattle.rules.specs.Checks.{place_of}
 use Rattle.rules.specs.Calls
@@ -142,20 +142,20 @@ since_setup l block eds seed s e r =
 -- an answer gives these bytes: where the lent output has room, at its start, and what is behind stays; else No. 8, and all of it stays
 pub record Gives (bytes out : List ℕ) (a : Said) : Type 0 where
   pub room : length bytes ≤ length out → (a.number ≡ 256 * length bytes) × (a.output ≡ bytes ++ drop (length bytes) out)
-  pub noRoom : length out < length bytes → (a.number ≡ 8) × (a.output ≡ out)
+  pub no_room : length out < length bytes → (a.number ≡ 8) × (a.output ≡ out)
 
 gives : (bytes out : List ℕ) (a : Said) → Told (fitting (length out) bytes (Wrote bytes)) out a → Gives bytes out a
-unfolding answerNumber
+unfolding answer_number
 gives bytes out a t =
     record {
       room = λ h.
           let k = le-leb (length bytes) (length out) h in
           let x : fitting (length out) bytes (Wrote bytes) ≡ Wrote bytes = ap (λ (b : Bool). cond b (Wrote bytes) (Refused NoRoom)) k in
-          (t.0 ∙ ap answerNumber x, t.1 ∙ ap (λ (y : Answer). sets out 0 (answerBytes y)) x ∙ sets-eq bytes out 0 (omega arith) ∙ ap (λ (j : ℕ). bytes ++ drop j out) (zero-add (length bytes)));
-      noRoom = λ h.
+          (t.0 ∙ ap answer_number x, t.1 ∙ ap (λ (y : Answer). sets out 0 (answer_bytes y)) x ∙ sets-eq bytes out 0 (omega arith) ∙ ap (λ (j : ℕ). bytes ++ drop j out) (zero-add (length bytes)));
+      no_room = λ h.
           let k = lt-leb (length bytes) (length out) h in
           let x : fitting (length out) bytes (Wrote bytes) ≡ Refused NoRoom = ap (λ (b : Bool). cond b (Wrote bytes) (Refused NoRoom)) k in
-          (t.0 ∙ ap answerNumber x, t.1 ∙ ap (λ (y : Answer). sets out 0 (answerBytes y)) x);
+          (t.0 ∙ ap answer_number x, t.1 ∙ ap (λ (y : Answer). sets out 0 (answer_bytes y)) x);
     }
 
 -- a yes whose first byte is 1 says run
@@ -163,7 +163,7 @@ first_is_run : (b : Bool) (bytes out : List ℕ) (a : Said) → Gives (of_bool b
 first_is_run b bytes out a g y e =
     by_cases (leb (length (of_bool b ∷ bytes)) (length out))
     (λ k. sym (to_of b) ∙ ap to_bool (sym (ap (λ (l : List ℕ). get_or l 0 0) (g.room (leb-true (length (of_bool b ∷ bytes)) (length out) k)).1) ∙ e))
-    (λ k. let n = (g.noRoom (leb-false (length (of_bool b ∷ bytes)) (length out) k)).0 in absurd (omega arith))
+    (λ k. let n = (g.no_room (leb-false (length (of_bool b ∷ bytes)) (length out) k)).0 in absurd (omega arith))
 
 module _ (l block eds : List ℕ) (seed : ℕ) (s : List ℕ) (e : (0, s) ≡ setup_call l block eds seed) (small : seed < 2 ^ 32) where
   abbrev u : Setup

@@ -11,7 +11,7 @@ use Rattle.wire_rules.specs.Replies.{open_reply}
 use Rattle.rules_laws.specs.ListLaws.{by_cases, clash, either_way}
 use Rattle.rules.specs.declared.Verdict.TheVariants.{Stopped, Planned}
 use Rattle.rules.specs.State.{State}
-use Rattle.rules.specs.Answers.{Answer, Done, Wrote, Accepted, Gone, Refused, Failed, BadSetup, NotParsed, NoRoom, is_yes, timely, wordsNumber, words_of, answerNumber, answerBytes}
+use Rattle.rules.specs.Answers.{Answer, Done, Wrote, Accepted, Gone, Refused, Failed, BadSetup, NotParsed, NoRoom, is_yes, timely, words_number, words_of, answer_number, answer_bytes}
 use Rattle.rules.specs.Answers
 use Rattle.rules.specs.Opening.{open_asked, asked_answer, plan_answer, reply_of, verdict_of, open_answer, open_call}
 use Rattle.rules.specs.Calls
@@ -66,13 +66,13 @@ OneSetup (t ∷ ts) = (anew t.0 t.1 ≡ false) × OneSetup ts
 
 -- ---- a yes is seen as a yes
 
-low_words : (ws : List ℕ) → (5 + wordsNumber ws) % 256 ≡ 5
+low_words : (ws : List ℕ) → (5 + words_number ws) % 256 ≡ 5
 low_words [] = omega arith
 low_words (w ∷ []) = omega arith
 low_words (w ∷ v ∷ ws) = omega arith
 
-low_is_yes : (x : Answer) → eqb (answerNumber x % 256) 0 ≡ is_yes x
-unfolding answerNumber
+low_is_yes : (x : Answer) → eqb (answer_number x % 256) 0 ≡ is_yes x
+unfolding answer_number
 low_is_yes Done = refl
 low_is_yes (Wrote bs) = eq-eqb _ 0 (low_zero (Wrote bs) refl)
 low_is_yes (Accepted m s bs) = eq-eqb _ 0 (low_zero (Accepted m s bs) refl)
@@ -86,7 +86,7 @@ low_is_yes (Refused Answers.NoRoom) = refl
 low_is_yes (Refused Answers.NothingThere) = refl
 low_is_yes (Failed s) = ap (λ (n : ℕ). eqb n 0) (low_words (words_of s))
 
-seen_yes : (x : Answer) (a : Said) → a.number ≡ answerNumber x → is_yes (seen a) ≡ is_yes x
+seen_yes : (x : Answer) (a : Said) → a.number ≡ answer_number x → is_yes (seen a) ≡ is_yes x
 seen_yes x a e = as_tested (eqb (a.number % 256) 0) ∙ ap (λ (n : ℕ). eqb (n % 256) 0) e ∙ low_is_yes x
   where
     as_tested : (b : Bool) → is_yes (cond b (Wrote a.output) (Refused NotParsed)) ≡ b
@@ -96,7 +96,7 @@ seen_yes x a e = as_tested (eqb (a.number % 256) 0) ∙ ap (λ (n : ℕ). eqb (n
 -- ---- the O→T id of an accepted open stands in the output
 
 abbrev Stands : List ℕ → Answer → Type 0
-Stands out x = is_yes x ≡ true → le 4 (sets out 0 (answerBytes x)) 0 ≡ le 4 (answerBytes x) 0
+Stands out x = is_yes x ≡ true → le 4 (sets out 0 (answer_bytes x)) 0 ≡ le 4 (answer_bytes x) 0
 
 reply_first : (q : ForwardOpen) (g : Origin) (p : Plan) (n : ℕ) (rest : List ℕ) → le 4 (reply_of q g p n ++ rest) 0 ≡ n
 unfolding reply_of open_reply enc_fields
@@ -117,37 +117,37 @@ plan_stands q g n out (Planned p) =
 
 asked_stands : (g : Origin) (request out : List ℕ) (st : State) (o : OpenAnswer) → Stands out (asked_answer g request (length out) st o)
 asked_stands g request out st NoOpen = λ y. clash true refl (sym y)
-asked_stands g request out st (Open q) = plan_stands q g st.nextId out (verdict_of request q st)
+asked_stands g request out st (Open q) = plan_stands q g st.next_id out (verdict_of request q st)
 
 open_stands : (t service : ℕ) (request : List ℕ) (g : Origin) (out : List ℕ) (st : State) → Stands out (open_call t service request g (length out) st).0
 unfolding open_call open_answer
 open_stands t service request g out st = either_way (Stands out) (timely t) (asked_stands g request out st (open_asked service request)) (λ y. clash true refl (sym y))
 
-id_seen : (a : Said) → is_yes (seen a) ≡ true → answerBytes (seen a) ≡ a.output
+id_seen : (a : Said) → is_yes (seen a) ≡ true → answer_bytes (seen a) ≡ a.output
 id_seen a = by_test (eqb (a.number % 256) 0)
   where
-    by_test : (b : Bool) → is_yes (cond b (Wrote a.output) (Refused NotParsed)) ≡ true → answerBytes (cond b (Wrote a.output) (Refused NotParsed)) ≡ a.output
+    by_test : (b : Bool) → is_yes (cond b (Wrote a.output) (Refused NotParsed)) ≡ true → answer_bytes (cond b (Wrote a.output) (Refused NotParsed)) ≡ a.output
     by_test true y = refl
     by_test false y = clash true refl (sym y)
 
 -- ---- a reading that looks at no more of an accepted open's answer than the id in it
 abbrev pub Looks : {G : Type 0} → Reading G → Type 0
 Looks {G} r =
-    (t : ℕ) (request : List ℕ) (q : ForwardOpen) (g : Origin) (x y : Answer) (w : G) → le 4 (answerBytes x) 0 ≡ le 4 (answerBytes y) 0
-    → r.onOpen t request q g x w ≡ r.onOpen t request q g y w
+    (t : ℕ) (request : List ℕ) (q : ForwardOpen) (g : Origin) (x y : Answer) (w : G) → le 4 (answer_bytes x) 0 ≡ le 4 (answer_bytes y) 0
+    → r.on_open t request q g x w ≡ r.on_open t request q g y w
 
 -- a setup that is not answered 0 leaves the state
 setup_left : (block eds : List ℕ) (seed : ℕ) (st : State) (a : Said) → Answers (contract (CCall.Setup block eds seed)) st (answer_c (CCall.Setup block eds seed) st) a
     → eqb a.number 0 ≡ false → next_c (CCall.Setup block eds seed) st ≡ st
-unfolding answerNumber
+unfolding answer_number
 setup_left block eds seed st a h n =
     by_cases (accepted block eds)
-    (λ y. absurd (eqb-false a.number 0 n (h ∙ ap (λ (b : Bool). answerNumber (cond b Done (Refused BadSetup))) y)))
+    (λ y. absurd (eqb-false a.number 0 n (h ∙ ap (λ (b : Bool). answer_number (cond b Done (Refused BadSetup))) y)))
     (λ y. rw y refl)
 
 module _ {G : Type 0} (r : Reading G) (looks : Looks r) where
   open_learnt : (t service : ℕ) (request : List ℕ) (g : Origin) (room : ℕ) (x y : Answer) (w : G) → is_yes x ≡ is_yes y
-      → (is_yes y ≡ true → le 4 (answerBytes x) 0 ≡ le 4 (answerBytes y) 0) → (o : OpenAnswer) → open_asked service request ≡ o
+      → (is_yes y ≡ true → le 4 (answer_bytes x) 0 ≡ le 4 (answer_bytes y) 0) → (o : OpenAnswer) → open_asked service request ≡ o
       → learnt r (news (Calls.Open t service request g room) x) w ≡ learnt r (news (Calls.Open t service request g room) y) w
   open_learnt t service request g room x y w e same NoOpen k = by_cases (is_yes y) (λ z. rw (k, e ∙ z, z) refl) (λ z. rw (e ∙ z, z) refl)
   open_learnt t service request g room x y w e same (Open q) k = by_cases (is_yes y) (λ z. rw (k, e ∙ z, z) (looks t request q g x y w (same z))) (λ z. rw (e ∙ z, z) refl)

@@ -7,7 +7,7 @@ use Rattle.base_cells.specs.Numbers.{le, le_1}
 use Rattle.base_cells.specs.Records.{to_bool, of_bool, to_of}
 use Rattle.rules_laws.specs.ListLaws.{by_cases}
 use Rattle.rules.specs.State.{Shape, Content, no_content, State, content_at, shape_at, is_output}
-use Rattle.rules.specs.Answers.{Wrote, Refused, NoRoom, timely, answerNumber, answerBytes}
+use Rattle.rules.specs.Answers.{Wrote, Refused, NoRoom, timely, answer_number, answer_bytes}
 use Rattle.rules.specs.Lists.{any}
 use Rattle.rules.specs.Setup.{fresh}
 use Rattle.rules.specs.Checks.{place_of, owns}
@@ -59,8 +59,8 @@ run_byte {s} own i h e =
     let o = held_owned own i (marked s (held_passes own) i h e) in
     (o.0, row_found s (owner_of i) o.1)
 
-pub late_refused : (time : ℕ) (st : State) → timely time ≡ false → answerNumber (expire_call time st).0 ≡ 3
-unfolding expire_call expire_answer answerNumber
+pub late_refused : (time : ℕ) (st : State) → timely time ≡ false → answer_number (expire_call time st).0 ≡ 3
+unfolding expire_call expire_answer answer_number
 late_refused time st n = rw n
 
 -- IT DOES NOT OUTLIVE A SILENT CONTROLLER: after an expiry call at a time, answered yes, the owner was heard at most its timeout before
@@ -85,17 +85,17 @@ first_byte c out h = ap (λ (x : List ℕ). get_or x 0 0) (sets-eq (output_bytes
 -- a yes that begins with 1 is of an output in run
 read_run : (st : State) (out : List ℕ) (a : Said) (o : Option ℕ) → Told (output_at (length out) st o) out a → a.number % 256 ≡ 0 → get_or a.output 0 0 ≡ 1
     → (i : ℕ) × (o ≡ some i) × ((content_at st i).run ≡ true)
-unfolding answerNumber
+unfolding answer_number
 read_run st out a none t e f = absurd (let n = t.0 in omega arith)
 read_run st out a (some i) t e f =
     let c : Content = content_at st i in
     by_cases (leb (length (output_bytes c)) (length out))
     (λ y.
-    let w : a.output ≡ sets out 0 (output_bytes c) = t.1 ∙ ap (λ (b : Bool). sets out 0 (answerBytes (cond b (Wrote (output_bytes c)) (Refused NoRoom)))) y in
+    let w : a.output ≡ sets out 0 (output_bytes c) = t.1 ∙ ap (λ (b : Bool). sets out 0 (answer_bytes (cond b (Wrote (output_bytes c)) (Refused NoRoom)))) y in
     let r : of_bool c.run ≡ 1 = sym (first_byte c out (leb-true (length (output_bytes c)) (length out) y)) ∙ sym (ap (λ (x : List ℕ). get_or x 0 0) w) ∙ f in
     (i, refl, sym (to_of c.run) ∙ ap to_bool r))
     (λ n.
-    let w : a.number ≡ 8 = t.0 ∙ ap (λ (b : Bool). answerNumber (cond b (Wrote (output_bytes c)) (Refused NoRoom))) n in
+    let w : a.number ≡ 8 = t.0 ∙ ap (λ (b : Bool). answer_number (cond b (Wrote (output_bytes c)) (Refused NoRoom))) n in
     absurd (omega arith))
 
 -- if `threshtide_output` says yes and gives the run byte 1, then the instance is an output, and a row of the table owns it

@@ -10,7 +10,7 @@ use Rattle.std.proofs.lemmas.Bool.{eqb-false}
 use Rattle.base_cells.specs.Back.{Bytes}
 use Rattle.rules_laws.specs.ListLaws.{by_cases}
 use Rattle.rules.specs.State.{State}
-use Rattle.rules.specs.Answers.{Answer, Done, Wrote, Accepted, Gone, Refused, Failed, is_yes, answerNumber, answerBytes}
+use Rattle.rules.specs.Answers.{Answer, Done, Wrote, Accepted, Gone, Refused, Failed, is_yes, answer_number, answer_bytes}
 use Rattle.rules.specs.Message.{message_answer, message_call}
 use Rattle.state_rules.specs.Places.{state_size}
 use Rattle.msg_routing.specs.Answered.{answered}
@@ -42,8 +42,8 @@ Unwritten (Replies local mask message upload out) a = (a.output ≡ out) × (Byt
 
 -- ---- a yes has the low byte 0, and a no writes nothing
 
-pub low_zero : (x : Answer) → is_yes x ≡ true → answerNumber x % 256 ≡ 0
-unfolding answerNumber
+pub low_zero : (x : Answer) → is_yes x ≡ true → answer_number x % 256 ≡ 0
+unfolding answer_number
 low_zero Done y = omega arith
 low_zero (Wrote bs) y = omega arith
 low_zero (Accepted true s bs) y = omega arith
@@ -52,10 +52,10 @@ low_zero (Gone n) y = omega arith
 low_zero (Refused w) y = absurd (let z : ◌≡◌ {A = ℕ} 0 1 = cc in omega arith)
 low_zero (Failed s) y = absurd (let z : ◌≡◌ {A = ℕ} 0 1 = cc in omega arith)
 
-says_no : (x : Answer) (a : Said) → a.number ≡ answerNumber x → No a → is_yes x ≡ false
+says_no : (x : Answer) (a : Said) → a.number ≡ answer_number x → No a → is_yes x ≡ false
 says_no x a e n = by_cases (is_yes x) (λ y. absurd (n (ap (λ (k : ℕ). k % 256) e ∙ low_zero x y))) (λ y. y)
 
-no_bytes : (x : Answer) → is_yes x ≡ false → answerBytes x ≡ []
+no_bytes : (x : Answer) → is_yes x ≡ false → answer_bytes x ≡ []
 no_bytes Done y = refl
 no_bytes (Wrote bs) y = absurd (let z : ◌≡◌ {A = ℕ} 0 1 = cc in omega arith)
 no_bytes (Accepted multicast s bs) y = absurd (let z : ◌≡◌ {A = ℕ} 0 1 = cc in omega arith)
@@ -63,7 +63,7 @@ no_bytes (Gone n) y = refl
 no_bytes (Refused w) y = refl
 no_bytes (Failed s) y = refl
 
-nothing_written : (x : Answer) (out : List ℕ) → is_yes x ≡ false → sets out 0 (answerBytes x) ≡ out
+nothing_written : (x : Answer) (out : List ℕ) → is_yes x ≡ false → sets out 0 (answer_bytes x) ≡ out
 nothing_written x out y = ap (sets out 0) (no_bytes x y)
 
 -- ---- each kind of contract; `leaves` says that a no of the rules leaves the state

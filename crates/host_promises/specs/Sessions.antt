@@ -5,7 +5,7 @@ use Rattle.std.proofs.Common.{ap, sym, subst, ◌∙◌, arith}
 use Rattle.base_cells.specs.Back.{Bytes}
 use Rattle.rules_laws.specs.ListLaws.{by_cases}
 use Rattle.rules.specs.State.{Setup, State}
-use Rattle.rules.specs.Answers.{Wrote, Refused, NoRoom, answerNumber}
+use Rattle.rules.specs.Answers.{Wrote, Refused, NoRoom, answer_number}
 use Rattle.rules.specs.Message.{reply_room, message_reply, message_answer}
 use Rattle.msg_positions.specs.Positions.{dec_upload}
 use Rattle.state_rules.specs.Image.{view, tested}
@@ -38,13 +38,13 @@ setup_stays c s ok s' a m =
     ap (λ (st : State). st.setup) ((agrees (CCall.On c) s ok s' a m).holds ∙ sym (same_next c (view s))) ∙ (suits s ok c).setup
 
 -- a message's reply has a number that is a multiple of 256, or 8
-not_1 : (st : State) (local mask : ℕ) (message upload : List ℕ) (room n : ℕ) → n ≡ answerNumber (message_answer local mask message room st (dec_upload upload)) → n ≡ 1 → ⊥
-unfolding message_answer answerNumber
+not_1 : (st : State) (local mask : ℕ) (message upload : List ℕ) (room n : ℕ) → n ≡ answer_number (message_answer local mask message room st (dec_upload upload)) → n ≡ 1 → ⊥
+unfolding message_answer answer_number
 not_1 st local mask message upload room n e f =
     let reply : List ℕ = message_reply st local mask message (dec_upload upload) in
     by_cases (leb reply_room room)
-    (λ y. let k : n ≡ 256 * length reply = e ∙ ap (λ (b : Bool). answerNumber (cond b (Wrote reply) (Refused NoRoom))) y in omega arith)
-    (λ y. let k : n ≡ 8 = e ∙ ap (λ (b : Bool). answerNumber (cond b (Wrote reply) (Refused NoRoom))) y in omega arith)
+    (λ y. let k : n ≡ 256 * length reply = e ∙ ap (λ (b : Bool). answer_number (cond b (Wrote reply) (Refused NoRoom))) y in omega arith)
+    (λ y. let k : n ≡ 8 = e ∙ ap (λ (b : Bool). answer_number (cond b (Wrote reply) (Refused NoRoom))) y in omega arith)
 
 -- A SESSION THAT HANDS BACK WHAT IT GOT IS SERVED
 pub served : {s p s'' p'' : List ℕ} (r : Session s p s'' p'') → tested s ≡ true → Bytes p → position_tested (view s).setup p ≡ true

@@ -3,7 +3,7 @@
 use Rattle.std.specs.Prelude.{ℕ, true, false, cond, List, ◌≡◌, length}
 use Rattle.std.proofs.lemmas.List.Edits.{sets}
 use Rattle.rules.specs.State.{State}
-use Rattle.rules.specs.Answers.{Answer, Done, Refused, BadSetup, answerNumber, answerBytes}
+use Rattle.rules.specs.Answers.{Answer, Done, Refused, BadSetup, answer_number, answer_bytes}
 use Rattle.rules.specs.Setup.{fresh}
 use Rattle.rules.specs.Message.{message_call}
 use Rattle.msg_routing.specs.Answered.{answered}
@@ -63,12 +63,12 @@ answer_by (Replies local mask message upload out) st = (message_call local mask 
 
 -- an answer's number, and its bytes at the start of the output that was lent
 abbrev pub Told : Answer → List ℕ → Said → Type 0
-Told x out a = (a.number ≡ answerNumber x) × (a.output ≡ sets out 0 (answerBytes x))
+Told x out a = (a.number ≡ answer_number x) × (a.output ≡ sets out 0 (answer_bytes x))
 
 -- what was answered is the answer `x`. No. 1 is no answer of the rules: a message gets it whose lent position fails its own test
 abbrev pub Answers : Contract → State → Answer → Said → Type 0
-Answers (Sets block eds seed) st x a = a.number ≡ answerNumber x
-Answers (Changes call) st x a = a.number ≡ answerNumber x
+Answers (Sets block eds seed) st x a = a.number ≡ answer_number x
+Answers (Changes call) st x a = a.number ≡ answer_number x
 Answers (Writes call out) st x a = Told x out a
 Answers (Reads call out) st x a = Told x out a
 Answers (Says call out) st x a = Told x out a

@@ -8,7 +8,7 @@ use Rattle.std.proofs.Common.{subst, ◌∙◌}
 use Rattle.std.proofs.lemmas.List.Edits.{sets}
 use Rattle.rules_laws.specs.ListLaws.{by_cases}
 use Rattle.rules.specs.State.{State}
-use Rattle.rules.specs.Answers.{Answer, answerNumber, answerBytes}
+use Rattle.rules.specs.Answers.{Answer, answer_number, answer_bytes}
 use Rattle.rules.specs.Message.{message_call}
 use Rattle.rules.specs.Calls.{answer, next}
 use Rattle.msg_routing.specs.Answered.{answered}
@@ -40,18 +40,18 @@ record Agreed (k : Contract) (st : State) (s' : List ℕ) (a : Said) : Type 0 wh
 
 module _ (s : List ℕ) (ok : tested s ≡ true) where
   pub out_passes : (call : ℕ → State → Answer × State) (out : List ℕ)
-      → lifted_out call s out ≡ (answerNumber (call (length out) (view s)).0, (store (call (length out) (view s)).1 s, sets out 0 (answerBytes (call (length out) (view s)).0)))
+      → lifted_out call s out ≡ (answer_number (call (length out) (view s)).0, (store (call (length out) (view s)).1 s, sets out 0 (answer_bytes (call (length out) (view s)).0)))
   unfolding lifted_out
   out_passes call out = rw ok
 
   pub read_passes : (call : ℕ → State → Answer) (out : List ℕ)
-      → lifted_read call s out ≡ (answerNumber (call (length out) (view s)), sets out 0 (answerBytes (call (length out) (view s))))
+      → lifted_read call s out ≡ (answer_number (call (length out) (view s)), sets out 0 (answer_bytes (call (length out) (view s))))
   unfolding lifted_read
   read_passes call out = rw ok
 
 module _ (s : List ℕ) (ok : tested s ≡ true) (s' : List ℕ) (a : Said) where
   sets_up : (block eds : List ℕ) (seed : ℕ) → Met (Sets block eds seed) s s' a → Agreed (Sets block eds seed) (view s) s' a
-  unfolding answerNumber
+  unfolding answer_number
   sets_up block eds seed m =
       by_cases (accepted block eds)
       (λ y.

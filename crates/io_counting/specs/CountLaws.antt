@@ -149,7 +149,7 @@ limit_held : (s : List ℕ) (st : State) (l : List ℕ) → Holds s st l → lim
 unfolding setup_of
 limit_held s st l h = ap limit_of (sym (le_take 4 s 192 36 (omega arith)) ∙ ap (λ (u : Setup). u.late_limit) (setup_held s st l h))
 
-from_start : (t : ℕ) (st : State) → counts t (late_limit st.setup) st.contents (start st.counters.maxLate) st.table ≡ totals t st
+from_start : (t : ℕ) (st : State) → counts t (late_limit st.setup) st.contents (start st.counters.max_late) st.table ≡ totals t st
 from_start t st =
     let z : (n : ℕ) → 0 + n ≡ n = λ n. omega arith in
     let x : Tally = totals t st in
@@ -163,5 +163,5 @@ tally_end t limit worst i s k el ew p g st l h =
     let none : k ≡ tally_from t limit st.contents k (drop i cs) = sym (ap (tally_from t limit st.contents k) (drop_of_length-le cs {i = i} (omega arith))) in
     none ∙ g st l h
     ∙ (λ j. tally_from t ((el ∙ limit_held s st l h) j) st.contents (start ((ew ∙ max_late_held s st l h) j)) cs)
-    ∙ tally_counts t (late_limit st.setup) st.contents (start st.counters.maxLate) cs
+    ∙ tally_counts t (late_limit st.setup) st.contents (start st.counters.max_late) cs
     ∙ from_start t st

@@ -33,7 +33,7 @@ totals t st =
       need = length (packets t st.contents st.table);
       count = length (delays t st.table);
       late = length (keep (leb (late_limit st.setup)) (delays t st.table));
-      worst = greatest st.counters.maxLate (delays t st.table);
+      worst = greatest st.counters.max_late (delays t st.table);
     }
 
 abbrev pub Totals : ℕ → List ℕ → Tally → Type 0

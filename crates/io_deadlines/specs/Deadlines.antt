@@ -9,7 +9,7 @@ use Rattle.base_tables.specs.Tables.{rows, rows_rest, rows_end}
 use Rattle.rules.specs.State.{State}
 use Rattle.rules.specs.declared.Conn.{Conn}
 use Rattle.rules.specs.Lists.{maybe}
-use Rattle.rules.specs.Answers.{Wrote, Refused, NothingThere, fitting, answerNumber}
+use Rattle.rules.specs.Answers.{Wrote, Refused, NothingThere, fitting, answer_number}
 use Rattle.rules.specs.declared.Due.{Due}
 use Rattle.rules.specs.declared.Due.TheVariants.{Never, At}
 use Rattle.rules.specs.Removal.{due_or, deadline_of, least_of, deadline, deadline_answer}
@@ -49,7 +49,7 @@ empty (c ∷ cs) e = absurd (omega arith)
 
 module _ (s out : List ℕ) (n : ℕ) (en : n ≡ connections_of s) where
   pub none_waits : n ≡ 0 → Answers deadline_answer s out 9 out
-  unfolding deadline_answer answerNumber
+  unfolding deadline_answer answer_number
   none_waits z st l h =
       let e : deadline st.table ≡ none = empty st.table (let k = conns_held s st l h in omega arith) in
       record { number = rw e; bytes = rw e }
@@ -59,7 +59,7 @@ module _ (s out : List ℕ) (n : ℕ) (en : n ≡ connections_of s) where
     is st l h = ap deadline (sym (ap (λ (k : ℕ). conns_in k (table_in s)) en ∙ table_held s st l h)) ∙ ex
 
     pub answered : 8 ≤ length out → (out' : List ℕ) → out' ≡ put 8 out 0 x → Answers deadline_answer s out 2048 out'
-    unfolding deadline_answer answerNumber put
+    unfolding deadline_answer answer_number put
     answered p out' e st l h =
         let k : length (le_bytes 8 x) ≡ 8 = length_le_bytes 8 x in
         let b : nat_le (length (le_bytes 8 x)) (length out) ≡ true = le-leb (length (le_bytes 8 x)) (length out) (omega arith) in
@@ -70,7 +70,7 @@ module _ (s out : List ℕ) (n : ℕ) (en : n ≡ connections_of s) where
   some_waits (c ∷ cs) p Q f = f (least_of (deadline_of c) cs)
 
   pub short : (n ≢ 0) → length out < 8 → Answers deadline_answer s out 8 out
-  unfolding deadline_answer answerNumber
+  unfolding deadline_answer answer_number
   short z p st l h =
       some_waits st.table (let k = conns_held s st l h in by_ne (length st.table) (λ e. z (en ∙ k ∙ e)))
       (λ o. Answered (maybe (Refused NothingThere) (λ t. fitting (length out) (le_bytes 8 t) (Wrote (le_bytes 8 t))) o) out 8 out)

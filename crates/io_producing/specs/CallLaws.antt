@@ -12,7 +12,7 @@ use Rattle.base_cells.specs.Back.{Bytes}
 use Rattle.base_tables.specs.Ring.{by_cases}
 use Rattle.rules.specs.Lists.{keep, any}
 use Rattle.rules.specs.State.{State}
-use Rattle.rules.specs.Answers.{Answer, Wrote, Refused, BadTime, NoRoom, answerNumber, answerBytes}
+use Rattle.rules.specs.Answers.{Answer, Wrote, Refused, BadTime, NoRoom, answer_number, answer_bytes}
 use Rattle.rules.specs.Producing.{due, sends, delays, counted, counters, packets, produce_answer, produce_effect, produce_call}
 use Rattle.rules.specs.declared.Conn.{Conn}
 use Rattle.rules_laws.specs.ListLaws.{clash}
@@ -43,15 +43,15 @@ module _ (t room : ℕ) (st : State) where
   unfolding produce_call produce_answer
   done h q = rw (le-leb t 9223372036854775807 h, le-leb (length out) room q)
 
-  pub late_number : 9223372036854775807 < t → 3 ≡ answerNumber (produce_call t room st).0
-  unfolding answerNumber
-  late_number h = sym (ap (λ (z : Answer × State). answerNumber z.0) (late h))
+  pub late_number : 9223372036854775807 < t → 3 ≡ answer_number (produce_call t room st).0
+  unfolding answer_number
+  late_number h = sym (ap (λ (z : Answer × State). answer_number z.0) (late h))
 
   pub late_state : 9223372036854775807 < t → (produce_call t room st).1 ≡ st
   late_state h = ap (λ (z : Answer × State). z.1) (late h)
 
-  pub late_bytes : 9223372036854775807 < t → answerBytes (produce_call t room st).0 ≡ []
-  late_bytes h = ap (λ (z : Answer × State). answerBytes z.0) (late h)
+  pub late_bytes : 9223372036854775807 < t → answer_bytes (produce_call t room st).0 ≡ []
+  late_bytes h = ap (λ (z : Answer × State). answer_bytes z.0) (late h)
 
 -- ---- the counters
 
@@ -89,11 +89,11 @@ none_sends t (c ∷ cs) e =
 same_counters : (t : ℕ) (st : State) → keep (due t) st.table ≡ [] → st.counters.produced ≤ 18446744073709551615 → st.counters.late ≤ 18446744073709551615
     → st.counters ≡ counters st.setup (delays t st.table) st.counters
 unfolding counters
-same_counters t st d p q = rw d (λ j. record { produced = no_more st.counters.produced p j; late = no_more st.counters.late q j; maxLate = st.counters.maxLate })
+same_counters t st d p q = rw d (λ j. record { produced = no_more st.counters.produced p j; late = no_more st.counters.late q j; max_late = st.counters.max_late })
 
 module _ (t : ℕ) (s o : List ℕ) (n : ℕ) (en : n ≡ connections_of s) (early : t < 9223372036854775808) where
   pub nothing_due : Bytes s → any (due t) (conns_in n (table_in s)) ≡ false → Produces t s s o o 0
-  unfolding produce_effect counters answerNumber packets
+  unfolding produce_effect counters answer_number packets
   nothing_due b z st l h =
       let held : conns_in n (table_in s) ≡ st.table = ap (λ (k : ℕ). conns_in k (table_in s)) en ∙ table_held s st l h in
       let f = none_sends t st.table (ap (any (due t)) (sym held) ∙ z) in
@@ -107,39 +107,39 @@ module _ (t : ℕ) (s o : List ℕ) (n : ℕ) (en : n ≡ connections_of s) (ear
         table = sym f.1 j;
         events = st.events;
         fault = st.fault;
-        nextId = st.nextId;
+        next_id = st.next_id;
         counters = same_counters t st f.0 p q j;
       } in
       let c : produce_call t (length o) st ≡ (Wrote [], st) =
       done t (length o) st (omega arith) (rw pk (omega arith)) ∙ ap₂ (λ (y : List ℕ) (z : State). (Wrote y, z)) pk (sym same) in
       record {
-        number = sym (ap (λ (y : Answer × State). answerNumber y.0) c);
+        number = sym (ap (λ (y : Answer × State). answer_number y.0) c);
         is = h.is ∙ ap (λ (y : Answer × State). store y.1 l) (sym c);
-        out = ap (λ (y : Answer × State). sets o 0 (answerBytes y.0)) (sym c);
+        out = ap (λ (y : Answer × State). sets o 0 (answer_bytes y.0)) (sym c);
       }
 
 module _ (t : ℕ) (s o : List ℕ) (k : Tally) (e : Totals t s k) (early : t < 9223372036854775808) where
   -- too little room: nothing steps
   pub no_room : length o < k.need → Produces t s s o o 8
-  unfolding answerNumber
+  unfolding answer_number
   no_room q st l h =
       let n : k.need ≡ length (packets t st.contents st.table) = ap (λ (y : Tally). y.need) (e st l h) in
       let c = short t (length o) st (omega arith) (omega arith) in
       record {
-        number = sym (ap (λ (y : Answer × State). answerNumber y.0) c);
+        number = sym (ap (λ (y : Answer × State). answer_number y.0) c);
         is = h.is ∙ ap (λ (y : Answer × State). store y.1 l) (sym c);
-        out = ap (λ (y : Answer × State). sets o 0 (answerBytes y.0)) (sym c);
+        out = ap (λ (y : Answer × State). sets o 0 (answer_bytes y.0)) (sym c);
       }
 
   -- all of it
   pub all_out : k.need ≤ length o → (s₁ s₂ o' : List ℕ) → SendsAll t s s₁ o o' → Becomes s₁ s₂ (tally_kept k) → Produces t s s₂ o o' (k.need * 256)
-  unfolding answerNumber
+  unfolding answer_number
   all_out q s₁ s₂ o' d b st l h =
       let n : k.need ≡ length (packets t st.contents st.table) = ap (λ (y : Tally). y.need) (e st l h) in
       let c = done t (length o) st (omega arith) (omega arith) in
       let y = d st l h (omega arith) in
       record {
-        number = (let z : k.need * 256 ≡ 256 * length (packets t st.contents st.table) = omega arith in z) ∙ sym (ap (λ (y : Answer × State). answerNumber y.0) c);
+        number = (let z : k.need * 256 ≡ 256 * length (packets t st.contents st.table) = omega arith in z) ∙ sym (ap (λ (y : Answer × State). answer_number y.0) c);
         is = b (sent_all t st) l y.holds ∙ ap (λ (z : State). store z l) (effect_is t k st (e st l h)) ∙ ap (λ (y : Answer × State). store y.1 l) (sym c);
-        out = y.out ∙ ap (λ (y : Answer × State). sets o 0 (answerBytes y.0)) (sym c);
+        out = y.out ∙ ap (λ (y : Answer × State). sets o 0 (answer_bytes y.0)) (sym c);
       }

@@ -2,7 +2,7 @@
 use Rattle.std.specs.Prelude.{ℕ, ◌+◌, ◌≤◌, List, map, ◌≡◌, length, get_or, set}
 use Rattle.std.proofs.lemmas.List.Edits.{sets}
 use Rattle.rules.specs.State.{State, with_table}
-use Rattle.rules.specs.Answers.{answerNumber, answerBytes}
+use Rattle.rules.specs.Answers.{answer_number, answer_bytes}
 use Rattle.rules.specs.Producing.{counted, sends, packets, produce_call}
 use Rattle.state_rules.specs.Image.{store}
 use Rattle.state_image.specs.Holds.{Holds}
@@ -46,9 +46,9 @@ SendsAll t s s' o o' = (st : State) (l : List ℕ) → Holds s st l → length (
 -- ---- the call
 
 pub record Produced (t : ℕ) (s' o o' : List ℕ) (r : ℕ) (st : State) (l : List ℕ) : Type 0 where
-  pub number : r ≡ answerNumber (produce_call t (length o) st).0
+  pub number : r ≡ answer_number (produce_call t (length o) st).0
   pub is : s' ≡ store (produce_call t (length o) st).1 l
-  pub out : o' ≡ sets o 0 (answerBytes (produce_call t (length o) st).0)
+  pub out : o' ≡ sets o 0 (answer_bytes (produce_call t (length o) st).0)
 
 abbrev pub Produces : ℕ → List ℕ → List ℕ → List ℕ → List ℕ → ℕ → Type 0
 Produces t s s' o o' r = (st : State) (l : List ℕ) → Holds s st l → Produced t s' o o' r st l

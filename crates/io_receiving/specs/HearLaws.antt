@@ -47,7 +47,7 @@ module _ (t : ℕ) (f : Frame) (i : ℕ) (st : State) where
   untaken e cs q =
       let a : delivered st.setup f (get_or st.table i no_conn) st.contents ≡ st.contents = rw e in
       let b : output_events st.setup f (get_or st.table i no_conn) st.contents ≡ [] = rw e in
-      λ j. record { setup = st.setup; contents = a j; table = q j; events = pushed_all (b j) st.events; fault = st.fault; nextId = st.nextId; counters = st.counters }
+      λ j. record { setup = st.setup; contents = a j; table = q j; events = pushed_all (b j) st.events; fault = st.fault; next_id = st.next_id; counters = st.counters }
 
   old_state : newer (get_or st.table i no_conn).heard f.sequence ≡ false → heard_at t f i st ≡ st
   unfolding hear taken
@@ -92,7 +92,7 @@ module _ (t : ℕ) (f : Frame) (i : ℕ) (st : State) where
         let v : List Event = OutputChanged (shape_at u o).instance ∷ [] in
         let b : output_events u f c cs ≡ cond (announces f (get_or cs o no_content)) v [] =
         ap (λ (z : Bool). cond (z && announces f (get_or cs o no_content)) v []) tk in
-        (λ j. record { setup = u; contents = a j; table = q j; events = pushed_all (b j) st.events; fault = st.fault; nextId = st.nextId; counters = st.counters })
+        (λ j. record { setup = u; contents = a j; table = q j; events = pushed_all (b j) st.events; fault = st.fault; next_id = st.next_id; counters = st.counters })
         ∙ ap (λ (z : Bool). cond z (accepted f o st₁) st₁) (sym w))
         (λ w.
         untaken (is_right ∙ w) st₁.table q
@@ -205,7 +205,7 @@ module _ (t from : ℕ) (f : Frame) (st : State) where
         table = ch j;
         events = pushed_all (maybe [] (λ (z : Conn). output_events st.setup f z st.contents) (fd j)) st.events;
         fault = st.fault;
-        nextId = st.nextId;
+        next_id = st.next_id;
         counters = st.counters;
       }
 
@@ -220,7 +220,7 @@ module _ (t from : ℕ) (f : Frame) (st : State) where
         table = ch j;
         events = pushed_all (maybe [] (λ (z : Conn). output_events st.setup f z st.contents) (fd j)) st.events;
         fault = st.fault;
-        nextId = st.nextId;
+        next_id = st.next_id;
         counters = st.counters;
       }
 

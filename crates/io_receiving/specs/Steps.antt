@@ -25,7 +25,7 @@ heard_at t f i st =
       table = set st.table i (hear t f (get_or st.table i no_conn));
       events = pushed_all (output_events st.setup f (get_or st.table i no_conn) st.contents) st.events;
       fault = st.fault;
-      nextId = st.nextId;
+      next_id = st.next_id;
       counters = st.counters;
     }
 
@@ -41,7 +41,7 @@ accepted f o st =
       table = st.table;
       events = pushed_all (told f o st) st.events;
       fault = st.fault;
-      nextId = st.nextId;
+      next_id = st.next_id;
       counters = st.counters;
     }
 

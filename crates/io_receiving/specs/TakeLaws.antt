@@ -71,7 +71,7 @@ module _ (f : Frame) (o : ℕ) (st : State) where
       let c : set st.contents o (deliver f (content_at st o)) ≡ st.contents =
       ap (set st.contents o) (rw e) ∙ set-get_or st.contents o no_content in
       let v : told f o st ≡ [] = rw e in
-      λ j. record { setup = st.setup; contents = c j; table = st.table; events = pushed_all (v j) st.events; fault = st.fault; nextId = st.nextId; counters = st.counters }
+      λ j. record { setup = st.setup; contents = c j; table = st.table; events = pushed_all (v j) st.events; fault = st.fault; next_id = st.next_id; counters = st.counters }
 
   abbrev fresh : State
   fresh = with_contents (set st.contents o (record { bytes = data_of f; run = run_bit f; notified = true })) st
@@ -81,14 +81,14 @@ module _ (f : Frame) (o : ℕ) (st : State) where
   quiet_state e n =
       let c : deliver f (content_at st o) ≡ record { bytes = data_of f; run = run_bit f; notified = true } = rw e in
       let v : told f o st ≡ [] = rw (e, n) in
-      λ j. record { setup = st.setup; contents = set st.contents o (c j); table = st.table; events = pushed_all (v j) st.events; fault = st.fault; nextId = st.nextId; counters = st.counters }
+      λ j. record { setup = st.setup; contents = set st.contents o (c j); table = st.table; events = pushed_all (v j) st.events; fault = st.fault; next_id = st.next_id; counters = st.counters }
 
   told_state : changes f (content_at st o) ≡ true → (content_at st o).notified ≡ false → accepted f o st ≡ event_told (OutputChanged (shape_at st.setup o).instance) fresh
   unfolding accepted deliver pushed_all
   told_state e n =
       let c : deliver f (content_at st o) ≡ record { bytes = data_of f; run = run_bit f; notified = true } = rw e in
       let v : told f o st ≡ OutputChanged (shape_at st.setup o).instance ∷ [] = rw (e, n) in
-      λ j. record { setup = st.setup; contents = set st.contents o (c j); table = st.table; events = pushed_all (v j) st.events; fault = st.fault; nextId = st.nextId; counters = st.counters }
+      λ j. record { setup = st.setup; contents = set st.contents o (c j); table = st.table; events = pushed_all (v j) st.events; fault = st.fault; next_id = st.next_id; counters = st.counters }
 
 module _ (s : List ℕ) (o : ℕ) (p : o < assemblies_of s) (d : List ℕ) (was : Bool) (ew : was ≡ run_in (mark_at s o))
     (run : Bool) (er : run ≡ eqb (get_or d 2 0 % 2) 1) (s₁ : List ℕ) (ch : Bool) (x : List ℕ) (ex : x ≡ drop 6 d) (rep₀ : Replaces o x s s₁ ch)

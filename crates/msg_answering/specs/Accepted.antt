@@ -119,7 +119,7 @@ pub written_passes : (u : Setup) (up : Upload) → upload_ok u up ≡ true → S
 unfolding upload_ok plain all
 written_passes u NoUpload e h = tests_pass u NoUpload refl (ap (upload_ok u) read_none)
 written_passes u (Under p) e h =
-    let s = some_size u.transferLimit u.eds p e in
+    let s = some_size u.transfer_limit u.eds p e in
     tests_pass u (Under p) (plain_under p s h) (ap (upload_ok u) (read_under p s) ∙ e)
 
 -- no upload passes in every setup
@@ -129,8 +129,8 @@ zeros_pass u = refl
 
 -- ---- a message leaves a position whose numbers fit
 
-module _ (st : State) (local mask : ℕ) (limited : st.setup.transferLimit ≤ 255) (short : (eds : List ℕ) → st.setup.eds ≡ some eds → length eds ≤ 65535) where
-  initiate_small : (eds : List ℕ) (up : Upload) → Small up → (bytes : List ℕ) → Small (initiate st.setup.transferLimit eds up bytes).1
+module _ (st : State) (local mask : ℕ) (limited : st.setup.transfer_limit ≤ 255) (short : (eds : List ℕ) → st.setup.eds ≡ some eds → length eds ≤ 65535) where
+  initiate_small : (eds : List ℕ) (up : Upload) → Small up → (bytes : List ℕ) → Small (initiate st.setup.transfer_limit eds up bytes).1
   unfolding initiate clamped
   initiate_small eds up h [] = h
   initiate_small eds up h (wanted ∷ rest) = (omega arith, omega arith, omega arith, omega arith, omega arith)
@@ -188,8 +188,8 @@ module _ (st : State) (local mask : ℕ) (limited : st.setup.transferLimit ≤ 2
 -- ---- MESSAGE
 
 module _ (s : List ℕ) (t : tested s ≡ true) (b : Bytes s) where
-  limit_small : (view s).setup.transferLimit ≤ 255
-  limit_small = (sized_tested s t b).limitHigh
+  limit_small : (view s).setup.transfer_limit ≤ 255
+  limit_small = (sized_tested s t b).limit_high
 
   eds_small : (eds : List ℕ) → (view s).setup.eds ≡ some eds → length eds ≤ 65535
   eds_small eds e = by (eqb (le 4 (setup_in s) 4) 0) refl

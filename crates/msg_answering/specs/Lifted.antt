@@ -9,7 +9,7 @@ use Rattle.wire_rules.specs.Requests.{request_of}
 use Rattle.rules.specs.declared.objects.Upload.{Upload}
 use Rattle.rules.specs.State.{State}
 use Rattle.rules.specs.Attributes.{Outcome}
-use Rattle.rules.specs.Answers.{Answer, answerNumber, answerBytes, Wrote, Refused, NoRoom}
+use Rattle.rules.specs.Answers.{Answer, answer_number, answer_bytes, Wrote, Refused, NoRoom}
 use Rattle.rules.specs.Message.{service_of, message_outcome, message_reply, reply_room, message_call}
 use Rattle.rules_laws.specs.ReplyLaws.{no_room, always_replied}
 use Rattle.state_rules.specs.Image.{view, tested}
@@ -23,8 +23,8 @@ message_on local mask message l upload out = message_call local mask message (le
 unfoldable pub lifted_message : ℕ → ℕ → List ℕ → List ℕ → List ℕ → List ℕ → ℕ × (List ℕ × List ℕ)
 lifted_message local mask message l upload out =
     pick (tested l && position_tested (view l).setup upload) (
-      answerNumber (message_on local mask message l upload out).0,
-      (enc_upload (message_on local mask message l upload out).1, sets out 0 (answerBytes (message_on local mask message l upload out).0)),
+      answer_number (message_on local mask message l upload out).0,
+      (enc_upload (message_on local mask message l upload out).1, sets out 0 (answer_bytes (message_on local mask message l upload out).0)),
     )
     (1, (upload, out))
 
@@ -39,17 +39,17 @@ module _ (local mask : ℕ) (message l upload out : List ℕ) where
     message_misplaced e = rw (t, e)
 
     module _ (p : position_tested (view l).setup upload ≡ true) where
-      passes : lifted_message local mask message l upload out ≡ (answerNumber (message_on local mask message l upload out).0, (enc_upload (message_on local mask message l upload out).1, sets out 0 (answerBytes (message_on local mask message l upload out).0)))
+      passes : lifted_message local mask message l upload out ≡ (answer_number (message_on local mask message l upload out).0, (enc_upload (message_on local mask message l upload out).1, sets out 0 (answer_bytes (message_on local mask message l upload out).0)))
       unfolding lifted_message
       passes = rw (t, p)
 
       answered : (a : Answer) (up : Upload) → message_on local mask message l upload out ≡ (a, up)
-          → lifted_message local mask message l upload out ≡ (answerNumber a, (enc_upload up, sets out 0 (answerBytes a)))
-      answered a up e = passes ∙ ap (λ (z : Answer × Upload). (answerNumber z.0, (enc_upload z.1, sets out 0 (answerBytes z.0)))) e
+          → lifted_message local mask message l upload out ≡ (answer_number a, (enc_upload up, sets out 0 (answer_bytes a)))
+      answered a up e = passes ∙ ap (λ (z : Answer × Upload). (answer_number z.0, (enc_upload z.1, sets out 0 (answer_bytes z.0)))) e
 
       -- No. 8
       pub message_short : length out < 516 → enc_upload (dec_upload upload) ≡ upload → (8, (upload, out)) ≡ lifted_message local mask message l upload out
-      unfolding answerNumber
+      unfolding answer_number
       message_short h w =
           (λ i. (8, (sym w i, out)))
           ∙ sym (answered (Refused NoRoom) (dec_upload upload) (no_room (view l) local mask message (length out) (dec_upload upload) h))
@@ -58,7 +58,7 @@ module _ (local mask : ℕ) (message l upload out : List ℕ) where
       pub message_replied : 516 ≤ length out → (n : ℕ) (p' o : List ℕ)
           → (n, (p', o)) ≡ replied (service_of (request_of message)) (message_outcome (view l) local mask message (dec_upload upload)) out
           → (2 ^ 8 * n, (p', o)) ≡ lifted_message local mask message l upload out
-      unfolding answerNumber message_reply
+      unfolding answer_number message_reply
       message_replied h n p' o e =
           (λ i. (2 ^ 8 * (e i).0, ((e i).1.0, (e i).1.1)))
           ∙ sym (answered (Wrote (message_reply (view l) local mask message (dec_upload upload))) (message_outcome (view l) local mask message (dec_upload upload)).1

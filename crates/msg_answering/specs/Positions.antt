@@ -53,7 +53,7 @@ module _ (s : List ℕ) where
   unfolding view setup_of
   eds_some h = ap (λ (b : Bool). cond b none (some eds_bytes)) (ne_eqb mark 0 h)
 
-  limit_is : (view s).setup.transferLimit ≡ le 1 (setup_in s) 1
+  limit_is : (view s).setup.transfer_limit ≡ le 1 (setup_in s) 1
   unfolding view setup_of
   limit_is = refl
 
@@ -75,13 +75,13 @@ module _ (s : List ℕ) where
   pub test_none : (l : List ℕ) (limit : ℕ) (x : Bool) → le 4 (setup_in s) 4 ≡ 0 → limit ≡ le 1 (setup_in s) 1 → x ≡ upload_tested limit false 0 l → x ≡ position_tested (view s).setup l
   test_none l limit x h e f =
       f ∙ ap (λ (n : ℕ). upload_tested n false 0 l) (e ∙ sym limit_is)
-      ∙ same_test (view s).setup (view s).setup.transferLimit false 0 l (ok_none (view s).setup 0 (dec_upload l) (eds_none h))
+      ∙ same_test (view s).setup (view s).setup.transfer_limit false 0 l (ok_none (view s).setup 0 (dec_upload l) (eds_none h))
 
   pub test_some : tested s ≡ true → (l : List ℕ) (limit size : ℕ) (x : Bool) → (le 4 (setup_in s) 4 ≡ 0 → ⊥) → limit ≡ le 1 (setup_in s) 1 → size ≡ le 4 (setup_in s) 4 - 1
       → x ≡ upload_tested limit true size l → x ≡ position_tested (view s).setup l
   test_some t l limit size x h e g f =
       f ∙ (λ i. upload_tested ((e ∙ sym limit_is) i) true ((g ∙ sym (eds_long t)) i) l)
-      ∙ same_test (view s).setup (view s).setup.transferLimit true (length eds_bytes) l (ok_some (view s).setup eds_bytes (dec_upload l) (eds_some h))
+      ∙ same_test (view s).setup (view s).setup.transfer_limit true (length eds_bytes) l (ok_some (view s).setup eds_bytes (dec_upload l) (eds_some h))
 
   -- ---- File, with an EDS and without
 
@@ -124,15 +124,15 @@ whole_tested s l ts b t = by (eqb (le 4 (setup_in s) 4) 0) refl
     by true e =
         record {
           long = n;
-          again = write_again (view s).setup.transferLimit false 0 l b
-              (same_test (view s).setup (view s).setup.transferLimit false 0 l (ok_none (view s).setup 0 (dec_upload l) (eds_none s (eqb-true (le 4 (setup_in s) 4) 0 e))) ∙ t);
+          again = write_again (view s).setup.transfer_limit false 0 l b
+              (same_test (view s).setup (view s).setup.transfer_limit false 0 l (ok_none (view s).setup 0 (dec_upload l) (eds_none s (eqb-true (le 4 (setup_in s) 4) 0 e))) ∙ t);
         }
     by false e =
         let eds : List ℕ = take (le 4 (setup_in s) 4 - 1) (eds_in s) in
         record {
           long = n;
-          again = write_again (view s).setup.transferLimit true (length eds) l b
-              (same_test (view s).setup (view s).setup.transferLimit true (length eds) l
+          again = write_again (view s).setup.transfer_limit true (length eds) l b
+              (same_test (view s).setup (view s).setup.transfer_limit true (length eds) l
               (ok_some (view s).setup eds (dec_upload l) (eds_some s (eqb-false (le 4 (setup_in s) 4) 0 e))) ∙ t);
         }
 
@@ -143,9 +143,9 @@ unfolding view setup_of
 sized_tested s t b =
     record {
       name = let e = length-take (le 1 (setup_in s) 2) (drop 46 (setup_in s)) in let h = short_name (setup_in s) (is_sound s t) in omega arith;
-      edsName = let e = length-take (le 1 (setup_in s) 3) (drop 78 (setup_in s)) in let h = short_eds_name (setup_in s) (is_sound s t) in omega arith;
+      eds_name = let e = length-take (le 1 (setup_in s) 3) (drop 78 (setup_in s)) in let h = short_eds_name (setup_in s) (is_sound s t) in omega arith;
       mac = let e = length-take 6 (drop 40 (setup_in s)) in omega arith;
-      limitLow = let h = some_transfer (setup_in s) (is_sound s t) in omega arith;
-      limitHigh = let e = le_1 (setup_in s) 1 in let h = bytes_take 192 (drop 0 s) (bytes_drop 0 s b) 1 in omega arith;
+      limit_low = let h = some_transfer (setup_in s) (is_sound s t) in omega arith;
+      limit_high = let e = le_1 (setup_in s) 1 in let h = bytes_take 192 (drop 0 s) (bytes_drop 0 s b) 1 in omega arith;
       contents = λ i. content_short (view s) s (suits_view s t) i;
     }

@@ -27,7 +27,7 @@ first_attributes u =
     (1, 2 ∷ []) ∷
     (2, tagged_text file_name) ∷
     (3, le_bytes 2 1) ∷
-    (4, tagged_text u.edsName) ∷
+    (4, tagged_text u.eds_name) ∷
     (5, u.identity.major ∷ u.identity.minor ∷ []) ∷
     []
 
@@ -69,15 +69,15 @@ module _ (u : Setup) (eds : List ℕ) (a : FirstAttribute) (bytes : List ℕ) (u
     abbrev alone : Outcome × Upload
     alone = (single service a (file_attributes u eds), up)
 
-    pub eds_initiate : service ≡ initiate_upload → x ≡ stepped (initiate u.transferLimit eds up bytes) out → x ≡ stepped (eds_file u eds service a bytes up) out
+    pub eds_initiate : service ≡ initiate_upload → x ≡ stepped (initiate u.transfer_limit eds up bytes) out → x ≡ stepped (eds_file u eds service a bytes up) out
     unfolding eds_file
     eds_initiate e f =
-        f ∙ sym (ap (λ (b : Bool). stepped (cond b (initiate u.transferLimit eds up bytes) (cond (eqb service upload_transfer) (transfer eds up bytes) alone)) out) (eq-eqb service initiate_upload e))
+        f ∙ sym (ap (λ (b : Bool). stepped (cond b (initiate u.transfer_limit eds up bytes) (cond (eqb service upload_transfer) (transfer eds up bytes) alone)) out) (eq-eqb service initiate_upload e))
 
     module _ (h : service ≡ initiate_upload → ⊥) where
       past : eds_file u eds service a bytes up ≡ cond (eqb service upload_transfer) (transfer eds up bytes) alone
       unfolding eds_file
-      past = ap (λ (b : Bool). cond b (initiate u.transferLimit eds up bytes) (cond (eqb service upload_transfer) (transfer eds up bytes) alone)) (ne_eqb service initiate_upload h)
+      past = ap (λ (b : Bool). cond b (initiate u.transfer_limit eds up bytes) (cond (eqb service upload_transfer) (transfer eds up bytes) alone)) (ne_eqb service initiate_upload h)
 
       pub eds_transfer : service ≡ upload_transfer → x ≡ stepped (transfer eds up bytes) out → x ≡ stepped (eds_file u eds service a bytes up) out
       eds_transfer e f =

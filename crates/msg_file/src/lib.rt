@@ -19,7 +19,7 @@ use wire_rules::FirstAttribute;
 
 fn eds_name(r: &[u8], out: &mut [u8]) -> Given
     requires { (setup_size ≤ length r.now) × (le 1 r.now 3 ≤ 32) × (512 ≤ length out.old) }
-    ensures { (result, out.new) ≡ told (Gives (tagged_text (setup_from r.now []).edsName)) out.old }
+    ensures { (result, out.new) ≡ told (Gives (tagged_text (setup_from r.now []).eds_name)) out.old }
 {
     let e = 78 + base_cells::u8_at(r, 3) as usize;
     msg_attributes::tagged(out, &r[78..e])

@@ -16,15 +16,15 @@ use Rattle.msg_positions.specs.Positions.{w_position, to_last, as_position, as_u
 
 -- ---- the test of the value is the rule's
 
-pub ok_none : (u : Setup) (size : ℕ) (up : Upload) → u.eds ≡ none → ok_with u.transferLimit false size up ≡ upload_ok u up
+pub ok_none : (u : Setup) (size : ℕ) (up : Upload) → u.eds ≡ none → ok_with u.transfer_limit false size up ≡ upload_ok u up
 unfolding upload_ok fits
 ok_none u size NoUpload e = refl
-ok_none u size (Under p) e = sym (ap (λ (o : Option (List ℕ)). position_ok u.transferLimit o p) e)
+ok_none u size (Under p) e = sym (ap (λ (o : Option (List ℕ)). position_ok u.transfer_limit o p) e)
 
-pub ok_some : (u : Setup) (eds : List ℕ) (up : Upload) → u.eds ≡ some eds → ok_with u.transferLimit true (length eds) up ≡ upload_ok u up
+pub ok_some : (u : Setup) (eds : List ℕ) (up : Upload) → u.eds ≡ some eds → ok_with u.transfer_limit true (length eds) up ≡ upload_ok u up
 unfolding upload_ok fits
 ok_some u eds NoUpload e = refl
-ok_some u eds (Under p) e = sym (ap (λ (o : Option (List ℕ)). position_ok u.transferLimit o p) e)
+ok_some u eds (Under p) e = sym (ap (λ (o : Option (List ℕ)). position_ok u.transfer_limit o p) e)
 
 -- ---- what was written is read back
 

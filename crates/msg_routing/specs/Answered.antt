@@ -6,11 +6,11 @@ use Rattle.std.proofs.Common.{◌∙◌, arith, le-leb}
 use Rattle.std.proofs.lemmas.Bool.{lt-leb}
 use Rattle.std.proofs.lemmas.List.Edits.{sets}
 use Rattle.base_cells.specs.Records.{sum, enc_fields, put_fields, Laid, put_fields_eq, length_enc_fields}
-use Rattle.rules.specs.Answers.{Answer, Wrote, Refused, No, noNumber, NotParsed, fitting, answerNumber, answerBytes}
+use Rattle.rules.specs.Answers.{Answer, Wrote, Refused, No, no_number, NotParsed, fitting, answer_number, answer_bytes}
 
 -- what is told of an answer on an output
 abbrev pub saying : Answer → List ℕ → ℕ × List ℕ
-saying a out = (answerNumber a, sets out 0 (answerBytes a))
+saying a out = (answer_number a, sets out 0 (answer_bytes a))
 
 -- a call that is lent an output and no state, by the room in it
 unfoldable pub answered : (ℕ → Answer) → List ℕ → ℕ × List ℕ
@@ -22,8 +22,8 @@ module _ (call : ℕ → Answer) (out : List ℕ) where
   answered_by a e = ap (λ (x : Answer). saying x out) e
 
   -- a no leaves the output
-  pub answered_no : (w : No) → call (length out) ≡ Refused w → (noNumber w, out) ≡ answered call out
-  unfolding answerNumber
+  pub answered_no : (w : No) → call (length out) ≡ Refused w → (no_number w, out) ≡ answered call out
+  unfolding answer_number
   answered_no w e = sym (answered_by (Refused w) e)
 
   -- two calls that say the same there
@@ -43,7 +43,7 @@ module _ (ws vs out : List ℕ) (t : T (Laid ws vs)) (n : ℕ) (e : sum ws ≡ n
   wrote_none h = answered_no _ out No.NoRoom (simp (lt-leb (length (enc_fields ws vs)) (length out) (rw long h)))
 
   pub wrote_all : (out' : List ℕ) → n ≤ length out → out' ≡ put_fields ws out 0 vs → (256 * n, out') ≡ answered (wrote (enc_fields ws vs)) out
-  unfolding answerNumber
+  unfolding answer_number
   wrote_all out' h f =
       ap₂ (λ (k : ℕ) (x : List ℕ). (256 * k, x)) (sym long) (f ∙ put_fields_eq ws out 0 vs)
       ∙ sym (answered_by _ out (Wrote (enc_fields ws vs)) (simp (le-leb (length (enc_fields ws vs)) (length out) (rw long h))))

@@ -14,7 +14,7 @@ use Rattle.base_cells.specs.Writes.{written, written_all}
 use Rattle.base_cells.specs.declared.Written.{Written}
 use Rattle.wire_rules.specs.declared.ForwardOpen.{ForwardOpen}
 use Rattle.wire_replies.specs.ReplyLaws.{open_reply_long}
-use Rattle.rules.specs.Answers.{No, NoRoom, Answer, Accepted, Refused, is_yes, answerNumber, answerBytes}
+use Rattle.rules.specs.Answers.{No, NoRoom, Answer, Accepted, Refused, is_yes, answer_number, answer_bytes}
 use Rattle.rules.specs.Checks.{asks_multicast}
 use Rattle.rules.specs.Opening.{after_id, side_of, side_at, new_conn, opened, reply_of, plan_answer}
 use Rattle.rules.specs.Opening
@@ -36,19 +36,19 @@ use Rattle.open_answering.specs.StepLaws.{opened_is}
 -- ---- the number
 
 module _ (multicast : Bool) (dest : Socket) where
-  pub number_point : multicast ≡ false → 0 ≡ answerNumber (Accepted multicast dest [])
-  unfolding answerNumber
-  number_point e = ap (λ (b : Bool). answerNumber (Accepted b dest [])) (sym e)
+  pub number_point : multicast ≡ false → 0 ≡ answer_number (Accepted multicast dest [])
+  unfolding answer_number
+  number_point e = ap (λ (b : Bool). answer_number (Accepted b dest [])) (sym e)
 
-  pub number_group : multicast ≡ true → (r : ℕ) → r ≡ 256 + dest.port * 65536 + dest.address * 4294967296 → r ≡ answerNumber (Accepted multicast dest [])
-  unfolding answerNumber
+  pub number_group : multicast ≡ true → (r : ℕ) → r ≡ 256 + dest.port * 65536 + dest.address * 4294967296 → r ≡ answer_number (Accepted multicast dest [])
+  unfolding answer_number
   number_group e r h =
       let z : r ≡ 2 ^ 8 * 1 + 2 ^ 16 * dest.port + 2 ^ 32 * dest.address = omega arith in
-      z ∙ ap (λ (b : Bool). answerNumber (Accepted b dest [])) (sym e)
+      z ∙ ap (λ (b : Bool). answer_number (Accepted b dest [])) (sym e)
 
 -- the reply does not change it
-number_any : (multicast : Bool) (dest : Socket) (bs : List ℕ) → answerNumber (Accepted multicast dest []) ≡ answerNumber (Accepted multicast dest bs)
-unfolding answerNumber
+number_any : (multicast : Bool) (dest : Socket) (bs : List ℕ) → answer_number (Accepted multicast dest []) ≡ answer_number (Accepted multicast dest bs)
+unfolding answer_number
 number_any true dest bs = refl
 number_any false dest bs = refl
 
@@ -64,7 +64,7 @@ reply_written o n x out out' w h e =
 
 module _ (t : ℕ) (o : ForwardOpen) (g : Origin) (d : List ℕ) (p : Plan) (s out : List ℕ) (ok : tested s ≡ true) (b : Bytes s) where
   abbrev n₀ : ℕ
-  n₀ = (view s).nextId
+  n₀ = (view s).next_id
 
   long : length (reply_of o g p n₀) ≡ 26
   unfolding reply_of
@@ -74,12 +74,12 @@ module _ (t : ℕ) (o : ForwardOpen) (g : Origin) (d : List ℕ) (p : Plan) (s o
   yes = Accepted (asks_multicast o) (side_at o g p n₀).dest (reply_of o g p n₀)
 
   pub accept_short : length out < 26 → (8, (s, out)) ≡ lifted_out (plan_call t o g d p) s out
-  unfolding plan_call answerNumber
+  unfolding plan_call answer_number
   accept_short h =
       let k = long in
       let a : Refused NoRoom ≡ plan_answer o g n₀ (length out) (Planned p) =
       ap (λ (v : Bool). cond v yes (Refused NoRoom)) (sym (lt-leb (length (reply_of o g p n₀)) (length out) (omega arith))) in
-      out_kept (plan_call t o g d p) s out ok b 8 (ap answerNumber a) (ap (λ (z : Answer). cond (is_yes z) (opened t o g d p (view s)) (view s)) (sym a)) (ap answerBytes (sym a))
+      out_kept (plan_call t o g d p) s out ok b 8 (ap answer_number a) (ap (λ (z : Answer). cond (is_yes z) (opened t o g d p (view s)) (view s)) (sym a)) (ap answer_bytes (sym a))
 
   module _ (n m : ℕ) (en : n ≡ next_id_of s) (em : m ≡ after_id n) (x : Side) (ex : side_in x ≡ side_of o g m p.stream) where
     n_is : n ≡ n₀
@@ -105,7 +105,7 @@ module _ (t : ℕ) (o : ForwardOpen) (g : Origin) (d : List ℕ) (p : Plan) (s o
         open_reply_at k z = Rattle.wire_rules.specs.Replies.open_reply (record { 0 = k }) z.toid o.triad o.ot.rpi z.torpi
 
     pub accept_done : 26 ≤ length out → (c : Conn) → c ≡ new_conn t o g p n → (s' out' : List ℕ) → Opens c x.next p.stores d s s' → StoresFit p.stores d (view s)
-        → out' ≡ sets out 0 (reply_from o n x) → (v : Bool) → v ≡ asks_multicast o → (r : ℕ) → r ≡ answerNumber (Accepted v x.dest [])
+        → out' ≡ sets out 0 (reply_from o n x) → (v : Bool) → v ≡ asks_multicast o → (r : ℕ) → r ≡ answer_number (Accepted v x.dest [])
         → (r, (s', out')) ≡ lifted_out (plan_call t o g d p) s out
     unfolding plan_call
     accept_done h c ec s' out' e f eo v ev r er =
@@ -116,7 +116,7 @@ module _ (t : ℕ) (o : ForwardOpen) (g : Origin) (d : List ℕ) (p : Plan) (s o
         let cc₀ : c ≡ new_conn t o g p n₀ = ec ∙ ap (new_conn t o g p) n_is in
         let i : s' ≡ store (opened_as c x.next p.stores d st) s = (e st s (holds_tested s ok b) f).is in
         out_done (plan_call t o g d p) s out ok r s' out'
-        (er ∙ (λ j. answerNumber (Accepted (ev j) (side_is j).dest [])) ∙ number_any (asks_multicast o) (side_at o g p n₀).dest (reply_of o g p n₀) ∙ ap answerNumber a)
+        (er ∙ (λ j. answer_number (Accepted (ev j) (side_is j).dest [])) ∙ number_any (asks_multicast o) (side_at o g p n₀).dest (reply_of o g p n₀) ∙ ap answer_number a)
         (i ∙ (λ j. store (opened_as (cc₀ j) (side_is j).next p.stores d st) s) ∙ ap (λ (z : State). store z s) (opened_is t o g d p st)
         ∙ ap (λ (z : Answer). store (cond (is_yes z) (opened t o g d p st) st) s) a)
-        (eo ∙ ap (sets out 0) reply_is ∙ ap (λ (z : Answer). sets out 0 (answerBytes z)) a)
+        (eo ∙ ap (sets out 0) reply_is ∙ ap (λ (z : Answer). sets out 0 (answer_bytes z)) a)

@@ -52,10 +52,10 @@ module _ (l : List ℕ) where
   suits_opened : (t : ℕ) (o : ForwardOpen) (g : Origin) (d : List ℕ) (p : Plan) (st : State) → Suits st l → RoleFits p.kind p.output → length st.table < 32 → StoresFit p.stores d st
       → Suits (opened t o g d p st) l
   suits_opened t o g d p st w r n f =
-      let c : Conn = new_conn t o g p st.nextId in
-      let next : ℕ = (side_at o g p st.nextId).next in
-      let k : 0 < next = side_some o g (after_id st.nextId) (after_some st.nextId) p.stream in
-      let w₁ = suits_placed c next st w (conn_fits t o g p st.nextId c refl r) n k in
+      let c : Conn = new_conn t o g p st.next_id in
+      let next : ℕ = (side_at o g p st.next_id).next in
+      let k : 0 < next = side_some o g (after_id st.next_id) (after_some st.next_id) p.stream in
+      let w₁ = suits_placed c next st w (conn_fits t o g p st.next_id c refl r) n k in
       let w₂ = suits_stored p.stores d (placed c next st) w₁ f in
       subst (λ (z : State). Suits z l) (opened_is t o g d p st) (suits_fault (stored_as p.stores d (placed c next st)) l w₂ false)
 

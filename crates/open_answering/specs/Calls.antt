@@ -14,7 +14,7 @@ use Rattle.wire_rules.specs.Opens.{open_of}
 use Rattle.wire_opens.specs.RequestLaws.{open_path}
 use Rattle.wire_rules.specs.declared.PathAnswer.{PathAnswer}
 use Rattle.wire_rules.specs.ConnectionPath.{path_of}
-use Rattle.rules.specs.Answers.{Answer, Refused, Failed, NotParsed, BadTime, is_yes, answerNumber, answerBytes, settled}
+use Rattle.rules.specs.Answers.{Answer, Refused, Failed, NotParsed, BadTime, is_yes, answer_number, answer_bytes, settled}
 use Rattle.rules.specs.Checks.{path_in, verdict}
 use Rattle.rules.specs.Opening.{opened, path_bytes, verdict_of, plan_answer, plan_effect, asked_answer, asked_effect, open_asked, open_answer, open_effect, open_call}
 use Rattle.rules.specs.State.{State, fixeds}
@@ -37,26 +37,26 @@ verdict_at path o st = verdict st.setup (fixeds st.table) o (path_of path)
 
 unfoldable pub path_call : ℕ → ForwardOpen → Origin → List ℕ → ℕ → State → Answer × State
 path_call t o g path room st =
-    settled (plan_answer o g st.nextId room (verdict_at path o st)) (plan_effect t o g (config_in path) st (verdict_at path o st)) st
+    settled (plan_answer o g st.next_id room (verdict_at path o st)) (plan_effect t o g (config_in path) st (verdict_at path o st)) st
 
 -- two calls that do the same with this state and this room
 pub out_same : (call call' : ℕ → State → Answer × State) (s out : List ℕ) → call (length out) (view s) ≡ call' (length out) (view s) → lifted_out call s out ≡ lifted_out call' s out
 unfolding lifted_out
 out_same call call' s out e =
-    ap (λ (z : Answer × State). pick (tested s) (answerNumber z.0, (store z.1 s, sets out 0 (answerBytes z.0))) (1, (s, out))) e
+    ap (λ (z : Answer × State). pick (tested s) (answer_number z.0, (store z.1 s, sets out 0 (answer_bytes z.0))) (1, (s, out))) e
 
 module _ (t : ℕ) (o : ForwardOpen) (g : Origin) (path s out : List ℕ) (answer : PathAnswer) (ea : answer ≡ path_of path)
     (v : Verdict) (ev : v ≡ verdict (view s).setup (fixeds (view s).table) o answer) where
   verdict_is : v ≡ verdict_at path o (view s)
   verdict_is = ev ∙ ap (verdict (view s).setup (fixeds (view s).table) o) ea
 
-  pub path_stopped : tested s ≡ true → Bytes s → (x : Stop) → v ≡ Stopped x → (r : ℕ) → r ≡ answerNumber (Failed x) → (r, (s, out)) ≡ lifted_out (path_call t o g path) s out
+  pub path_stopped : tested s ≡ true → Bytes s → (x : Stop) → v ≡ Stopped x → (r : ℕ) → r ≡ answer_number (Failed x) → (r, (s, out)) ≡ lifted_out (path_call t o g path) s out
   unfolding path_call
   path_stopped ok b x e r er =
       let q : Stopped x ≡ verdict_at path o (view s) = sym e ∙ verdict_is in
-      let a : Failed x ≡ plan_answer o g (view s).nextId (length out) (verdict_at path o (view s)) = ap (plan_answer o g (view s).nextId (length out)) q in
-      out_kept (path_call t o g path) s out ok b r (er ∙ ap answerNumber a)
-      (ap (λ (z : Answer). cond (is_yes z) (plan_effect t o g (config_in path) (view s) (verdict_at path o (view s))) (view s)) (sym a)) (ap answerBytes (sym a))
+      let a : Failed x ≡ plan_answer o g (view s).next_id (length out) (verdict_at path o (view s)) = ap (plan_answer o g (view s).next_id (length out)) q in
+      out_kept (path_call t o g path) s out ok b r (er ∙ ap answer_number a)
+      (ap (λ (z : Answer). cond (is_yes z) (plan_effect t o g (config_in path) (view s) (verdict_at path o (view s))) (view s)) (sym a)) (ap answer_bytes (sym a))
 
   pub path_planned : (p : Plan) → v ≡ Planned p → (d : List ℕ) → d ≡ config_in path → (r : ℕ) (s' out' : List ℕ)
       → (r, (s', out')) ≡ lifted_out (plan_call t o g d p) s out → (r, (s', out')) ≡ lifted_out (path_call t o g path) s out
@@ -64,7 +64,7 @@ module _ (t : ℕ) (o : ForwardOpen) (g : Origin) (path s out : List ℕ) (answe
   path_planned p e d ed r s' out' h =
       let q : Planned p ≡ verdict_at path o (view s) = sym e ∙ verdict_is in
       h ∙ out_same (plan_call t o g d p) (path_call t o g path) s out
-      (λ j. settled (plan_answer o g (view s).nextId (length out) (q j)) (plan_effect t o g (ed j) (view s) (q j)) (view s))
+      (λ j. settled (plan_answer o g (view s).next_id (length out) (q j)) (plan_effect t o g (ed j) (view s) (q j)) (view s))
 
 -- ---- an open as it came
 
@@ -87,12 +87,12 @@ open_inside service request o e = go (eqb service 0x5B) (eqb service 0x54) e
 
 module _ (t service : ℕ) (request : List ℕ) (g : Origin) (s out : List ℕ) where
   pub open_late : tested s ≡ true → Bytes s → 9223372036854775807 < t → (3, (s, out)) ≡ lifted_out (open_call t service request g) s out
-  unfolding open_call open_answer answerNumber
+  unfolding open_call open_answer answer_number
   open_late ok b h =
       let a : Refused BadTime ≡ open_answer t service request g (length out) (view s) =
       ap (λ (v : Bool). cond v (asked_answer g request (length out) (view s) (open_asked service request)) (Refused BadTime)) (sym (lt-leb t 9223372036854775807 h)) in
-      out_kept (open_call t service request g) s out ok b 3 (ap answerNumber a)
-      (ap (λ (z : Answer). cond (is_yes z) (open_effect t service request g (view s)) (view s)) (sym a)) (ap answerBytes (sym a))
+      out_kept (open_call t service request g) s out ok b 3 (ap answer_number a)
+      (ap (λ (z : Answer). cond (is_yes z) (open_effect t service request g (view s)) (view s)) (sym a)) (ap answer_bytes (sym a))
 
   module _ (h : t ≤ 9223372036854775807) where
     timely_answer : (q : OpenAnswer) → q ≡ open_asked service request → asked_answer g request (length out) (view s) q ≡ open_answer t service request g (length out) (view s)
@@ -100,11 +100,11 @@ module _ (t service : ℕ) (request : List ℕ) (g : Origin) (s out : List ℕ) 
     timely_answer q e = λ j. cond (sym (le-leb t 9223372036854775807 h) j) (asked_answer g request (length out) (view s) (e j)) (Refused BadTime)
 
     pub open_unread : tested s ≡ true → Bytes s → open_asked service request ≡ NoOpen → (4, (s, out)) ≡ lifted_out (open_call t service request g) s out
-    unfolding open_call answerNumber
+    unfolding open_call answer_number
     open_unread ok b e =
         let a : Refused NotParsed ≡ open_answer t service request g (length out) (view s) = timely_answer NoOpen (sym e) in
-        out_kept (open_call t service request g) s out ok b 4 (ap answerNumber a)
-        (ap (λ (z : Answer). cond (is_yes z) (open_effect t service request g (view s)) (view s)) (sym a)) (ap answerBytes (sym a))
+        out_kept (open_call t service request g) s out ok b 4 (ap answer_number a)
+        (ap (λ (z : Answer). cond (is_yes z) (open_effect t service request g (view s)) (view s)) (sym a)) (ap answer_bytes (sym a))
 
     pub open_read : (o : ForwardOpen) → open_asked service request ≡ Open o → (r : ℕ) (s' out' : List ℕ)
         → (r, (s', out')) ≡ lifted_out (path_call t o g (path_bytes request o)) s out → (r, (s', out')) ≡ lifted_out (open_call t service request g) s out

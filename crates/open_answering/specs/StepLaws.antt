@@ -88,10 +88,10 @@ module _ (c : Conn) (next : ℕ) (x : Stores) (d s s₁ s₂ s₃ : List ℕ) wh
 -- the steps together are the rules' open
 module _ (t : ℕ) (o : ForwardOpen) (g : Origin) (d : List ℕ) (p : Plan) (st : State) where
   abbrev c : Conn
-  c = new_conn t o g p st.nextId
+  c = new_conn t o g p st.next_id
 
   abbrev next : ℕ
-  next = (side_at o g p st.nextId).next
+  next = (side_at o g p st.next_id).next
 
   pub opened_is : opened_as c next p.stores d st ≡ opened t o g d p st
   unfolding opened new_conn pushed_all
@@ -103,9 +103,9 @@ module _ (t : ℕ) (o : ForwardOpen) (g : Origin) (d : List ℕ) (p : Plan) (st 
             setup = st.setup;
             contents = cs;
             table = (row_added c st).table;
-            events = pushed_all (Opened (info_of st.setup (new_fixed o g p st.nextId)) ∷ es) st.events;
+            events = pushed_all (Opened (info_of st.setup (new_fixed o g p st.next_id)) ∷ es) st.events;
             fault = false;
-            nextId = next;
+            next_id = next;
             counters = st.counters;
           }
 

@@ -73,4 +73,4 @@ abbrev pub reply_from : ForwardOpen → ℕ → Side → List ℕ
 reply_from o n x = open_reply (record { 0 = n }) x.toid o.triad o.ot.rpi x.torpi
 
 unfoldable pub plan_call : ℕ → ForwardOpen → Origin → List ℕ → Plan → ℕ → State → Answer × State
-plan_call t o g d p room st = settled (plan_answer o g st.nextId room (Planned p)) (plan_effect t o g d st (Planned p)) st
+plan_call t o g d p room st = settled (plan_answer o g st.next_id room (Planned p)) (plan_effect t o g d st (Planned p)) st

@@ -1,7 +1,7 @@
 // The new connection in the lent state, and the reply.
 ghost use Rattle.std.specs.Prelude.{◌≡◌, true, [], ℕ, ◌+◌, ◌≤◌, ◌<◌, length};
 ghost use Rattle.std.proofs.lemmas.List.Edits.{sets};
-ghost use Rattle.rules.specs.Answers.{Accepted, answerNumber};
+ghost use Rattle.rules.specs.Answers.{Accepted, answer_number};
 ghost use Rattle.rules.specs.Checks.{asks_multicast};
 ghost use Rattle.state_rules.specs.Rows.{of_due, RowFits};
 ghost use Rattle.state_rules.specs.Places.{connections_of, assemblies_of};
@@ -65,7 +65,7 @@ fn effect(s: &mut [u8], c: Conn, next: u32, stores: Stores, config: &[u8])
 
 // Whether T→O is multicast, and then the port and the address of its stream.
 fn accepted_number(multicast: bool, dest: Socket) -> u64
-    ensures { result ≡ answerNumber (Accepted multicast dest []) }
+    ensures { result ≡ answer_number (Accepted multicast dest []) }
 {
     if !multicast {
         return 0;

@@ -22,12 +22,12 @@ module _ (o : ForwardOpen) (b : Bool) (e : b ≡ transport_ok o.transport) where
   transport_no h = must_no (transport_ok o.transport) (Transport o.transport) (sym e ∙ h)
 
 -- check 6
-module _ (u : Setup) (o : ForwardOpen) (min max : ℕ) (em : min ≡ u.rpiMin) (ex : max ≡ u.rpiMax) (b : Bool) (eb : b ≡ (leb min o.ot.rpi && leb o.ot.rpi max)) where
+module _ (u : Setup) (o : ForwardOpen) (min max : ℕ) (em : min ≡ u.rpi_min) (ex : max ≡ u.rpi_max) (b : Bool) (eb : b ≡ (leb min o.ot.rpi && leb o.ot.rpi max)) where
   abbrev ot_stop : Stop
-  ot_stop = OtRpi o.ot.rpi u.rpiMin u.rpiMax
+  ot_stop = OtRpi o.ot.rpi u.rpi_min u.rpi_max
 
   abbrev to_stop : Stop
-  to_stop = ToRpi o.to.rpi u.rpiMin u.rpiMax
+  to_stop = ToRpi o.to.rpi u.rpi_min u.rpi_max
 
   ot_is : rpi_ok u o.ot.rpi ≡ b
   ot_is = (λ j. leb (sym em j) o.ot.rpi && leb o.ot.rpi (sym ex j)) ∙ sym eb

@@ -15,7 +15,7 @@ use Rattle.wire_rules.specs.declared.OpenAnswer.TheVariants.{Open, NoOpen}
 use Rattle.wire_rules.specs.Opens.{open_of}
 use Rattle.wire_rules.specs.Replies.{open_refusal}
 use Rattle.wire_replies.specs.ReplyLaws.{open_refusal_long}
-use Rattle.rules.specs.Answers.{Answer, Wrote, Refused, Failed, NotParsed, NoRoom, words_of, wordsNumber, answerNumber, answerBytes, fitting}
+use Rattle.rules.specs.Answers.{Answer, Wrote, Refused, Failed, NotParsed, NoRoom, words_of, words_number, answer_number, answer_bytes, fitting}
 use Rattle.msg_routing.specs.Answered.{answered}
 use Rattle.rules.specs.Opening.{open_asked, refusal_for, refusal_answer}
 use Rattle.rules.specs.declared.Stop.{Stop}
@@ -39,19 +39,19 @@ refusal_of t room = fitting room (open_refusal t) (Wrote (open_refusal t))
 
 module _ (t : Triad) (out : List ℕ) where
   pub refuse_short : length out < 10 → (8, out) ≡ answered (refusal_of t) out
-  unfolding answered answerNumber
+  unfolding answered answer_number
   refuse_short h =
       let n = open_refusal_long t in
-      ap (λ (b : Bool). let a : Answer = cond b (Wrote (open_refusal t)) (Refused NoRoom) in (answerNumber a, sets out 0 (answerBytes a)))
+      ap (λ (b : Bool). let a : Answer = cond b (Wrote (open_refusal t)) (Refused NoRoom) in (answer_number a, sets out 0 (answer_bytes a)))
       (sym (lt-leb (length (open_refusal t)) (length out) (omega arith)))
 
   pub refuse_done : 10 ≤ length out → (out' : List ℕ) (x : Written) → (x, out') ≡ written out (open_refusal t) → (2560, out') ≡ answered (refusal_of t) out
-  unfolding answered answerNumber
+  unfolding answered answer_number
   refuse_done h out' x e =
       let n = open_refusal_long t in
       let q : out' ≡ sets out 0 (open_refusal t) = ap (λ (z : Written × List ℕ). z.1) (e ∙ written_all out (open_refusal t) (omega arith)) in
       (λ j. (2 ^ 8 * sym n j, q j))
-      ∙ ap (λ (b : Bool). let a : Answer = cond b (Wrote (open_refusal t)) (Refused NoRoom) in (answerNumber a, sets out 0 (answerBytes a)))
+      ∙ ap (λ (b : Bool). let a : Answer = cond b (Wrote (open_refusal t)) (Refused NoRoom) in (answer_number a, sets out 0 (answer_bytes a)))
       (sym (le-leb (length (open_refusal t)) (length out) (omega arith)))
 
 module _ (service : ℕ) (request out : List ℕ) (x : OpenAnswer) (ex : x ≡ open_asked service request) where
@@ -60,7 +60,7 @@ module _ (service : ℕ) (request out : List ℕ) (x : OpenAnswer) (ex : x ≡ o
   from_answer q e = ap (λ (z : OpenAnswer). answered (λ room. refusal_for room z) out) (sym e ∙ ex)
 
   pub refusal_unread : x ≡ NoOpen → (4, out) ≡ answered (refusal_answer service request) out
-  unfolding answered answerNumber
+  unfolding answered answer_number
   refusal_unread e = from_answer NoOpen e
 
   pub refusal_read : (o : ForwardOpen) → x ≡ Open o → (r : ℕ) (out' : List ℕ) → (r, out') ≡ answered (refusal_of o.triad) out → (r, out') ≡ answered (refusal_answer service request) out
@@ -69,6 +69,6 @@ module _ (service : ℕ) (request out : List ℕ) (x : OpenAnswer) (ex : x ≡ o
 -- ---- the number
 
 -- the number of the words of a check that stopped the open
-pub stopped_as : (stop q : Stop) → stop ≡ q → (r : ℕ) → r ≡ 5 + wordsNumber (words_of q) → r ≡ answerNumber (Failed stop)
-unfolding answerNumber
-stopped_as stop q e r d = d ∙ ap (λ (z : Stop). 5 + wordsNumber (words_of z)) (sym e)
+pub stopped_as : (stop q : Stop) → stop ≡ q → (r : ℕ) → r ≡ 5 + words_number (words_of q) → r ≡ answer_number (Failed stop)
+unfolding answer_number
+stopped_as stop q e r d = d ∙ ap (λ (z : Stop). 5 + words_number (words_of z)) (sym e)

@@ -2,7 +2,7 @@
 #![tactic(auto)]
 
 ghost use Rattle.std.specs.Prelude.{◌≡◌, ◌+◌, [], ◌∷◌, length};
-ghost use Rattle.rules.specs.Answers.{Failed, wordsNumber, answerNumber};
+ghost use Rattle.rules.specs.Answers.{Failed, words_number, answer_number};
 ghost use Rattle.rules.specs.Opening.{open_asked, refusal_answer};
 ghost use Rattle.msg_routing.specs.Answered.{answered};
 ghost use Rattle.open_refusing.specs.Refusals.{refusal_of};
@@ -50,20 +50,20 @@ pub fn refusal(service: u8, request: &[u8], out: &mut [u8]) -> u64
 
 // No. 5 with general status 0x01 and one word.
 fn one_word(w: u16) -> u64
-    ensures { result ≡ 5 + wordsNumber (w ∷ []) }
+    ensures { result ≡ 5 + words_number (w ∷ []) }
 {
     65797 + (w as u64) * 4294967296
 }
 
 fn two_words(w: u16, v: u16) -> u64
-    ensures { result ≡ 5 + wordsNumber (w ∷ v ∷ []) }
+    ensures { result ≡ 5 + words_number (w ∷ v ∷ []) }
 {
     131333 + (w as u64) * 4294967296 + (v as u64) * 281474976710656
 }
 
 // What the host answers an open with that does not pass a check.
 pub fn stop_number(stop: Stop) -> u64
-    ensures { result ≡ answerNumber (Failed stop) }
+    ensures { result ≡ answer_number (Failed stop) }
 {
     match stop {
         Stop::Transport(_) => one_word(0x0103),

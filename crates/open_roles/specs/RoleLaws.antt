@@ -51,21 +51,21 @@ module _ (a b : Bool) where
 
 -- ---- the kind of a connection
 
-module _ (u : Setup) (point a : ℕ) (ea : a ≡ u.inputOnly) where
+module _ (u : Setup) (point a : ℕ) (ea : a ≡ u.input_only) where
   pub kind_input_only : point ≡ a → InputOnly ≡ checks.kind_of u point
   unfolding checks.kind_of
-  kind_input_only h = if_is point u.inputOnly InputOnly (cond (eqb point u.listenOnly) ListenOnly Owner) (h ∙ ea)
+  kind_input_only h = if_is point u.input_only InputOnly (cond (eqb point u.listen_only) ListenOnly Owner) (h ∙ ea)
 
-  module _ (h : point ≡ a → ⊥) (b : ℕ) (eb : b ≡ u.listenOnly) where
-    other : (k : Kind) → k ≡ cond (eqb point u.listenOnly) ListenOnly Owner → k ≡ checks.kind_of u point
+  module _ (h : point ≡ a → ⊥) (b : ℕ) (eb : b ≡ u.listen_only) where
+    other : (k : Kind) → k ≡ cond (eqb point u.listen_only) ListenOnly Owner → k ≡ checks.kind_of u point
     unfolding checks.kind_of
-    other k e = e ∙ if_not point u.inputOnly InputOnly (cond (eqb point u.listenOnly) ListenOnly Owner) (λ q. h (q ∙ sym ea))
+    other k e = e ∙ if_not point u.input_only InputOnly (cond (eqb point u.listen_only) ListenOnly Owner) (λ q. h (q ∙ sym ea))
 
     pub kind_listen_only : point ≡ b → ListenOnly ≡ checks.kind_of u point
-    kind_listen_only g = other ListenOnly (if_is point u.listenOnly ListenOnly Owner (g ∙ eb))
+    kind_listen_only g = other ListenOnly (if_is point u.listen_only ListenOnly Owner (g ∙ eb))
 
     pub kind_owner : (point ≡ b → ⊥) → Owner ≡ checks.kind_of u point
-    kind_owner g = other Owner (if_not point u.listenOnly ListenOnly Owner (λ q. g (q ∙ sym eb)))
+    kind_owner g = other Owner (if_not point u.listen_only ListenOnly Owner (λ q. g (q ∙ sym eb)))
 
 -- ---- a place that was searched for
 

@@ -7,7 +7,7 @@ use lib.ListN.{get_or, length, drop}
 use Rattle.wire_rules.specs.Examples.{address}
 use Rattle.rules.specs.State
 use Rattle.rules.specs.State.{State, Due, Never, At, Origin, Socket, Configured, content_at, with_table, with_fault, with_next_id}
-use Rattle.rules.specs.Answers.{answerNumber, answerBytes}
+use Rattle.rules.specs.Answers.{answer_number, answer_bytes}
 use Rattle.rules.specs.Events.{event_record}
 use Rattle.rules.specs.Setup.{first_id}
 use Rattle.rules.specs.Opening.{open_call}
@@ -80,7 +80,7 @@ where_packets_go = (refl, refl, refl, refl, refl)
 
 -- the O→T and T→O ids in the table, and the id that is next
 abbrev pub ids : State → List (ℕ × ℕ) × ℕ
-ids st = (map (λ c. (c.fixed.otid.0, c.fixed.toid.0)) st.table, st.nextId)
+ids st = (map (λ c. (c.fixed.otid.0, c.fixed.toid.0)) st.table, st.next_id)
 
 pub ids_in_turn :
     -- 7.8, 7.14, 7.15: two for a new stream, one for a joiner, one for point-to-point
@@ -122,7 +122,7 @@ kept = refl
 abbrev pub told_to : List ℕ → ℕ × List ℕ
 told_to request =
     let a = (open_call 1000 0x54 request (away false 0) 26 (run (map opening stream) plant)).0 in
-    (answerNumber a, answerBytes a)
+    (answer_number a, answer_bytes a)
 
 pub replies :
     -- 7.24, 7.25: ids, triad, the O→T RPI as asked and the T→O RPI of the stream; that it is multicast, its port and group

@@ -10,7 +10,7 @@ use Rattle.wire_rules.specs.Examples.{Example, ◌is◌, Hold}
 use Rattle.wire_rules.specs.Params.{params_at}
 use Rattle.wire_rules.specs.Opens.{triad_at, way_at, place_at, fields_of, open_with, width_of, open_of, close_of}
 use Rattle.wire_rules.specs.Replies.{triad_reply}
-use Rattle.rules.specs.Answers.{Done, Wrote, Accepted, Gone, Refused, Failed, BadSetup, BadTime, NotParsed, NoAssembly, TooLong, NoRoom, NothingThere, noNumber, answerNumber, answerBytes, Transport, InputSize, fitting, settled}
+use Rattle.rules.specs.Answers.{Done, Wrote, Accepted, Gone, Refused, Failed, BadSetup, BadTime, NotParsed, NoAssembly, TooLong, NoRoom, NothingThere, no_number, answer_number, answer_bytes, Transport, InputSize, fitting, settled}
 use Rattle.rules.specs.Checks.{must, transport_check, verdict, place_of}
 use Rattle.rules.specs.Opening.{verdict_of, open_answer, open_effect, open_call, refusal_answer}
 use Rattle.rules.specs.Removal.{close_answer, close_effect, close_call, expire_answer, expire_call}
@@ -23,18 +23,18 @@ use Rattle.rules.proofs.Small.{two}
 abbrev pub numbers : List Example
 numbers =
     -- 2.3 to 2.10: each reason's number
-    (map noNumber (BadSetup ∷ BadTime ∷ NotParsed ∷ NoAssembly ∷ TooLong ∷ NoRoom ∷ NothingThere ∷ []) is 2 ∷ 3 ∷ 4 ∷ 6 ∷ 7 ∷ 8 ∷ 9 ∷ []) ∷
+    (map no_number (BadSetup ∷ BadTime ∷ NotParsed ∷ NoAssembly ∷ TooLong ∷ NoRoom ∷ NothingThere ∷ []) is 2 ∷ 3 ∷ 4 ∷ 6 ∷ 7 ∷ 8 ∷ 9 ∷ []) ∷
     -- 2.16: the low byte is 0 for yes or the number for no; a yes has its length, or how many went, from bit 8 on
-    (map answerNumber (Done ∷ Wrote [] ∷ Wrote (7 ∷ 7 ∷ 7 ∷ []) ∷ Gone 2 ∷ Refused NoRoom ∷ []) is 0 ∷ 0 ∷ 0x300 ∷ 0x200 ∷ 8 ∷ []) ∷
+    (map answer_number (Done ∷ Wrote [] ∷ Wrote (7 ∷ 7 ∷ 7 ∷ []) ∷ Gone 2 ∷ Refused NoRoom ∷ []) is 0 ∷ 0 ∷ 0x300 ∷ 0x200 ∷ 8 ∷ []) ∷
     -- 2.17: an accepted open says whether it is multicast, then port and address of the group
-    (answerNumber (Accepted true (record { address = 0xEFC00120; port = 0x08AE }) (1 ∷ [])) is 0xEFC0012008AE0100) ∷
-    (answerNumber (Accepted false (record { address = 0xEFC00120; port = 0x08AE }) (1 ∷ [])) is 0) ∷
+    (answer_number (Accepted true (record { address = 0xEFC00120; port = 0x08AE }) (1 ∷ [])) is 0xEFC0012008AE0100) ∷
+    (answer_number (Accepted false (record { address = 0xEFC00120; port = 0x08AE }) (1 ∷ [])) is 0) ∷
     -- 2.6: a refused one has general status 0x01, the number of words, then one or two words
-    (answerNumber (Failed (Transport 0x81)) is 0x0000010300010105) ∷
-    (answerNumber (Failed (InputSize 2 3)) is 0x0003010900020105) ∷
+    (answer_number (Failed (Transport 0x81)) is 0x0000010300010105) ∷
+    (answer_number (Failed (InputSize 2 3)) is 0x0003010900020105) ∷
     -- 2.1: a no writes nothing, 2.15: a yes its bytes at the start and none behind
-    (map answerBytes (Refused NoRoom ∷ Failed (Transport 0x81) ∷ Done ∷ Gone 2 ∷ []) is [] ∷ [] ∷ [] ∷ [] ∷ []) ∷
-    (map answerBytes (Wrote (1 ∷ 2 ∷ []) ∷ Accepted true (record { address = 1; port = 1 }) (3 ∷ []) ∷ []) is (1 ∷ 2 ∷ []) ∷ (3 ∷ []) ∷ []) ∷
+    (map answer_bytes (Refused NoRoom ∷ Failed (Transport 0x81) ∷ Done ∷ Gone 2 ∷ []) is [] ∷ [] ∷ [] ∷ [] ∷ []) ∷
+    (map answer_bytes (Wrote (1 ∷ 2 ∷ []) ∷ Accepted true (record { address = 1; port = 1 }) (3 ∷ []) ∷ []) is (1 ∷ 2 ∷ []) ∷ (3 ∷ []) ∷ []) ∷
     (settled {S = ℕ} (Refused NoRoom) 1 0 is (Refused NoRoom, 0)) ∷
     (settled {S = ℕ} (Failed (Transport 0x81)) 1 0 is (Failed (Transport 0x81), 0)) ∷
     (settled {S = ℕ} (Wrote []) 1 0 is (Wrote [], 1)) ∷
@@ -44,7 +44,7 @@ numbers =
     []
 
 pub the_numbers : Hold numbers
-unfolding answerNumber
+unfolding answer_number
 the_numbers = (refl, (refl, (refl, (refl, (refl, (refl, (refl, (refl, (refl, (refl, (refl, (refl, (refl, tt)))))))))))))
 
 -- an open of a transport that is not ours

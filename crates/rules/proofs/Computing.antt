@@ -12,7 +12,7 @@ use Rattle.wire_rules.specs.ConnectionPath
 use Rattle.wire_rules.specs.Params.{params_at}
 use Rattle.wire_rules.specs.Opens.{triad_at, way_at, place_at, fields_of, open_with, width_of, open_of, close_of}
 use Rattle.wire_rules.specs.Replies.{open_reply, triad_reply}
-use Rattle.rules.specs.Answers.{answerNumber}
+use Rattle.rules.specs.Answers.{answer_number}
 use Rattle.rules.specs.Setup.{fresh}
 use Rattle.rules.specs.Events.{info_of, info_record, event_record, oldest_gone, appended, pushed, pushed_all}
 use Rattle.rules.specs.Checks.{must, and_then, transport_check, path_check, revision_ok, key_stop, key_check, kind_of, place_of, points_check, roles_of, config_check, rpi_check, type_check, ot_size_check, to_size_check, triad_check, owner_check, stream_of, stream_check, room_check, plan_of, verdict}
@@ -44,7 +44,7 @@ events = true
 
 -- an open
 unfoldable pub openings : Bool
-unfolding wire checks events fresh answerNumber after_id point_dest group_dest side_of new_fixed new_heard new_conn opened verdict_of reply_of open_answer open_effect open_call
+unfolding wire checks events fresh answer_number after_id point_dest group_dest side_of new_fixed new_heard new_conn opened verdict_of reply_of open_answer open_effect open_call
 openings = true
 
 -- a close, an expiry, the next deadline

@@ -21,7 +21,7 @@ use Rattle.wire_rules.specs.declared.Seg.TheVariants.{Class, Instance, Point}
 use Rattle.rules.specs.State
 use Rattle.rules.specs.State.{Input, Output, Config, Due, Never, At, Conn, Setup, Content, State, Origin, Fixed, Events, OutputChanged}
 use Rattle.rules.specs.Answers
-use Rattle.rules.specs.Answers.{Answer, Wrote, Gone, Refused, Failed, NoRoom, NothingThere, answerNumber}
+use Rattle.rules.specs.Answers.{Answer, Wrote, Gone, Refused, Failed, NoRoom, NothingThere, answer_number}
 use Rattle.rules.specs.Setup.{fresh}
 use Rattle.rules.specs.Events.{pushed}
 use Rattle.rules.specs.Checks.{room_check}
@@ -65,15 +65,15 @@ abbrev pub setup : Setup
 setup =
     record {
       identity = record { vendor = 1; device = 12; product = 3; major = 1; minor = 5; serial = 9; name = [] };
-      inputOnly = 198;
-      listenOnly = 199;
-      rpiMin = 1000;
-      rpiMax = 100000;
+      input_only = 198;
+      listen_only = 199;
+      rpi_min = 1000;
+      rpi_max = 100000;
       late_limit = 0;
-      transferLimit = 240;
+      transfer_limit = 240;
       mac = 0 ∷ 0 ∷ 0 ∷ 0 ∷ 0 ∷ 0 ∷ [];
       eds = none;
-      edsName = [];
+      eds_name = [];
       assemblies =
           record { instance = 150; kind = Output; size = 2 } ∷
           record { instance = 101; kind = Input; size = 1 } ∷
@@ -138,9 +138,9 @@ the_day =
     -- ids 5 and 6 for the owner, 7 for the listener, which joins the stream 6 and does not produce
     (map brief (run opens start).table is (5, 6, 41000, At 1000, 0) ∷ (7, 6, 201000, Never, 0) ∷ []) ∷
     -- the owner is told that it is multicast, the port and the group of host 2
-    (answerNumber (open_call 1000 0x54 owner (from 8) 26 start).0 is 2 ^ 8 + 2 ^ 16 * 2222 + 2 ^ 32 * address 239 192 1 32) ∷
+    (answer_number (open_call 1000 0x54 owner (from 8) 26 start).0 is 2 ^ 8 + 2 ^ 16 * 2222 + 2 ^ 32 * address 239 192 1 32) ∷
     -- and gets 26 bytes: ids 5 and 6, serial 1, vendor 1, originator 1, both RPIs, two zeros
-    (Answers.answerBytes (open_call 1000 0x54 owner (from 8) 26 start).0 is
+    (Answers.answer_bytes (open_call 1000 0x54 owner (from 8) 26 start).0 is
     5 ∷ 0 ∷ 0 ∷ 0 ∷ 6 ∷ 0 ∷ 0 ∷ 0 ∷ 1 ∷ 0 ∷ 1 ∷ 0 ∷ 1 ∷ 0 ∷ 0 ∷ 0 ∷ 16 ∷ 39 ∷ 0 ∷ 0 ∷ 16 ∷ 39 ∷ 0 ∷ 0 ∷ 0 ∷ 0 ∷ []) ∷
     -- the frame's data and run are taken, and it lives on until 2000 + 40000
     (output (run noon start) is record { bytes = 0xAA ∷ 0xBB ∷ []; run = true; notified = true }) ∷
@@ -152,7 +152,7 @@ the_day =
     -- or, with a byte too little, nothing
     (produce_call 2000 33 (run opens start) is (Refused NoRoom, run opens start)) ∷
     -- 1,000 microseconds late
-    ((run noon start).counters is record { produced = 1; late = 1; maxLate = 1000 }) ∷
+    ((run noon start).counters is record { produced = 1; late = 1; max_late = 1000 }) ∷
     -- the next deadline, and at that very time nothing has expired
     (deadline_answer 8 (run noon start) is Wrote (le_bytes 8 11000)) ∷
     ((expire_call 42000 (run noon start)).0 is Gone 0) ∷
@@ -316,7 +316,7 @@ the_checks_lem = (refl, (refl, (refl, (refl, (refl, (refl, (refl, (refl, (refl, 
 -- the words, by check
 abbrev pub words : List Example
 words =
-    (answerNumber (Failed (Answers.Transport 0x81)) is 5 + 2 ^ 8 * 1 + 2 ^ 16 * 1 + 2 ^ 32 * 0x0103) ∷
+    (answer_number (Failed (Answers.Transport 0x81)) is 5 + 2 ^ 8 * 1 + 2 ^ 16 * 1 + 2 ^ 32 * 0x0103) ∷
     (map Answers.words_of (Answers.PathBroken 4 ∷ Answers.PathBarred ∷ Answers.KeyVendor 2 1 ∷ Answers.KeyProduct 4 3 ∷ Answers.KeyDevice 13 12 ∷ Answers.KeyRevision 2 0 1 5 ∷ []) is
     (0x0315 ∷ []) ∷ (0x0315 ∷ []) ∷ (0x0114 ∷ []) ∷ (0x0114 ∷ []) ∷ (0x0115 ∷ []) ∷ (0x0116 ∷ []) ∷ []) ∷
     (map Answers.words_of (Answers.ClassNotFour true 6 ∷ Answers.NumberCount 1 ∷ Answers.NoOutputPoint 151 ∷ Answers.NoInputPoint 150 ∷ Answers.NoConfig 2 ∷ Answers.ConfigLength 4 2 ∷ []) is
@@ -326,7 +326,7 @@ words =
     (map Answers.words_of (Answers.TriadInUse ∷ Answers.Owned 150 ∷ Answers.NoStream ∷ Answers.ListenPointToPoint ∷ Answers.Full ∷ []) is
     (0x0100 ∷ []) ∷ (0x0106 ∷ []) ∷ (0x0119 ∷ []) ∷ (0x0108 ∷ []) ∷ (0x0113 ∷ []) ∷ []) ∷
     -- two words: the size is the second
-    (answerNumber (Failed (Answers.InputSize 2 3)) is 5 + 2 ^ 8 * 1 + 2 ^ 16 * 2 + 2 ^ 32 * 0x0109 + 2 ^ 48 * 3) ∷
+    (answer_number (Failed (Answers.InputSize 2 3)) is 5 + 2 ^ 8 * 1 + 2 ^ 16 * 2 + 2 ^ 32 * 0x0109 + 2 ^ 48 * 3) ∷
     []
 
 pub the_words : Hold words

@@ -35,15 +35,15 @@ abbrev setup_with : Option (List ℕ) → ℕ → Setup
 setup_with eds limit =
     record {
       identity = us;
-      inputOnly = 238;
-      listenOnly = 237;
-      rpiMin = 1000;
-      rpiMax = 1000000;
+      input_only = 238;
+      listen_only = 237;
+      rpi_min = 1000;
+      rpi_max = 1000000;
       late_limit = 0;
-      transferLimit = limit;
+      transfer_limit = limit;
       mac = 0x02 ∷ 0x00 ∷ 0x5E ∷ 0x10 ∷ 0x20 ∷ 0x30 ∷ [];
       eds = eds;
-      edsName = 0x61 ∷ 0x2E ∷ 0x65 ∷ [];
+      eds_name = 0x61 ∷ 0x2E ∷ 0x65 ∷ [];
       assemblies = shapes;
     }
 
@@ -59,8 +59,8 @@ state_with u bytes run table fault =
       table = table;
       events = record { gone = 0; waiting = [] };
       fault = fault;
-      nextId = 1;
-      counters = record { produced = 0; late = 0; maxLate = 0 };
+      next_id = 1;
+      counters = record { produced = 0; late = 0; max_late = 0 };
     }
 
 -- a connection of a kind; an owner's output is the first assembly

@@ -13,18 +13,18 @@ use Rattle.rules.proofs.Examples.{ask, from}
 
 -- with the numbers of its two heartbeats, and the least and the greatest RPI
 abbrev pub plant_of : ℕ → ℕ → ℕ → ℕ → Setup
-plant_of inputOnly listenOnly rpiMin rpiMax =
+plant_of input_only listen_only rpi_min rpi_max =
     record {
       identity = record { vendor = 1; device = 12; product = 3; major = 1; minor = 5; serial = 9; name = [] };
-      inputOnly = inputOnly;
-      listenOnly = listenOnly;
-      rpiMin = rpiMin;
-      rpiMax = rpiMax;
+      input_only = input_only;
+      listen_only = listen_only;
+      rpi_min = rpi_min;
+      rpi_max = rpi_max;
       late_limit = 0;
-      transferLimit = 240;
+      transfer_limit = 240;
       mac = 0 ∷ 0 ∷ 0 ∷ 0 ∷ 0 ∷ 0 ∷ [];
       eds = none;
-      edsName = [];
+      eds_name = [];
       assemblies =
           record { instance = 150; kind = Output; size = 2 } ∷
           record { instance = 101; kind = Input; size = 1 } ∷

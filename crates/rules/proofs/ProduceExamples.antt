@@ -89,15 +89,15 @@ abbrev pub limited : ℕ → Setup
 limited late =
     record {
       identity = setup.identity;
-      inputOnly = setup.inputOnly;
-      listenOnly = setup.listenOnly;
-      rpiMin = setup.rpiMin;
-      rpiMax = setup.rpiMax;
+      input_only = setup.input_only;
+      listen_only = setup.listen_only;
+      rpi_min = setup.rpi_min;
+      rpi_max = setup.rpi_max;
       late_limit = late;
-      transferLimit = setup.transferLimit;
+      transfer_limit = setup.transfer_limit;
       mac = setup.mac;
       eds = setup.eds;
-      edsName = setup.edsName;
+      eds_name = setup.eds_name;
       assemblies = setup.assemblies;
     }
 
@@ -123,6 +123,6 @@ lateness_counted = (refl, (refl, (refl, (refl, (refl, (refl, (refl, tt)))))))
 -- nothing but the table and the counters: 11.4, the fault mark stays
 pub produce_leaves : (t : ℕ) (st : State) →
     ((produce_effect t st).contents ≡ st.contents) × ((produce_effect t st).events ≡ st.events) × ((produce_effect t st).fault ≡ st.fault) ×
-    ((produce_effect t st).nextId ≡ st.nextId)
+    ((produce_effect t st).next_id ≡ st.next_id)
 unfolding produce_effect
 produce_leaves t st = (refl, refl, refl, refl)

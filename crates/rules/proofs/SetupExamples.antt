@@ -17,18 +17,18 @@ use Rattle.rules.proofs.Small.{holding, counting}
 -- a setup by what is tested of it: assemblies, names, EDS, transfer limit; its least RPI is above its greatest, and its heartbeats
 -- are one number, that of an assembly too
 abbrev pub sized : List Shape → List ℕ → List ℕ → Option (List ℕ) → ℕ → Setup
-sized shapes name edsName eds limit =
+sized shapes name eds_name eds limit =
     record {
       identity = record { vendor = 1; device = 12; product = 3; major = 1; minor = 5; serial = 9; name = name };
-      inputOnly = 7;
-      listenOnly = 7;
-      rpiMin = 5001;
-      rpiMax = 5000;
+      input_only = 7;
+      listen_only = 7;
+      rpi_min = 5001;
+      rpi_max = 5000;
       late_limit = 0;
-      transferLimit = limit;
+      transfer_limit = limit;
       mac = 0 ∷ 0 ∷ 0 ∷ 0 ∷ 0 ∷ 0 ∷ [];
       eds = eds;
-      edsName = edsName;
+      eds_name = eds_name;
       assemblies = shapes;
     }
 
@@ -97,7 +97,7 @@ freshly =
       table = [];
       events = record { gone = 0; waiting = [] };
       fault = false;
-      nextId = 5;
+      next_id = 5;
       counters = counting 0 0 0;
     }) ∷
     -- 1.11: ids start at the seed with bit 0 set

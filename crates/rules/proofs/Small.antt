@@ -66,7 +66,7 @@ abbrev pub holding : List ℕ → Bool → Bool → Content
 holding bytes run notified = record { bytes = bytes; run = run; notified = notified }
 
 abbrev pub counting : ℕ → ℕ → ℕ → Counters
-counting produced late maxLate = record { produced = produced; late = late; maxLate = maxLate }
+counting produced late max_late = record { produced = produced; late = late; max_late = max_late }
 
 -- connections on the line, nothing told yet
 abbrev pub line : List Conn → State
@@ -77,7 +77,7 @@ line table =
       table = table;
       events = record { gone = 0; waiting = [] };
       fault = false;
-      nextId = 20;
+      next_id = 20;
       counters = counting 0 0 0;
     }
 

@@ -9,18 +9,18 @@ pub data No : Type 0 where
   BadSetup BadTime NotParsed NoAssembly TooLong NoRoom NothingThere : No
 
 -- 2.3 to 2.10: numbers for no
-abbrev pub noNumber : No → ℕ
-noNumber BadSetup = 2
-noNumber BadTime = 3
-noNumber NotParsed = 4
-noNumber NoAssembly = 6
-noNumber TooLong = 7
-noNumber NoRoom = 8
-noNumber NothingThere = 9
+abbrev pub no_number : No → ℕ
+no_number BadSetup = 2
+no_number BadTime = 3
+no_number NotParsed = 4
+no_number NoAssembly = 6
+no_number TooLong = 7
+no_number NoRoom = 8
+no_number NothingThere = 9
 
 -- 2.6: an open that fails a check is answered with general status 0x01, connection failure
-abbrev pub generalStatus : ℕ
-generalStatus = 0x01
+abbrev pub general_status : ℕ
+general_status = 0x01
 
 -- and one or two words
 abbrev pub words_of : Stop → List ℕ
@@ -51,32 +51,32 @@ words_of ListenPointToPoint = 0x0108 ∷ []
 words_of Full = 0x0113 ∷ []  -- out of connections
 
 -- which check it was
-abbrev pub checkOf : Stop → ℕ
-checkOf (Transport t) = 1
-checkOf (PathBroken o) = 2
-checkOf PathBarred = 2
-checkOf (KeyVendor v ours) = 3
-checkOf (KeyProduct p ours) = 3
-checkOf (KeyDevice d ours) = 3
-checkOf (KeyRevision major minor m n) = 3
-checkOf (ClassNotFour given c) = 4
-checkOf (NumberCount n) = 4
-checkOf (NoOutputPoint n) = 4
-checkOf (NoInputPoint n) = 4
-checkOf (NoConfig n) = 5
-checkOf (ConfigLength n size) = 5
-checkOf (OtRpi r min max) = 6
-checkOf (ToRpi r min max) = 6
-checkOf (OtType t) = 7
-checkOf (ToType t) = 7
-checkOf (OwnerSize n wanted) = 8
-checkOf (HeartbeatSize n) = 8
-checkOf (InputSize n wanted) = 9
-checkOf TriadInUse = 10
-checkOf (Owned o) = 11
-checkOf NoStream = 12
-checkOf ListenPointToPoint = 12
-checkOf Full = 13
+abbrev pub check_of : Stop → ℕ
+check_of (Transport t) = 1
+check_of (PathBroken o) = 2
+check_of PathBarred = 2
+check_of (KeyVendor v ours) = 3
+check_of (KeyProduct p ours) = 3
+check_of (KeyDevice d ours) = 3
+check_of (KeyRevision major minor m n) = 3
+check_of (ClassNotFour given c) = 4
+check_of (NumberCount n) = 4
+check_of (NoOutputPoint n) = 4
+check_of (NoInputPoint n) = 4
+check_of (NoConfig n) = 5
+check_of (ConfigLength n size) = 5
+check_of (OtRpi r min max) = 6
+check_of (ToRpi r min max) = 6
+check_of (OtType t) = 7
+check_of (ToType t) = 7
+check_of (OwnerSize n wanted) = 8
+check_of (HeartbeatSize n) = 8
+check_of (InputSize n wanted) = 9
+check_of TriadInUse = 10
+check_of (Owned o) = 11
+check_of NoStream = 12
+check_of ListenPointToPoint = 12
+check_of Full = 13
 
 -- yes: done; done, and bytes written at the start of the lent output; an open accepted, multicast to a socket or not, and its
 -- reply written; so many connections gone. No: a number; a check that an open does not pass
@@ -97,29 +97,29 @@ is_yes (Refused w) = false
 is_yes (Failed s) = false
 
 -- 2.6: general status, the number of words and the words, from bit 8 on
-abbrev pub wordsNumber : List ℕ → ℕ
-wordsNumber [] = 0
-wordsNumber (w ∷ []) = 2 ^ 8 * generalStatus + 2 ^ 16 * 1 + 2 ^ 32 * w
-wordsNumber (w ∷ v ∷ ws) = 2 ^ 8 * generalStatus + 2 ^ 16 * 2 + 2 ^ 32 * w + 2 ^ 48 * v
+abbrev pub words_number : List ℕ → ℕ
+words_number [] = 0
+words_number (w ∷ []) = 2 ^ 8 * general_status + 2 ^ 16 * 1 + 2 ^ 32 * w
+words_number (w ∷ v ∷ ws) = 2 ^ 8 * general_status + 2 ^ 16 * 2 + 2 ^ 32 * w + 2 ^ 48 * v
 
 -- 2.16, 2.17: the answer as a number: its low byte is 0 for yes, or the number for no
-unfoldable pub answerNumber : Answer → ℕ
-answerNumber Done = 0
-answerNumber (Wrote bs) = 2 ^ 8 * length bs
-answerNumber (Accepted true s bs) = 2 ^ 8 * 1 + 2 ^ 16 * s.port + 2 ^ 32 * s.address
-answerNumber (Accepted false s bs) = 0
-answerNumber (Gone n) = 2 ^ 8 * n
-answerNumber (Refused w) = noNumber w
-answerNumber (Failed s) = 5 + wordsNumber (words_of s)
+unfoldable pub answer_number : Answer → ℕ
+answer_number Done = 0
+answer_number (Wrote bs) = 2 ^ 8 * length bs
+answer_number (Accepted true s bs) = 2 ^ 8 * 1 + 2 ^ 16 * s.port + 2 ^ 32 * s.address
+answer_number (Accepted false s bs) = 0
+answer_number (Gone n) = 2 ^ 8 * n
+answer_number (Refused w) = no_number w
+answer_number (Failed s) = 5 + words_number (words_of s)
 
 -- 2.15: what is written at the start of the lent output; what is behind stays
-abbrev pub answerBytes : Answer → List ℕ
-answerBytes Done = []
-answerBytes (Wrote bs) = bs
-answerBytes (Accepted multicast s bs) = bs
-answerBytes (Gone n) = []
-answerBytes (Refused w) = []
-answerBytes (Failed s) = []
+abbrev pub answer_bytes : Answer → List ℕ
+answer_bytes Done = []
+answer_bytes (Wrote bs) = bs
+answer_bytes (Accepted multicast s bs) = bs
+answer_bytes (Gone n) = []
+answer_bytes (Refused w) = []
+answer_bytes (Failed s) = []
 
 -- 2.9: No. 8, lent output shorter than this answer
 abbrev pub fitting : ℕ → List ℕ → Answer → Answer
@@ -129,8 +129,8 @@ fitting room bytes a = cond (leb (length bytes) room) a (Refused NoRoom)
 abbrev pub timely : ℕ → Bool
 timely t = leb t (2 ^ 63 - 1)
 
-abbrev pub atTime : ℕ → Answer → Answer
-atTime t a = cond (timely t) a (Refused BadTime)
+abbrev pub at_time : ℕ → Answer → Answer
+at_time t a = cond (timely t) a (Refused BadTime)
 
 -- 2.1: a no writes nothing: the state is left as it was
 abbrev pub settled : {S : Type 0} → Answer → S → S → Answer × S

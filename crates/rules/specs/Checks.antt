@@ -97,7 +97,7 @@ to_point p = cond (has_config p) p.third p.second
 
 -- 6.4b: O→T is tried as input-only heartbeat, listen-only heartbeat, output assembly
 unfoldable pub kind_of : Setup → ℕ → Kind
-kind_of u point = cond (eqb point u.inputOnly) InputOnly (cond (eqb point u.listenOnly) ListenOnly Owner)
+kind_of u point = cond (eqb point u.input_only) InputOnly (cond (eqb point u.listen_only) ListenOnly Owner)
 
 -- the place of the assembly of an instance and kind
 abbrev pub is_at : (AssemblyKind → Bool) → ℕ → Shape → Bool
@@ -144,12 +144,12 @@ config_check u p r = cond (eqb p.datalen 0) none (config_stop u p.datalen r.conf
 
 -- 6.6: both RPIs are within the range, whose ends pass
 abbrev pub rpi_ok : Setup → ℕ → Bool
-rpi_ok u rpi = leb u.rpiMin rpi && leb rpi u.rpiMax
+rpi_ok u rpi = leb u.rpi_min rpi && leb rpi u.rpi_max
 
 unfoldable pub rpi_check : Setup → ForwardOpen → Option Stop
 rpi_check u o =
-    and_then (must (rpi_ok u o.ot.rpi) (Answers.OtRpi o.ot.rpi u.rpiMin u.rpiMax))
-    (must (rpi_ok u o.to.rpi) (Answers.ToRpi o.to.rpi u.rpiMin u.rpiMax))
+    and_then (must (rpi_ok u o.ot.rpi) (Answers.OtRpi o.ot.rpi u.rpi_min u.rpi_max))
+    (must (rpi_ok u o.to.rpi) (Answers.ToRpi o.to.rpi u.rpi_min u.rpi_max))
 
 -- 6.7: O→T point-to-point, T→O that or multicast
 abbrev pub is_point : NetType → Bool

@@ -93,7 +93,7 @@ connections_answer room st = fitting room (connection_bytes st) (Wrote (connecti
 
 -- STATS (12.12): produced, late and the greatest lateness, 8 bytes each. No. 8
 abbrev pub stats_bytes : Counters → List ℕ
-stats_bytes n = le_bytes 8 n.produced ++ le_bytes 8 n.late ++ le_bytes 8 n.maxLate
+stats_bytes n = le_bytes 8 n.produced ++ le_bytes 8 n.late ++ le_bytes 8 n.max_late
 
 unfoldable pub stats_answer : ℕ → State → Answer
 stats_answer room st = fitting room (stats_bytes st.counters) (Wrote (stats_bytes st.counters))

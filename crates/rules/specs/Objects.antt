@@ -116,7 +116,7 @@ file_attributes u eds =
     (1, 2 ∷ []) ∷
     (2, tagged_text file_name) ∷
     (3, le_bytes 2 1) ∷
-    (4, tagged_text u.edsName) ∷
+    (4, tagged_text u.eds_name) ∷
     (5, u.identity.major ∷ u.identity.minor ∷ []) ∷
     (6, le_bytes 4 (length eds)) ∷
     (7, le_bytes 2 (checksum eds)) ∷
@@ -135,7 +135,7 @@ upload_transfer = 0x4F
 -- 14.1: the services of the EDS: initiate, transfer, and a single attribute, which leaves the position as it is
 unfoldable pub eds_file : Setup → List ℕ → ℕ → FirstAttribute → List ℕ → Upload → Outcome × Upload
 eds_file u eds service a bytes up =
-    cond (eqb service initiate_upload) (initiate u.transferLimit eds up bytes)
+    cond (eqb service initiate_upload) (initiate u.transfer_limit eds up bytes)
     (cond (eqb service upload_transfer) (transfer eds up bytes)
     (single service a (file_attributes u eds), up))
 

@@ -11,7 +11,7 @@ use Rattle.wire_rules.specs.ConnectionPath.{path_of}
 use Rattle.wire_rules.specs.Replies.{open_reply, open_refusal}
 use Rattle.rules.specs.Lists.{change_at}
 use Rattle.rules.specs.State.{ToId, Socket, Fixed, Heard, Never, At, Sent, Conn, Event, Opened, Configured, Origin, Setup, shape_at, Content, State, fixeds, Stream, Joins, Own, Stores, Nothing, Into, Plan, Verdict, Stopped, Planned}
-use Rattle.rules.specs.Answers.{Answer, Accepted, Wrote, Refused, Failed, NotParsed, fitting, atTime, settled}
+use Rattle.rules.specs.Answers.{Answer, Accepted, Wrote, Refused, Failed, NotParsed, fitting, at_time, settled}
 use Rattle.rules.specs.Events.{info_of, pushed_all}
 use Rattle.rules.specs.Checks.{asks_multicast, path_in, verdict}
 
@@ -101,10 +101,10 @@ opened t o g bytes p st =
     record {
       setup = st.setup;
       contents = stored p.stores bytes st.contents;
-      table = st.table ++ (new_conn t o g p st.nextId ∷ []);
-      events = pushed_all (Opened (info_of st.setup (new_fixed o g p st.nextId)) ∷ config_event st.setup p.stores bytes) st.events;
+      table = st.table ++ (new_conn t o g p st.next_id ∷ []);
+      events = pushed_all (Opened (info_of st.setup (new_fixed o g p st.next_id)) ∷ config_event st.setup p.stores bytes) st.events;
       fault = false;
-      nextId = (side_at o g p st.nextId).next;
+      next_id = (side_at o g p st.next_id).next;
       counters = st.counters;
     }
 
@@ -139,7 +139,7 @@ plan_effect t o g bytes st (Planned p) = opened t o g bytes p st
 
 abbrev pub asked_answer : Origin → List ℕ → ℕ → State → OpenAnswer → Answer
 asked_answer g request room st NoOpen = Refused NotParsed
-asked_answer g request room st (Open o) = plan_answer o g st.nextId room (verdict_of request o st)
+asked_answer g request room st (Open o) = plan_answer o g st.next_id room (verdict_of request o st)
 
 abbrev pub asked_effect : ℕ → Origin → List ℕ → State → OpenAnswer → State
 asked_effect t g request st NoOpen = st
@@ -151,7 +151,7 @@ open_asked service request = cond (eqb service 0x5B) (open_of true request) (con
 
 -- OPEN: No. 3, 4, 5, 8
 unfoldable pub open_answer : ℕ → ℕ → List ℕ → Origin → ℕ → State → Answer
-open_answer t service request g room st = atTime t (asked_answer g request room st (open_asked service request))
+open_answer t service request g room st = at_time t (asked_answer g request room st (open_asked service request))
 
 unfoldable pub open_effect : ℕ → ℕ → List ℕ → Origin → State → State
 open_effect t service request g st = asked_effect t g request st (open_asked service request)

@@ -5,7 +5,7 @@ use Rattle.base_cells.specs.Records.{of_bool}
 use Rattle.wire_rules.specs.Frames.{io_frame}
 use Rattle.rules.specs.Lists.{keep, joined}
 use Rattle.rules.specs.State.{Fixed, Due, Never, At, Sent, Conn, with_sent, Setup, Content, no_content, Counters, State}
-use Rattle.rules.specs.Answers.{Answer, Wrote, fitting, atTime, settled}
+use Rattle.rules.specs.Answers.{Answer, Wrote, fitting, at_time, settled}
 
 -- 10.1, 10.2: a producing connection is due when its due time is not after now
 abbrev pub due_by : ℕ → Due → Bool
@@ -78,14 +78,14 @@ counters u ds n =
     record {
       produced = counted n.produced (length ds);
       late = counted n.late (length (keep (leb (late_limit u)) ds));
-      maxLate = greatest n.maxLate ds;
+      max_late = greatest n.max_late ds;
     }
 
 -- PRODUCE (10.7, 10.8): No. 3, 8; all that is due, or nothing steps
 unfoldable pub produce_answer : ℕ → ℕ → State → Answer
 produce_answer t room st =
     let bytes = packets t st.contents st.table in
-    atTime t (fitting room bytes (Wrote bytes))
+    at_time t (fitting room bytes (Wrote bytes))
 
 unfoldable pub produce_effect : ℕ → State → State
 produce_effect t st =
@@ -95,7 +95,7 @@ produce_effect t st =
       table = map (sends t) st.table;
       events = st.events;
       fault = st.fault;
-      nextId = st.nextId;
+      next_id = st.next_id;
       counters = counters st.setup (delays t st.table) st.counters;
     }
 

@@ -9,7 +9,7 @@ use Rattle.wire_rules.specs.Frames.{io_of}
 use Rattle.wire_rules.specs.Timeout.{timeout_of}
 use Rattle.rules.specs.Lists.{find, change_first, change_at, maybe, same}
 use Rattle.rules.specs.State.{OtId, is_owner, Fixed, Heard, Conn, with_heard, Event, OutputChanged, Setup, shape_at, Content, no_content, State}
-use Rattle.rules.specs.Answers.{Answer, Done, atTime, settled}
+use Rattle.rules.specs.Answers.{Answer, Done, at_time, settled}
 use Rattle.rules.specs.Events.{pushed_all}
 
 -- an I/O frame taken apart: its O→T id, its sequence, and what the data item carries
@@ -100,7 +100,7 @@ received t from f st =
       table = change_first (meant_for from f) (hear t f) st.table;
       events = pushed_all (maybe [] (λ c. output_events st.setup f c st.contents) to) st.events;
       fault = st.fault;
-      nextId = st.nextId;
+      next_id = st.next_id;
       counters = st.counters;
     }
 
@@ -112,7 +112,7 @@ frame_of bytes (Broken offset) = none
 
 -- RECEIVE: No. 3
 unfoldable pub receive_answer : ℕ → Answer
-receive_answer t = atTime t Done
+receive_answer t = at_time t Done
 
 unfoldable pub receive_effect : ℕ → ℕ → List ℕ → State → State
 receive_effect t from bytes st = maybe st (λ f. received t from f st) (frame_of bytes (io_of bytes))

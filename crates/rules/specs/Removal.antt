@@ -8,7 +8,7 @@ use Rattle.wire_rules.specs.Opens.{close_of}
 use Rattle.wire_rules.specs.Replies.{close_reply}
 use Rattle.rules.specs.Lists.{find, any, keep, change_first, without_first, change_at, maybe, repeat}
 use Rattle.rules.specs.State.{Triad, ToId, is_owner, is_listener, Info, Fixed, Due, Never, At, Conn, with_sent, produces, Event, Closed, TimedOut, Setup, Content, State}
-use Rattle.rules.specs.Answers.{Answer, Wrote, Gone, Refused, NotParsed, NothingThere, fitting, atTime, settled}
+use Rattle.rules.specs.Answers.{Answer, Wrote, Gone, Refused, NotParsed, NothingThere, fitting, at_time, settled}
 use Rattle.rules.specs.Events.{info_of, pushed, pushed_all}
 use Rattle.rules.specs.Checks.{has_triad}
 
@@ -65,7 +65,7 @@ removed fault why c rest st =
       table = after_removal c rest;
       events = pushed (why (info_of st.setup c.fixed)) (pushed_all (closed_events st.setup (listeners_of c (handed_over c rest))) st.events);
       fault = fault || st.fault;
-      nextId = st.nextId;
+      next_id = st.next_id;
       counters = st.counters;
     }
 
@@ -111,7 +111,7 @@ expire_effect t st = repeat (length st.table) (expired_first t) st
 
 -- EXPIRE: No. 3; how many went
 unfoldable pub expire_answer : ℕ → State → Answer
-expire_answer t st = atTime t (Gone (length st.table - length (expire_effect t st).table))
+expire_answer t st = at_time t (Gone (length st.table - length (expire_effect t st).table))
 
 unfoldable pub expire_call : ℕ → State → Answer × State
 expire_call t st = settled (expire_answer t st) (expire_effect t st) st

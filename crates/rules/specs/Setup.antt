@@ -36,7 +36,7 @@ transfer_ok limit = within 1 255 limit
 -- 1.8: and nothing else, neither the range of RPIs nor the heartbeats
 unfoldable pub setup_ok : Setup → Bool
 setup_ok u =
-    assemblies_ok u.assemblies && name_ok u.identity.name && name_ok u.edsName && eds_ok u.eds && transfer_ok u.transferLimit
+    assemblies_ok u.assemblies && name_ok u.identity.name && name_ok u.eds_name && eds_ok u.eds && transfer_ok u.transfer_limit
 
 -- 1.10: an assembly begins with zeros, idle; the adapter knows nobody and has nothing to tell
 abbrev pub blank : Shape → Content
@@ -54,8 +54,8 @@ fresh u seed =
       table = [];
       events = record { gone = 0; waiting = [] };
       fault = false;
-      nextId = first_id seed;
-      counters = record { produced = 0; late = 0; maxLate = 0 };
+      next_id = first_id seed;
+      counters = record { produced = 0; late = 0; max_late = 0 };
     }
 
 -- SETUP (1.12): No. 2, or the fresh state

@@ -48,15 +48,15 @@ pub record Shape : Type 0 where
 -- what the host sets up, once; the EDS is absent or present, perhaps empty
 pub record Setup : Type 0 where
   pub identity : Identity
-  pub inputOnly : ℕ
-  pub listenOnly : ℕ
-  pub rpiMin : ℕ
-  pub rpiMax : ℕ
+  pub input_only : ℕ
+  pub listen_only : ℕ
+  pub rpi_min : ℕ
+  pub rpi_max : ℕ
   pub late_limit : ℕ
-  pub transferLimit : ℕ
+  pub transfer_limit : ℕ
   pub mac : List ℕ
   pub eds : Option (List ℕ)
-  pub edsName : List ℕ
+  pub eds_name : List ℕ
   pub assemblies : List Shape
 
 -- what an assembly holds, in the order of the setup's list: its bytes; of an output the run bit, and that an event
@@ -76,7 +76,7 @@ pub record Events : Type 0 where
 pub record Counters : Type 0 where
   pub produced : ℕ
   pub late : ℕ
-  pub maxLate : ℕ
+  pub max_late : ℕ
 
 pub record State : Type 0 where
   pub setup : Setup
@@ -84,7 +84,7 @@ pub record State : Type 0 where
   pub table : List Conn
   pub events : Events
   pub fault : Bool
-  pub nextId : ℕ
+  pub next_id : ℕ
   pub counters : Counters
 
 -- what is at a place past the list
@@ -102,22 +102,22 @@ content_at st i = get_or st.contents i no_content
 
 -- the state with one part changed
 abbrev pub with_contents : List Content → State → State
-with_contents xs st = record { setup = st.setup; contents = xs; table = st.table; events = st.events; fault = st.fault; nextId = st.nextId; counters = st.counters }
+with_contents xs st = record { setup = st.setup; contents = xs; table = st.table; events = st.events; fault = st.fault; next_id = st.next_id; counters = st.counters }
 
 abbrev pub with_table : List Conn → State → State
-with_table cs st = record { setup = st.setup; contents = st.contents; table = cs; events = st.events; fault = st.fault; nextId = st.nextId; counters = st.counters }
+with_table cs st = record { setup = st.setup; contents = st.contents; table = cs; events = st.events; fault = st.fault; next_id = st.next_id; counters = st.counters }
 
 abbrev pub with_events : Events → State → State
-with_events es st = record { setup = st.setup; contents = st.contents; table = st.table; events = es; fault = st.fault; nextId = st.nextId; counters = st.counters }
+with_events es st = record { setup = st.setup; contents = st.contents; table = st.table; events = es; fault = st.fault; next_id = st.next_id; counters = st.counters }
 
 abbrev pub with_fault : Bool → State → State
-with_fault b st = record { setup = st.setup; contents = st.contents; table = st.table; events = st.events; fault = b; nextId = st.nextId; counters = st.counters }
+with_fault b st = record { setup = st.setup; contents = st.contents; table = st.table; events = st.events; fault = b; next_id = st.next_id; counters = st.counters }
 
 abbrev pub with_next_id : ℕ → State → State
-with_next_id n st = record { setup = st.setup; contents = st.contents; table = st.table; events = st.events; fault = st.fault; nextId = n; counters = st.counters }
+with_next_id n st = record { setup = st.setup; contents = st.contents; table = st.table; events = st.events; fault = st.fault; next_id = n; counters = st.counters }
 
 abbrev pub with_counters : Counters → State → State
-with_counters n st = record { setup = st.setup; contents = st.contents; table = st.table; events = st.events; fault = st.fault; nextId = st.nextId; counters = n }
+with_counters n st = record { setup = st.setup; contents = st.contents; table = st.table; events = st.events; fault = st.fault; next_id = st.next_id; counters = n }
 
 -- a connection with one part changed
 abbrev pub with_heard : Heard → Conn → Conn

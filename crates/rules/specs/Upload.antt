@@ -106,4 +106,4 @@ position_ok limit (some eds) p = all (position_tests limit (length eds) p)
 
 unfoldable pub upload_ok : Setup → Upload → Bool
 upload_ok u NoUpload = true
-upload_ok u (Under p) = position_ok u.transferLimit u.eds p
+upload_ok u (Under p) = position_ok u.transfer_limit u.eds p

@@ -22,7 +22,7 @@ use Rattle.rules.specs.Producing.{sent, frame_sent, packet, packets, counters, p
 use Rattle.rules.specs.Host.{set_input_answer, set_input_effect, set_input_call, output_answer, output_effect, output_call, next_event_answer, next_event_effect, next_event_call}
 use Rattle.wire_rules.specs.Examples.{Example, ◌is◌, Hold}
 use Rattle.wire_rules.specs.declared.CloseAnswer.TheVariants.{Close}
-use Rattle.rules.specs.Answers.{answerNumber, is_yes}
+use Rattle.rules.specs.Answers.{answer_number, is_yes}
 use Rattle.rules.specs.Lists.{find, maybe}
 use Rattle.rules.specs.Removal.{expired}
 use Rattle.rules.specs.State.{State}
@@ -49,7 +49,7 @@ premises =
     []
 
 pub premises_met : Hold premises
-unfolding fresh setup_ok answerNumber le le_of le_bytes bytes_be start_of step_at items_from items_of io_of io_frame port_at logical_at key_of key_at data_at seg_at
+unfolding fresh setup_ok answer_number le le_of le_bytes bytes_be start_of step_at items_from items_of io_of io_frame port_at logical_at key_of key_at data_at seg_at
     Segments.between Segments.step_at segs_from segs_of gather ConnectionPath.some last connection_path path_of params_at triad_at way_at place_at fields_of
     open_with width_of open_of close_of info_of info_record event_record oldest_gone appended pushed pushed_all open_reply triad_reply enc_fields must and_then
     transport_check path_check revision_ok key_stop key_check kind_of place_of points_check roles_of config_check rpi_check type_check ot_size_check to_size_check

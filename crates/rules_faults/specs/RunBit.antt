@@ -64,7 +64,7 @@ stored_run u l (Into j) bytes cs h i = at_change (InRun u l i) i j (holding byte
 opening : (t : ℕ) (request : List ℕ) (q : ForwardOpen) (g : Origin) (p : Plan) (s : State) → Owned s → Owned (opened t q g (config_bytes request q) p s)
 unfolding opened
 opening t request q g p s h i =
-    let c = new_conn t q g p s.nextId in
+    let c = new_conn t q g p s.next_id in
     let bytes = config_bytes request q in
     more s.setup s.table (s.table ++ (c ∷ [])) (λ j y. ListLaws.any_append (owner_of j) s.table (c ∷ []) ∙ ap (λ b. b || (owner_of j c || false)) y) i
     (get_or (stored p.stores bytes s.contents) i no_content) (stored_run s.setup s.table p.stores bytes s.contents h i)

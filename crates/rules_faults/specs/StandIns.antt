@@ -13,7 +13,7 @@ use Rattle.wire_rules.specs.ConnectionPath.{gather, last, connection_path, path_
 use Rattle.wire_rules.specs.ConnectionPath
 use Rattle.wire_rules.specs.Params.{params_at}
 use Rattle.wire_rules.specs.Opens.{triad_at, way_at, place_at, fields_of, open_with, width_of, open_of, close_of}
-use Rattle.rules.specs.Answers.{answerNumber}
+use Rattle.rules.specs.Answers.{answer_number}
 use Rattle.rules.specs.Setup.{setup_ok, fresh}
 use Rattle.rules.specs.Events.{info_of, info_record, event_record, oldest_gone, appended, pushed, pushed_all}
 use Rattle.wire_rules.specs.Replies.{open_reply, triad_reply}
@@ -23,7 +23,7 @@ use Rattle.rules.specs.Removal.{removed, closed, close_answer, close_effect, clo
 use Rattle.rules.specs.Receiving.{newer, recorded, hear, taken, changes, deliver, received, receive_answer, receive_effect, receive_call}
 use Rattle.rules.specs.Producing.{sent, frame_sent, packet, packets, counters, produce_answer, produce_effect, produce_call}
 use Rattle.rules.specs.Host.{set_input_answer, set_input_effect, set_input_call, output_answer, output_effect, output_call, next_event_answer, next_event_effect, next_event_call}
-use Rattle.rules.specs.Answers.{Answer, is_yes, answerBytes}
+use Rattle.rules.specs.Answers.{Answer, is_yes, answer_bytes}
 use Rattle.rules.specs.State.{Content, no_content, State, with_table}
 use Rattle.rules.specs.Calls.{run}
 use Rattle.wire_rules.specs.Examples.{Example, ◌is◌, Hold}
@@ -43,11 +43,11 @@ Produces = (time room : ℕ) (st : State) → Answer × State
 -- ---- the witnesses: what the rules give
 
 abbrev accepted : ℕ
-accepted = answerNumber (open_call 1000 0x54 owner (from 8) 26 start).0
+accepted = answer_number (open_call 1000 0x54 owner (from 8) 26 start).0
 
 -- the same open again: its triad is in use
 abbrev again : ℕ
-again = answerNumber (open_call 1000 0x54 owner (from 8) 26 (run opens start)).0
+again = answer_number (open_call 1000 0x54 owner (from 8) 26 (run opens start)).0
 
 abbrev frame : List ℕ
 frame = heard 1 1 1 (0xAA ∷ 0xBB ∷ [])
@@ -60,7 +60,7 @@ abbrev done : Answer × State → Bool
 done x = is_yes x.0
 
 abbrev written : Answer × State → ℕ
-written x = length (answerBytes x.0)
+written x = length (answer_bytes x.0)
 
 abbrev sent_by : Answer × State → ℕ
 sent_by x = x.1.counters.produced
@@ -89,7 +89,7 @@ witnesses =
     []
 
 hold : Hold witnesses
-unfolding fresh setup_ok answerNumber le le_of le_bytes bytes_be start_of step_at items_from items_of io_of io_frame port_at logical_at key_of key_at data_at seg_at
+unfolding fresh setup_ok answer_number le le_of le_bytes bytes_be start_of step_at items_from items_of io_of io_frame port_at logical_at key_of key_at data_at seg_at
     Segments.between Segments.step_at segs_from segs_of gather ConnectionPath.some last connection_path path_of params_at triad_at way_at place_at fields_of
     open_with width_of open_of close_of info_of info_record event_record oldest_gone appended pushed pushed_all open_reply triad_reply enc_fields must and_then
     transport_check path_check revision_ok key_stop key_check kind_of place_of points_check roles_of config_check rpi_check type_check ot_size_check to_size_check
@@ -132,10 +132,10 @@ refusal = 5 + 2 ^ 8 * 1 + 2 ^ 16 * 1 + 2 ^ 32 * 0x0103
 
 module _ (f : Opens) (rule : (t service : ℕ) (request : List ℕ) (g : Origin) (room : ℕ) (st : State) → f t service request g room st ≡ open_call t service request g room st) where
   abbrev says : ℕ → ℕ → List ℕ → Origin → ℕ → State → ℕ
-  says t service request g room st = answerNumber (f t service request g room st).0
+  says t service request g room st = answer_number (f t service request g room st).0
 
-  as_ruled : (st : State) → says 1000 0x54 owner (from 8) 26 st ≡ answerNumber (open_call 1000 0x54 owner (from 8) 26 st).0
-  as_ruled st = ap (λ (x : Answer × State). answerNumber x.0) (rule 1000 0x54 owner (from 8) 26 st)
+  as_ruled : (st : State) → says 1000 0x54 owner (from 8) 26 st ≡ answer_number (open_call 1000 0x54 owner (from 8) 26 st).0
+  as_ruled st = ap (λ (x : Answer × State). answer_number x.0) (rule 1000 0x54 owner (from 8) 26 st)
 
   pub not_always_refused : ((t service : ℕ) (request : List ℕ) (g : Origin) (room : ℕ) (st : State) → says t service request g room st % 256 ≡ 5) → ⊥
   not_always_refused five =
@@ -165,7 +165,7 @@ module _ (f : Produces) (rule : (t room : ℕ) (st : State) → f t room st ≡ 
 
   -- ---- packets that follow from the time and the room, whatever the state, wherever the room suffices
 
-  pub not_one_list : (list : ℕ → ℕ → List ℕ) → ((t room : ℕ) (st : State) → done (f t room st) ≡ true → answerBytes (f t room st).0 ≡ list t room) → ⊥
+  pub not_one_list : (list : ℕ → ℕ → List ℕ) → ((t room : ℕ) (st : State) → done (f t room st) ≡ true → answer_bytes (f t room st).0 ≡ list t room) → ⊥
   not_one_list list fixed =
       let at : (st : State) → done (produce_call 2000 34 st) ≡ true → length (list 2000 34) ≡ written (produce_call 2000 34 st) =
       λ st y. ap length (sym (fixed 2000 34 st (done_too 2000 34 st y))) ∙ ap written (rule 2000 34 st) in
@@ -174,7 +174,7 @@ module _ (f : Produces) (rule : (t room : ℕ) (st : State) → f t room st ≡ 
 
   -- ---- a produce that sends everything on the first call and later only counts: nothing is written once anything was produced
 
-  pub not_once_only : ((t room : ℕ) (st : State) → 1 ≤ st.counters.produced → done (f t room st) ≡ true → answerBytes (f t room st).0 ≡ []) → ⊥
+  pub not_once_only : ((t room : ℕ) (st : State) → 1 ≤ st.counters.produced → done (f t room st) ≡ true → answer_bytes (f t room st).0 ≡ []) → ⊥
   not_once_only silent =
       let st : State = run noon start in
       let e : written (f 11000 34 st) ≡ 0 = ap length (silent 11000 34 st (let p = sends_again.0 in omega arith) (done_too 11000 34 st sends_again.1)) in

@@ -289,7 +289,7 @@ FedState s = AllFed s.table
 opening : (t : ℕ) (request : List ℕ) (q : ForwardOpen) (g : Origin) (p : Plan) (s : State) → verdict_of request q s ≡ Planned p → FedState s →
     FedState (opened t q g (config_bytes request q) p s)
 unfolding opened
-opening t request q g p s e a = open_fed t q g s.table s.nextId p (admitted request q s p e) a
+opening t request q g p s e a = open_fed t q g s.table s.next_id p (admitted request q s p e) a
 
 removing : (fault : Bool) (why : Info → Event) (p : Conn → Bool) (c : Conn) (s : State) → find p s.table ≡ some c → FedState s →
     FedState (removed fault why c (without_first p s.table) s)

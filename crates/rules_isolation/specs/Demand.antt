@@ -138,10 +138,10 @@ module _ (A : ℕ) (o : ℕ → Bool) (u : Setup) (sparing : Sparing o u) where
   read_at s r q a b (some i) e =
       by_cases (o i)
       (λ y. let unseen : (z : State) → Alike A o (output_read z (some i)) z =
-      λ z. record { setup = refl; contents = change_unseen o i read z.contents y; table = refl; nextId = refl; counters = refl } in
+      λ z. record { setup = refl; contents = change_unseen o i read z.contents y; table = refl; next_id = refl; counters = refl } in
       join (settled_unseen a (unseen s)) (join q (back (settled_unseen b (unseen r)))))
       (λ n. settled_alike a b (e n)
-      (record { setup = q.setup; contents = change_alike o i read s.contents r.contents q.contents; table = q.table; nextId = q.nextId; counters = q.counters }) q)
+      (record { setup = q.setup; contents = change_alike o i read s.contents r.contents q.contents; table = q.table; next_id = q.next_id; counters = q.counters }) q)
 
   output_says : (room : ℕ) (s r : State) → Alike A o s r → (x : Option ℕ) → maybe true o x ≡ false → output_at room s x ≡ output_at room r x
   output_says room s r q none e = refl

@@ -12,7 +12,7 @@ use Rattle.wire_rules.specs.ConnectionPath.{gather, last, connection_path, path_
 use Rattle.wire_rules.specs.ConnectionPath
 use Rattle.wire_rules.specs.Params.{params_at}
 use Rattle.wire_rules.specs.Opens.{triad_at, way_at, place_at, fields_of, open_with, width_of, open_of, close_of}
-use Rattle.rules.specs.Answers.{answerNumber}
+use Rattle.rules.specs.Answers.{answer_number}
 use Rattle.rules.specs.Setup.{setup_ok, fresh}
 use Rattle.rules.specs.Events.{info_of, info_record, event_record, oldest_gone, appended, pushed, pushed_all}
 use Rattle.wire_rules.specs.Replies.{open_reply, triad_reply}
@@ -81,7 +81,7 @@ facts :
     ((run second start).table ≡ []) ×
     (length (keep (other 7) (run (theirs ++ (Call.Expire 50000 ∷ [])) start).table) ≡ 0) ×
     (length (keep (other 7) (run (theirs ++ (Call.Receive 30000 7 (io_frame 5 1 1 []) ∷ Call.Expire 50000 ∷ [])) start).table) ≡ 1)
-unfolding fresh setup_ok answerNumber le le_of le_bytes bytes_be start_of step_at items_from items_of io_of io_frame port_at logical_at key_of key_at data_at seg_at
+unfolding fresh setup_ok answer_number le le_of le_bytes bytes_be start_of step_at items_from items_of io_of io_frame port_at logical_at key_of key_at data_at seg_at
     Segments.between Segments.step_at segs_from segs_of gather ConnectionPath.some last connection_path path_of params_at triad_at way_at place_at fields_of
     open_with width_of open_of close_of info_of info_record event_record oldest_gone appended pushed pushed_all open_reply triad_reply enc_fields must and_then
     transport_check path_check revision_ok key_stop key_check kind_of place_of points_check roles_of config_check rpi_check type_check ot_size_check to_size_check

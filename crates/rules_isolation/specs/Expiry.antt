@@ -12,7 +12,7 @@ use Rattle.rules.specs.Lists.{find, any, without_first, maybe, repeat}
 use Rattle.rules_laws.specs.ListLaws
 use Rattle.rules_laws.specs.ListLaws.{by_cases, clash, and_left, and_right, eqb_true}
 use Rattle.rules.specs.State.{State, is_owner, is_listener}
-use Rattle.rules.specs.Answers.{Gone, atTime}
+use Rattle.rules.specs.Answers.{Gone, at_time}
 use Rattle.rules.specs.Checks.{owns}
 use Rattle.rules.specs.Removal.{after_removal, remove_first, conn_triad, expired, removed, expired_first, expire_effect, expire_answer}
 use Rattle.rules_laws.specs.RemovalLaws.{removed_if}
@@ -46,21 +46,21 @@ module _ (now : ℕ) where
   -- what expiry leaves alone
   pub record Left (s t : State) : Type 0 where
     pub setup : s.setup ≡ t.setup
-    pub nextId : s.nextId ≡ t.nextId
+    pub next_id : s.next_id ≡ t.next_id
     pub counters : s.counters ≡ t.counters
 
   gone_left : (s : State) (x : Option Conn) → Left (removed_if true TimedOut (expired now) s x) s
   unfolding removed
-  gone_left s none = record { setup = refl; nextId = refl; counters = refl }
-  gone_left s (some c) = record { setup = refl; nextId = refl; counters = refl }
+  gone_left s none = record { setup = refl; next_id = refl; counters = refl }
+  gone_left s (some c) = record { setup = refl; next_id = refl; counters = refl }
 
   pub expire_left : (n : ℕ) (s : State) → Left (repeat n (expired_first now) s) s
   unfolding expired_first
-  expire_left zero s = record { setup = refl; nextId = refl; counters = refl }
+  expire_left zero s = record { setup = refl; next_id = refl; counters = refl }
   expire_left (suc n) s =
       let a = expire_left n (expired_first now s) in
       let b = gone_left s (find (expired now) s.table) in
-      record { setup = a.setup ∙ b.setup; nextId = a.nextId ∙ b.nextId; counters = a.counters ∙ b.counters }
+      record { setup = a.setup ∙ b.setup; next_id = a.next_id ∙ b.next_id; counters = a.counters ∙ b.counters }
 
   -- the outputs that lose run
   abbrev pub ends_run : ℕ → Conn → Bool
@@ -180,7 +180,7 @@ module _ (A : ℕ) (o : ℕ → Bool) (now : ℕ) where
             (none_new s d) (none_new t d) (same d) ∙
             ap (λ l. in_table l d) et) ∙
             sym (ap (map (hide A)) et);
-        nextId = ls.nextId ∙ r.nextId ∙ sym lt.nextId;
+        next_id = ls.next_id ∙ r.next_id ∙ sym lt.next_id;
         counters = ls.counters ∙ r.counters ∙ sym lt.counters;
       }
 
@@ -188,4 +188,4 @@ module _ (A : ℕ) (o : ℕ → Bool) (now : ℕ) where
   pub expire_says_alike : (s t : State) → Alike A o s t → Alike A o (expire_effect now s) (expire_effect now t) → expire_answer now s ≡ expire_answer now t
   unfolding expire_answer
   expire_says_alike s t r q =
-      ap₂ (λ a b. atTime now (Gone (a - b))) (length_alike A s.table t.table r.table) (length_alike A (expire_effect now s).table (expire_effect now t).table q.table)
+      ap₂ (λ a b. at_time now (Gone (a - b))) (length_alike A s.table t.table r.table) (length_alike A (expire_effect now s).table (expire_effect now t).table q.table)

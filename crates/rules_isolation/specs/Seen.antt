@@ -18,7 +18,7 @@ use Rattle.rules.specs.Lists.{find, any, keep, change_first, without_first, chan
 use Rattle.rules_laws.specs.ListLaws
 use Rattle.rules_laws.specs.ListLaws.{by_cases, clash, either_way, of_cond, option_map, All, and_left, and_right, eqb_true}
 use Rattle.rules.specs.State.{Setup, shape_at, Content, State, with_contents, fixeds, is_input, is_output, is_owner}
-use Rattle.rules.specs.Answers.{Answer, is_yes, settled, fitting, atTime, Wrote}
+use Rattle.rules.specs.Answers.{Answer, is_yes, settled, fitting, at_time, Wrote}
 use Rattle.rules.specs.Checks.{owns, place_of}
 use Rattle.rules.specs.Opening.{stored, opened, new_conn, side_at, verdict_of, plan_answer, plan_effect, asked_answer, asked_effect, open_asked, config_bytes, open_answer, open_effect}
 use Rattle.rules.specs.Removal.{after_removal, conn_triad, removed, closed, close_for, close_by, close_answer, close_effect}
@@ -98,11 +98,11 @@ pub record Alike (A : ℕ) (o : ℕ → Bool) (s t : State) : Type 0 where
   pub setup : s.setup ≡ t.setup
   pub contents : cover o s.contents ≡ cover o t.contents
   pub table : map (hide A) s.table ≡ map (hide A) t.table
-  pub nextId : s.nextId ≡ t.nextId
+  pub next_id : s.next_id ≡ t.next_id
   pub counters : s.counters ≡ t.counters
 
 pub itself : (A : ℕ) (o : ℕ → Bool) (s : State) → Alike A o s s
-itself A o s = record { setup = refl; contents = refl; table = refl; nextId = refl; counters = refl }
+itself A o s = record { setup = refl; contents = refl; table = refl; next_id = refl; counters = refl }
 
 pub join : {A : ℕ} {o : ℕ → Bool} {s t u : State} → Alike A o s t → Alike A o t u → Alike A o s u
 join a b =
@@ -110,12 +110,12 @@ join a b =
       setup = a.setup ∙ b.setup;
       contents = a.contents ∙ b.contents;
       table = a.table ∙ b.table;
-      nextId = a.nextId ∙ b.nextId;
+      next_id = a.next_id ∙ b.next_id;
       counters = a.counters ∙ b.counters;
     }
 
 pub back : {A : ℕ} {o : ℕ → Bool} {s t : State} → Alike A o s t → Alike A o t s
-back a = record { setup = sym a.setup; contents = sym a.contents; table = sym a.table; nextId = sym a.nextId; counters = sym a.counters }
+back a = record { setup = sym a.setup; contents = sym a.contents; table = sym a.table; next_id = sym a.next_id; counters = sym a.counters }
 
 -- what is left by calls that answer alike
 pub settled_alike : {A : ℕ} {o : ℕ → Bool} {s t s' t' : State} (a b : Answer) → a ≡ b → Alike A o s' t' → Alike A o s t → Alike A o (settled a s' s).1 (settled b t' t).1
@@ -130,7 +130,7 @@ input_no_output Config e = refl
 -- an event that is read is not seen
 pub event_unseen : (A : ℕ) (o : ℕ → Bool) (s : State) → Alike A o (next_event_effect s) s
 unfolding next_event_effect
-event_unseen A o s = record { setup = refl; contents = refl; table = refl; nextId = refl; counters = refl }
+event_unseen A o s = record { setup = refl; contents = refl; table = refl; next_id = refl; counters = refl }
 
 -- what is left by a call that changes nothing to be seen
 pub settled_unseen : {A : ℕ} {o : ℕ → Bool} {s s' : State} (a : Answer) → Alike A o s' s → Alike A o (settled a s' s).1 s
@@ -154,8 +154,8 @@ module _ (A : ℕ) (o : ℕ → Bool) (s t : State) (r : Alike A o s t) where
         contents = stored_alike p.stores bytes;
         table =
             map_append (hide A) s.table _ ∙
-            ap₂ (λ l n. l ++ (hide A (new_conn now q g p n) ∷ [])) r.table r.nextId ∙ sym (map_append (hide A) t.table _);
-        nextId = ap (λ n. (side_at q g p n).next) r.nextId;
+            ap₂ (λ l n. l ++ (hide A (new_conn now q g p n) ∷ [])) r.table r.next_id ∙ sym (map_append (hide A) t.table _);
+        next_id = ap (λ n. (side_at q g p n).next) r.next_id;
         counters = r.counters;
       }
 
@@ -169,11 +169,11 @@ module _ (A : ℕ) (o : ℕ → Bool) (s t : State) (r : Alike A o s t) where
 
   request_says_alike : (g : Origin) (request : List ℕ) (room : ℕ) (x : OpenAnswer) → asked_answer g request room s x ≡ asked_answer g request room t x
   request_says_alike g request room NoOpen = refl
-  request_says_alike g request room (Open q) = ap₂ (λ n v. plan_answer q g n room v) r.nextId (verdict_alike request q)
+  request_says_alike g request room (Open q) = ap₂ (λ n v. plan_answer q g n room v) r.next_id (verdict_alike request q)
 
   pub open_says_alike : (now service : ℕ) (request : List ℕ) (g : Origin) (room : ℕ) → open_answer now service request g room s ≡ open_answer now service request g room t
   unfolding open_answer
-  open_says_alike now service request g room = ap (atTime now) (request_says_alike g request room (open_asked service request))
+  open_says_alike now service request g room = ap (at_time now) (request_says_alike g request room (open_asked service request))
 
   pub open_alike : (now service : ℕ) (request : List ℕ) (g : Origin) → Alike A o (open_effect now service request g s) (open_effect now service request g t)
   unfolding open_effect
@@ -208,7 +208,7 @@ module _ (A : ℕ) (o : ℕ → Bool) (s t : State) (r : Alike A o s t) where
             removal_rehear (deaf A) c (without_first p s.table) ∙
             ap₂ after_removal h (sym (ListLaws.without_map (hide A) p p u s.table) ∙ ap (without_first p) r.table ∙ ListLaws.without_map (hide A) p p u t.table) ∙
             sym (removal_rehear (deaf A) d (without_first p t.table));
-        nextId = r.nextId;
+        next_id = r.next_id;
         counters = r.counters;
       }
 
@@ -259,7 +259,7 @@ module _ (A : ℕ) (o : ℕ → Bool) (s t : State) (r : Alike A o s t) where
 
   pub produce_says_alike : Sparing o s.setup → All (Feeding s.setup) s.table → (now room : ℕ) → produce_answer now room s ≡ produce_answer now room t
   unfolding produce_answer
-  produce_says_alike sparing a now room = ap (λ b. atTime now (fitting room b (Wrote b))) (packets_alike sparing a now)
+  produce_says_alike sparing a now room = ap (λ b. at_time now (fitting room b (Wrote b))) (packets_alike sparing a now)
 
   pub produce_alike : (now : ℕ) → Alike A o (produce_effect now s) (produce_effect now t)
   unfolding produce_effect
@@ -269,13 +269,13 @@ module _ (A : ℕ) (o : ℕ → Bool) (s t : State) (r : Alike A o s t) where
         setup = r.setup;
         contents = r.contents;
         table = send_hide now s.table ∙ ap (map (sends now)) r.table ∙ sym (send_hide now t.table);
-        nextId = r.nextId;
+        next_id = r.next_id;
         counters = cc (d, r.counters, r.setup);
       }
 
   -- THE HOST'S SIDE
   with_alike : (l m : List Content) → cover o l ≡ cover o m → Alike A o (with_contents l s) (with_contents m t)
-  with_alike l m e = record { setup = r.setup; contents = e; table = r.table; nextId = r.nextId; counters = r.counters }
+  with_alike l m e = record { setup = r.setup; contents = e; table = r.table; next_id = r.next_id; counters = r.counters }
 
   pub set_input_says_alike : (n : ℕ) (bytes : List ℕ) → set_input_answer n bytes s.setup ≡ set_input_answer n bytes t.setup
   set_input_says_alike n bytes = ap (set_input_answer n bytes) r.setup
@@ -326,7 +326,7 @@ module _ (A : ℕ) (o : ℕ → Bool) (s t : State) (r : Alike A o s t) where
               ap (λ x. cover o (maybe t.contents (λ c. delivered t.setup f c t.contents) x))
               (blind_alike A (find (meant_for from f)) found_hide s.table t.table r.table);
           table = sym (hear_hide s.table) ∙ ap (change_first (meant_for from f) (hear now f)) r.table ∙ hear_hide t.table;
-          nextId = r.nextId;
+          next_id = r.next_id;
           counters = r.counters;
         }
 
@@ -374,7 +374,7 @@ module _ (A : ℕ) (o : ℕ → Bool) (now from : ℕ) (that : eqb from A ≡ tr
               ListLaws.found_is s.contents (λ c. delivered s.setup f c s.contents) (meant_for from f) (λ c. stray A o c ≡ false) (λ x. cover o x ≡ cover o s.contents)
               refl delivered_unseen s.table (ListLaws.none_passes (stray A o) s.table covers);
           table = ListLaws.change_unseen (hide A) (meant_for from f) (hear now f) hear_unseen s.table;
-          nextId = refl;
+          next_id = refl;
           counters = refl;
         }
 

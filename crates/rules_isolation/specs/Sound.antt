@@ -82,9 +82,9 @@ module _ (u : Setup) where
   opened_sound now q g bytes p s a h =
       record {
         setup = h.setup;
-        distinct = apart_append same_triad (new_conn now q g p s.nextId) s.table (free_of q s.table a.free) h.distinct;
-        inputs = ListLaws.all_append (Feeding u) s.table (new_conn now q g p s.nextId) h.inputs (subst (λ v. is_input (shape_at v p.input).kind ≡ true) h.setup a.input);
-        outputs = ListLaws.all_append (Owning u) s.table (new_conn now q g p s.nextId) h.outputs
+        distinct = apart_append same_triad (new_conn now q g p s.next_id) s.table (free_of q s.table a.free) h.distinct;
+        inputs = ListLaws.all_append (Feeding u) s.table (new_conn now q g p s.next_id) h.inputs (subst (λ v. is_input (shape_at v p.input).kind ≡ true) h.setup a.input);
+        outputs = ListLaws.all_append (Owning u) s.table (new_conn now q g p s.next_id) h.outputs
             (λ y. subst (λ v. is_output (shape_at v p.output).kind ≡ true) h.setup (a.output y));
       }
 

@@ -99,7 +99,7 @@ module _ (u : Setup) (n i : ℕ) (there : place_of is_output u n ≡ some i) (se
   frame_opens_none t from frame f y e d = rw (y, e) refl
 
   frame_told_lem : (t from : ℕ) (frame : List ℕ) (f : Frame) → timely t ≡ true → frame_of frame (io_of frame) ≡ some f →
-      told_by (Calls.Receive t from frame) ≡ (word_of u n (shape_at u i).size).onFrame t from f told
+      told_by (Calls.Receive t from frame) ≡ (word_of u n (shape_at u i).size).on_frame t from f told
   unfolding receive_call receive_answer
   frame_told_lem t from frame f y e = rw (y, e) refl
 
@@ -182,7 +182,7 @@ module _ (u : Setup) (n i : ℕ) (there : place_of is_output u n ≡ some i) (se
   unfolding expire_call expire_answer
   in_run_was_heard t y k =
       let w = word u n i there seed small cs in
-      let w' : Word = (word_of u n (shape_at u i).size).onExpire t w in
+      let w' : Word = (word_of u n (shape_at u i).size).on_expire t w in
       let z : learnt (word_of u n (shape_at u i).size) (news (Calls.Expire t) (answer (Calls.Expire t) (run cs (fresh u seed)))) w ≡ w' = rw y refl in
       let e : word u n i there seed small (cs ++ (Calls.Expire t ∷ [])) ≡ w' = history_next (word_of u n (shape_at u i).size) cs (Calls.Expire t) (fresh u seed) no_word ∙ z in
       let r : in_run w' ≡ true = sym (obeys_next u n i there seed small cs few (Calls.Expire t) (λ d. rw y refl) ∙ ap in_run z) ∙ k in

@@ -42,8 +42,8 @@ module _ (u : Setup) (seed : ℕ) (small : seed < 2 ^ 32) where
     Stands w s = Ground u seed w.0 s × (early w.0 ≡ true → Knows (has_triad k) w.1 s)
 
     opening : (t : ℕ) (request : List ℕ) (q : ForwardOpen) (g : Origin) (p : Plan) (s : State) (w : Option Contact) → verdict_of request q s ≡ Planned p →
-        any (λ c. eqb c.fixed.otid.0 s.nextId) s.table ≡ false → Knows (has_triad k) w s →
-        Knows (has_triad k) ((contact_of (asks_as k)).onOpen t request q g (acceptance q g p s.nextId) w) (opened t q g (config_bytes request q) p s)
+        any (λ c. eqb c.fixed.otid.0 s.next_id) s.table ≡ false → Knows (has_triad k) w s →
+        Knows (has_triad k) ((contact_of (asks_as k)).on_open t request q g (acceptance q g p s.next_id) w) (opened t q g (config_bytes request q) p s)
     unfolding new_fixed
     opening t request q g p s w e new h =
         knows_opening (has_triad k) (asks_as k) t request q g (config_bytes request q) p s w refl

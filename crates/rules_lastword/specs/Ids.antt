@@ -44,16 +44,16 @@ along_next first n h k =
 
 -- every id of the table is behind the next, which is at most two for each open from the first
 pub record Numbered (first d : ℕ) (s : State) : Type 0 where
-  pub upto : along first s.nextId ≤ first + 2 * d
-  pub ids : All (λ c. along first c.fixed.otid.0 < along first s.nextId) s.table
+  pub upto : along first s.next_id ≤ first + 2 * d
+  pub ids : All (λ c. along first c.fixed.otid.0 < along first s.next_id) s.table
 
 -- the next id is no connection's
-pub next_is_new : (first d : ℕ) (s : State) → Numbered first d s → any (λ c. eqb c.fixed.otid.0 s.nextId) s.table ≡ false
+pub next_is_new : (first d : ℕ) (s : State) → Numbered first d s → any (λ c. eqb c.fixed.otid.0 s.next_id) s.table ≡ false
 next_is_new first d s h =
-    ListLaws.none_is (λ c. eqb c.fixed.otid.0 s.nextId) s.table
-    (ListLaws.all_to (λ c. along first c.fixed.otid.0 < along first s.nextId) (λ c. eqb c.fixed.otid.0 s.nextId ≡ false)
-    (λ c k. by_cases (eqb c.fixed.otid.0 s.nextId)
-    (λ y. let e = ap (along first) (eqb_true c.fixed.otid.0 s.nextId y) in absurd (omega (arith, e, k)))
+    ListLaws.none_is (λ c. eqb c.fixed.otid.0 s.next_id) s.table
+    (ListLaws.all_to (λ c. along first c.fixed.otid.0 < along first s.next_id) (λ c. eqb c.fixed.otid.0 s.next_id ≡ false)
+    (λ c k. by_cases (eqb c.fixed.otid.0 s.next_id)
+    (λ y. let e = ap (along first) (eqb_true c.fixed.otid.0 s.next_id y) in absurd (omega (arith, e, k)))
     (λ n. n)) s.table h.ids)
 
 -- an open draws one id or two
@@ -74,12 +74,12 @@ module _ (first : ℕ) (small : first < 2 ^ 32) where
       Numbered first (suc d) (opened t q g bytes p s)
   unfolding opened new_conn new_fixed
   opening t q g bytes p s d k h =
-      let b = drawn s.nextId d q g p.stream h.upto k in
-      let m = along first (side_of q g (after_id s.nextId) p.stream).next in
+      let b = drawn s.next_id d q g p.stream h.upto k in
+      let m = along first (side_of q g (after_id s.next_id) p.stream).next in
       record {
         upto = b.0;
-        ids = ListLaws.all_append (λ c. along first c.fixed.otid.0 < m) s.table (new_conn t q g p s.nextId)
-            (ListLaws.all_to (λ c. along first c.fixed.otid.0 < along first s.nextId) (λ c. along first c.fixed.otid.0 < m) (λ c z. let y = b.1 in omega (arith, y, z)) s.table h.ids)
+        ids = ListLaws.all_append (λ c. along first c.fixed.otid.0 < m) s.table (new_conn t q g p s.next_id)
+            (ListLaws.all_to (λ c. along first c.fixed.otid.0 < along first s.next_id) (λ c. along first c.fixed.otid.0 < m) (λ c z. let y = b.1 in omega (arith, y, z)) s.table h.ids)
             b.1;
       }
 
@@ -106,15 +106,15 @@ module _ (u : Setup) (seed : ℕ) (small : seed < 2 ^ 32) where
         ids = λ y. let n = h.ids y in
             record {
               upto = n.upto;
-              ids = all_removal (λ c. along (first_id seed) c.fixed.otid.0 < along (first_id seed) s.nextId) (λ x z k. k) c (without_first p s.table)
-                  (ListLaws.all_without (λ c. along (first_id seed) c.fixed.otid.0 < along (first_id seed) s.nextId) p s.table n.ids);
+              ids = all_removal (λ c. along (first_id seed) c.fixed.otid.0 < along (first_id seed) s.next_id) (λ x z k. k) c (without_first p s.table)
+                  (ListLaws.all_without (λ c. along (first_id seed) c.fixed.otid.0 < along (first_id seed) s.next_id) p s.table n.ids);
             };
       }
 
   ground_producing : (d t : ℕ) (s : State) → Ground u seed d s → Ground u seed d (produce_effect t s)
   unfolding produce_effect
   ground_producing d t s h =
-      let P : Fixed → Type 0 = λ f. along (first_id seed) f.otid.0 < along (first_id seed) s.nextId in
+      let P : Fixed → Type 0 = λ f. along (first_id seed) f.otid.0 < along (first_id seed) s.next_id in
       record {
         sound = (sound_kept u).quiet.producing t s h.sound;
         ids = λ y. let n = h.ids y in record { upto = n.upto; ids = fixed_map (sends t) (send_fixed t) P s.table n.ids };
@@ -123,7 +123,7 @@ module _ (u : Setup) (seed : ℕ) (small : seed < 2 ^ 32) where
   ground_hearing : (d t from : ℕ) (f : Frame) (s : State) → Ground u seed d s → Ground u seed d (received t from f s)
   unfolding received
   ground_hearing d t from f s h =
-      let P : Fixed → Type 0 = λ f. along (first_id seed) f.otid.0 < along (first_id seed) s.nextId in
+      let P : Fixed → Type 0 = λ f. along (first_id seed) f.otid.0 < along (first_id seed) s.next_id in
       record {
         sound = (sound_kept u).hearing t from f s h.sound;
         ids = λ y. let n = h.ids y in record { upto = n.upto; ids = fixed_change (hear t f) (hear_fixed t f) P (meant_for from f) s.table n.ids };

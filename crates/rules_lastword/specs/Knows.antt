@@ -17,7 +17,7 @@ use Rattle.rules_laws.specs.ListLaws
 use Rattle.rules_laws.specs.ListLaws.{by_cases, clash, either_way, All, eqb_true, and_left, and_right}
 use Rattle.rules_laws.specs.ExpiryLaws.{same_test}
 use Rattle.rules.specs.State.{State, triad_is, with_sent, is_owner}
-use Rattle.rules.specs.Answers.{answerBytes}
+use Rattle.rules.specs.Answers.{answer_bytes}
 use Rattle.rules.specs.Opening.{new_conn, new_fixed, new_heard, reply_of, opened}
 use Rattle.rules.specs.Removal.{after_removal, conn_triad, removed, expired, expire_effect}
 use Rattle.rules.specs.Receiving.{Frame, meant_for, newer, recorded, hear, received}
@@ -109,7 +109,7 @@ unfolding hear
 hear_old t f c n = rw n refl
 
 -- ---- the O→T id stands in the reply
-pub id_told : (q : ForwardOpen) (g : Origin) (p : Plan) (n : ℕ) → le 4 (answerBytes (acceptance q g p n)) 0 ≡ n
+pub id_told : (q : ForwardOpen) (g : Origin) (p : Plan) (n : ℕ) → le 4 (answer_bytes (acceptance q g p n)) 0 ≡ n
 unfolding reply_of open_reply enc_fields
 id_told q g p n = le_mid 3 n [] _ 0 refl
 
@@ -193,7 +193,7 @@ module _ (g : Fixed → Bool) where
 
   module _ (asks : List ℕ → ForwardOpen → Bool) where
     pub knows_closing : (k : Triad) (c : Conn) (s : State) (w : Option Contact) → Distinct s.table → find (conn_triad k) s.table ≡ some c → Knows w s →
-        Knows ((contact_of asks).onClose k w) (removed false Closed c (without_first (conn_triad k) s.table) s)
+        Knows ((contact_of asks).on_close k w) (removed false Closed c (without_first (conn_triad k) s.table) s)
     unfolding removed
     knows_closing k c s w d e h =
         let b = knows_removing w false Closed (conn_triad k) c s e h in
@@ -208,7 +208,7 @@ module _ (g : Fixed → Bool) where
         (λ y. rw y (ListLaws.all_two (λ c. expired t c ≡ false) (Ears (some m)) (Ears none) (λ c z h v. clash (expired t c) (silent_is m t c (h v) ∙ y) z) l n a))
         (λ y. rw y a)
 
-    pub knows_expiring : (t : ℕ) (s : State) (w : Option Contact) → Knows w s → Knows ((contact_of asks).onExpire t w) (expire_effect t s)
+    pub knows_expiring : (t : ℕ) (s : State) (w : Option Contact) → Knows w s → Knows ((contact_of asks).on_expire t w) (expire_effect t s)
     knows_expiring t s w h =
         let b = expiry_keeps (Knows w) (knows_removing w) t s h in
         record { apart = b.apart; known = silent_known t w (expire_effect t s).table (none_silent t s) b.known }
@@ -263,11 +263,11 @@ module _ (g : Fixed → Bool) where
         ))
 
     heard_any : (t from : ℕ) (f : Frame) (w : Option Contact) (l : List Conn) → Apart crowds l → All (Ears w) l →
-        All (Ears ((contact_of asks).onFrame t from f w)) (change_first (meant_for from f) (hear t f) l)
+        All (Ears ((contact_of asks).on_frame t from f w)) (change_first (meant_for from f) (hear t f) l)
     heard_any t from f none l d a = ListLaws.all_change (Ears none) (meant_for from f) (hear t f) (λ x h y. h (sym (ap g (hear_fixed t f x)) ∙ y)) l a
     heard_any t from f (some m) l d a = heard_known t from f m l d a
 
-    pub knows_hearing : (t from : ℕ) (f : Frame) (s : State) (w : Option Contact) → Knows w s → Knows ((contact_of asks).onFrame t from f w) (received t from f s)
+    pub knows_hearing : (t from : ℕ) (f : Frame) (s : State) (w : Option Contact) → Knows w s → Knows ((contact_of asks).on_frame t from f w) (received t from f s)
     unfolding received
     knows_hearing t from f s w h =
         record {
@@ -317,22 +317,22 @@ module _ (g : Fixed → Bool) where
     new_ear t q o p n = record { triad = refl; id = sym (id_told q o p n); sender = refl; timeout = refl; until = refl; last = refl; cip = λ z. refl }
 
     pub knows_opening : (t : ℕ) (request : List ℕ) (q : ForwardOpen) (o : Origin) (bytes : List ℕ) (p : Plan) (s : State) (w : Option Contact) →
-        g (new_fixed q o p s.nextId) ≡ asks request q → (g (new_fixed q o p s.nextId) ≡ true → any passes s.table ≡ false) →
-        any (λ c. eqb c.fixed.otid.0 s.nextId) s.table ≡ false → Knows w s →
-        Knows ((contact_of asks).onOpen t request q o (acceptance q o p s.nextId) w) (opened t q o bytes p s)
+        g (new_fixed q o p s.next_id) ≡ asks request q → (g (new_fixed q o p s.next_id) ≡ true → any passes s.table ≡ false) →
+        any (λ c. eqb c.fixed.otid.0 s.next_id) s.table ≡ false → Knows w s →
+        Knows ((contact_of asks).on_open t request q o (acceptance q o p s.next_id) w) (opened t q o bytes p s)
     unfolding opened new_conn new_fixed
     knows_opening t request q o bytes p s w same lone new h =
-        let c = new_conn t q o p s.nextId in
+        let c = new_conn t q o p s.next_id in
         let l = s.table in
         by_cases (passes c)
         (λ y. let a = lone y in
-        let now = some (met t q o (acceptance q o p s.nextId)) in
+        let now = some (met t q o (acceptance q o p s.next_id)) in
         subst (λ b. Knows (cond b now w) (opened t q o bytes p s)) (sym (sym same ∙ y))
         (record {
           apart = apart_append crowds c l (alone c l a new) h.apart;
-          known = ListLaws.all_append (Ears now) l c (vacuous now l a) (λ z. new_ear t q o p s.nextId);
+          known = ListLaws.all_append (Ears now) l c (vacuous now l a) (λ z. new_ear t q o p s.next_id);
         }))
-        (λ n. subst (λ b. Knows (cond b (some (met t q o (acceptance q o p s.nextId))) w) (opened t q o bytes p s)) (sym (sym same ∙ n))
+        (λ n. subst (λ b. Knows (cond b (some (met t q o (acceptance q o p s.next_id))) w) (opened t q o bytes p s)) (sym (sym same ∙ n))
         (record {
           apart = apart_append crowds c l (ListLaws.none_is (λ x. crowds x.fixed c.fixed) l (ListLaws.all_from (λ x. crowds x.fixed c.fixed ≡ false) (λ x. ap (λ b. b && (passes x || same_id x.fixed c.fixed)) n) l)) h.apart;
           known = ListLaws.all_append (Ears w) l c h.known (λ z. clash (passes c) z n);

@@ -117,7 +117,7 @@ module _ (u : Setup) (n i : ℕ) (there : place_of is_output u n ≡ some i) whe
       )
 
   closing : (k : Triad) (c : Conn) (s : State) (w : Word) → Distinct s.table → find (conn_triad k) s.table ≡ some c → Agrees w s →
-      Agrees ((word_of u n size).onClose k w) (removed false Closed c (without_first (conn_triad k) s.table) s)
+      Agrees ((word_of u n size).on_close k w) (removed false Closed c (without_first (conn_triad k) s.table) s)
   unfolding removed
   closing k c s w d e h =
       let know = knows_closing (owns i) (asks_for u n) k c s w.owner d e h.knows in
@@ -127,7 +127,7 @@ module _ (u : Setup) (n i : ℕ) (there : place_of is_output u n ≡ some i) whe
         body = (body_removing w.owner (maybe false says_run w.said) (holds zeros w) false Closed (conn_triad k) c s e (h.knows, h.body)).1;
       }
 
-  expiring : (t : ℕ) (s : State) (w : Word) → Agrees w s → Agrees ((word_of u n size).onExpire t w) (expire_effect t s)
+  expiring : (t : ℕ) (s : State) (w : Word) → Agrees w s → Agrees ((word_of u n size).on_expire t w) (expire_effect t s)
   expiring t s w h =
       let know = knows_expiring (owns i) (asks_for u n) t s w.owner h.knows in
       let b = maybe false says_run w.said in
@@ -147,17 +147,17 @@ module _ (u : Setup) (n i : ℕ) (there : place_of is_output u n ≡ some i) whe
   stored_there (Into j) bytes l h = still_there j (holding bytes) l h
 
   opening : (t : ℕ) (request : List ℕ) (q : ForwardOpen) (g : Origin) (p : Plan) (s : State) (w : Word) → verdict_of request q s ≡ Planned p → s.setup ≡ u →
-      any (λ c. eqb c.fixed.otid.0 s.nextId) s.table ≡ false → Agrees w s →
-      Agrees ((word_of u n size).onOpen t request q g (acceptance q g p s.nextId) w) (opened t q g (config_bytes request q) p s)
+      any (λ c. eqb c.fixed.otid.0 s.next_id) s.table ≡ false → Agrees w s →
+      Agrees ((word_of u n size).on_open t request q g (acceptance q g p s.next_id) w) (opened t q g (config_bytes request q) p s)
   unfolding opened new_conn new_fixed
   opening t request q g p s w e v new h =
       let a = admits u n i there request q s p v e in
-      let c = new_conn t q g p s.nextId in
+      let c = new_conn t q g p s.next_id in
       let bytes = config_bytes request q in
       let k = stored_else p.stores bytes s.contents a.config in
       let l = s.table in
       let more : any (owner_of i) (l ++ (c ∷ [])) ≡ any (owner_of i) l || (owner_of i c || false) = ListLaws.any_append (owner_of i) l (c ∷ []) in
-      let m = met t q g (acceptance q g p s.nextId) in
+      let m = met t q g (acceptance q g p s.next_id) in
       record {
         knows = knows_opening (owns i) (asks_for u n) t request q g bytes p s w.owner a.asks a.lone new h.knows;
         present = subst (λ o. is_some (cond o (some m) w.owner) ≡ any (owner_of i) (l ++ (c ∷ []))) a.asks
@@ -219,11 +219,11 @@ module _ (u : Setup) (n i : ℕ) (there : place_of is_output u n ≡ some i) whe
       (ListLaws.all_find (λ c. owns i c.fixed ≡ true → Known w.owner c) (meant_for from f) c l e known y) (ListLaws.find_passes (meant_for from f) c l e))
       (λ y. subst (λ q. Held f w l (here (delivered u f c cs)) q) (sym (not_taken size from f w.owner (m ∙ y))) (subst (λ q. Held f w l q false) (sym (taken_else f c cs y)) before))
 
-  heard_present : (t from : ℕ) (f : Frame) (o : Option Contact) → is_some ((contact_of (asks_for u n)).onFrame t from f o) ≡ is_some o
+  heard_present : (t from : ℕ) (f : Frame) (o : Option Contact) → is_some ((contact_of (asks_for u n)).on_frame t from f o) ≡ is_some o
   heard_present t from f none = refl
   heard_present t from f (some m) = refl
 
-  hearing : (t from : ℕ) (f : Frame) (s : State) (w : Word) → s.setup ≡ u → Agrees w s → Agrees ((word_of u n size).onFrame t from f w) (received t from f s)
+  hearing : (t from : ℕ) (f : Frame) (s : State) (w : Word) → s.setup ≡ u → Agrees w s → Agrees ((word_of u n size).on_frame t from f w) (received t from f s)
   unfolding received
   hearing t from f s w e h =
       let l = s.table in

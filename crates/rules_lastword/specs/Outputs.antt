@@ -33,10 +33,10 @@ at_place is u m j e =
     (and_left (is x.kind) (eqb x.instance m) a, eqb_true x.instance m (and_right (is x.kind) (eqb x.instance m) a))
 
 -- ---- AN OPEN
-kind_owner : (u : Setup) (point : ℕ) → is_owner (kind_of u point) ≡ not (eqb point u.inputOnly) && not (eqb point u.listenOnly)
+kind_owner : (u : Setup) (point : ℕ) → is_owner (kind_of u point) ≡ not (eqb point u.input_only) && not (eqb point u.listen_only)
 unfolding kind_of
 kind_owner u point =
-    by_cases (eqb point u.inputOnly) (λ y. rw y refl) (λ n. by_cases (eqb point u.listenOnly) (λ y. rw (n, y) refl) (λ z. rw (n, z) refl))
+    by_cases (eqb point u.input_only) (λ y. rw y refl) (λ n. by_cases (eqb point u.listen_only) (λ y. rw (n, y) refl) (λ z. rw (n, z) refl))
 
 -- the place that a point comes to is the output's exactly where the point is its number
 place_is_number : (u : Setup) (n i point : ℕ) → place_of is_output u n ≡ some i → (x : Option ℕ) → place_of is_output u point ≡ x → is_some x ≡ true → eqb (place_or0 x) i ≡ eqb point n
@@ -78,7 +78,7 @@ lone_owner i l o j h y =
 module _ (u : Setup) (n i : ℕ) (there : place_of is_output u n ≡ some i) where
   asks_is : (a : ConnectionPath) → (is_owner (kind_of u (ot_point a)) ≡ true → is_some (place_of is_output u (ot_point a)) ≡ true) →
       is_owner (kind_of u (ot_point a)) && eqb (cond (is_owner (kind_of u (ot_point a))) (place_or0 (place_of is_output u (ot_point a))) 0) i ≡
-      not (eqb (ot_point a) u.inputOnly) && not (eqb (ot_point a) u.listenOnly) && eqb (ot_point a) n
+      not (eqb (ot_point a) u.input_only) && not (eqb (ot_point a) u.listen_only) && eqb (ot_point a) n
   asks_is a h =
       let point = ot_point a in
       let o = is_owner (kind_of u point) in

@@ -6,7 +6,7 @@ use Rattle.base_cells.specs.Numbers.{le}
 use Rattle.wire_rules.specs.Timeout.{timeout_of}
 use Rattle.rules.specs.Lists.{maybe}
 use Rattle.rules.specs.State.{Setup, triad_is}
-use Rattle.rules.specs.Answers.{Answer, answerBytes}
+use Rattle.rules.specs.Answers.{Answer, answer_bytes}
 use Rattle.rules.specs.Checks.{path_in, ot_point}
 use Rattle.rules.specs.Opening.{asked_path}
 use Rattle.rules.specs.Receiving.{Frame}
@@ -31,7 +31,7 @@ abbrev pub met : ℕ → ForwardOpen → Origin → Answer → Contact
 met t q g a =
     record {
       triad = q.triad;
-      id = le 4 (answerBytes a) 0;
+      id = le 4 (answer_bytes a) 0;
       sender = g.peer;
       timeout = timeout_of q.ot.rpi q.multiplier;
       at = t;
@@ -77,10 +77,10 @@ silent t m = ltb m.timeout (t - m.at)
 abbrev pub contact_of : (List ℕ → ForwardOpen → Bool) → Reading (Option Contact)
 contact_of asks =
     record {
-      onOpen = λ t request q g a w. cond (asks request q) (some (met t q g a)) w;
-      onClose = λ k w. maybe none (λ m. cond (triad_is k m.triad) none (some m)) w;
-      onFrame = λ t from f w. maybe none (λ m. some (cond (speaks from f m) (noted t f m) m)) w;
-      onExpire = λ t w. maybe none (λ m. cond (silent t m) none (some m)) w;
+      on_open = λ t request q g a w. cond (asks request q) (some (met t q g a)) w;
+      on_close = λ k w. maybe none (λ m. cond (triad_is k m.triad) none (some m)) w;
+      on_frame = λ t from f w. maybe none (λ m. some (cond (speaks from f m) (noted t f m) m)) w;
+      on_expire = λ t w. maybe none (λ m. cond (silent t m) none (some m)) w;
     }
 
 -- ---- an output
@@ -95,7 +95,7 @@ pub record Word : Type 0 where
 abbrev pub asks_for : Setup → ℕ → List ℕ → ForwardOpen → Bool
 asks_for u n request q =
     let point = ot_point (path_in (asked_path request q)) in
-    not (eqb point u.inputOnly) && not (eqb point u.listenOnly) && eqb point n
+    not (eqb point u.input_only) && not (eqb point u.listen_only) && eqb point n
 
 -- behind two bytes of CIP sequence and four of header comes as much as the output holds
 abbrev pub fits : ℕ → Frame → Bool
@@ -119,16 +119,16 @@ abbrev pub word_of : Setup → ℕ → ℕ → Reading Word
 word_of u n size =
     let owner = contact_of (asks_for u n) in
     record {
-      onOpen = λ t request q g a w. record { owner = owner.onOpen t request q g a w.owner; said = cond (asks_for u n request q) none w.said; taken = w.taken };
-      onClose = λ k w. record { owner = owner.onClose k w.owner; said = w.said; taken = w.taken };
-      onFrame =
+      on_open = λ t request q g a w. record { owner = owner.on_open t request q g a w.owner; said = cond (asks_for u n request q) none w.said; taken = w.taken };
+      on_close = λ k w. record { owner = owner.on_close k w.owner; said = w.said; taken = w.taken };
+      on_frame =
           λ t from f w.
           record {
-            owner = owner.onFrame t from f w.owner;
+            owner = owner.on_frame t from f w.owner;
             said = cond (takes size from f w) (some f) w.said;
             taken = cond (takes size from f w) (some f) w.taken;
           };
-      onExpire = λ t w. record { owner = owner.onExpire t w.owner; said = w.said; taken = w.taken };
+      on_expire = λ t w. record { owner = owner.on_expire t w.owner; said = w.said; taken = w.taken };
     }
 
 -- before any call
@@ -146,7 +146,7 @@ holds before w = maybe before data_in w.taken
 -- ---- how many opens were accepted
 
 abbrev pub opens : Reading ℕ
-opens = record { onOpen = λ t request q g a d. suc d; onClose = λ k d. d; onFrame = λ t from f d. d; onExpire = λ t d. d }
+opens = record { on_open = λ t request q g a d. suc d; on_close = λ k d. d; on_frame = λ t from f d. d; on_expire = λ t d. d }
 
 -- an open draws two ids at most: while fewer than half as many opens as there are ids were accepted, none has come round again
 abbrev pub few : ℕ

@@ -45,8 +45,8 @@ pub record Passed (u : Setup) (table : List Fixed) (o : ForwardOpen) (answer : P
   pub config : Checks.config_check u (Checks.path_in answer) (Checks.roles_of u (Checks.path_in answer)) ≡ none
   pub rpi : Checks.rpi_check u o ≡ none
   pub type : Checks.type_check o ≡ none
-  pub ot-size : Checks.ot_size_check u o (Checks.roles_of u (Checks.path_in answer)) ≡ none
-  pub to-size : Checks.to_size_check u o (Checks.roles_of u (Checks.path_in answer)) ≡ none
+  pub ot_size : Checks.ot_size_check u o (Checks.roles_of u (Checks.path_in answer)) ≡ none
+  pub to_size : Checks.to_size_check u o (Checks.roles_of u (Checks.path_in answer)) ≡ none
   pub triad : Checks.triad_check o table ≡ none
   pub owner : Checks.owner_check u (Checks.roles_of u (Checks.path_in answer)) table ≡ none
   pub stream : Checks.stream_check o (Checks.roles_of u (Checks.path_in answer)) table ≡ none
@@ -67,8 +67,8 @@ passed u table o answer p e =
         config = a.1.1.1.1.0;
         rpi = a.1.1.1.1.1.0;
         type = a.1.1.1.1.1.1.0;
-        ot-size = a.1.1.1.1.1.1.1.0;
-        to-size = a.1.1.1.1.1.1.1.1.0;
+        ot_size = a.1.1.1.1.1.1.1.0;
+        to_size = a.1.1.1.1.1.1.1.1.0;
         triad = a.1.1.1.1.1.1.1.1.1.0;
         owner = a.1.1.1.1.1.1.1.1.1.1.0;
         stream = a.1.1.1.1.1.1.1.1.1.1.1.0;

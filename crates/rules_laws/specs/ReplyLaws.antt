@@ -31,10 +31,10 @@ use Rattle.rules.specs.Message.{reply_head, reply_to, file_in, of_class, of_obje
 -- a state of the rules' sizes
 pub record Sized (st : State) : Type 0 where
   pub name : length st.setup.identity.name ≤ 32
-  pub edsName : length st.setup.edsName ≤ 32
+  pub eds_name : length st.setup.eds_name ≤ 32
   pub mac : length st.setup.mac ≤ 6
-  pub limitLow : 1 ≤ st.setup.transferLimit
-  pub limitHigh : st.setup.transferLimit ≤ 255
+  pub limit_low : 1 ≤ st.setup.transfer_limit
+  pub limit_high : st.setup.transfer_limit ≤ 255
   pub contents : (i : ℕ) → length (content_at st i).bytes ≤ 512
 
 -- ---- the data of an outcome
@@ -127,26 +127,26 @@ size_tested : (limit : ℕ) (eds : Option (List ℕ)) (p : Position) → positio
 size_tested limit none p e = absurd (let z : ◌≡◌ {A = ℕ} 0 1 = cc in omega arith)
 size_tested limit (some eds) p e = (tested limit (length eds) p e).1
 
-module _ (u : Setup) (low : 1 ≤ u.transferLimit) (eds : List ℕ) (present : u.eds ≡ some eds) where
-  under : (p : Position) → all (position_tests u.transferLimit (length eds) p) ≡ true → upload_ok u (Under p) ≡ true
+module _ (u : Setup) (low : 1 ≤ u.transfer_limit) (eds : List ℕ) (present : u.eds ≡ some eds) where
+  under : (p : Position) → all (position_tests u.transfer_limit (length eds) p) ≡ true → upload_ok u (Under p) ≡ true
   unfolding upload_ok
   under p e = rw present e
 
-  initiate_ok : (up : Upload) (bytes : List ℕ) → upload_ok u up ≡ true → upload_ok u (initiate u.transferLimit eds up bytes).1 ≡ true
+  initiate_ok : (up : Upload) (bytes : List ℕ) → upload_ok u up ≡ true → upload_ok u (initiate u.transfer_limit eds up bytes).1 ≡ true
   unfolding initiate clamped
   initiate_ok up [] e = e
   initiate_ok up (wanted ∷ rest) e =
-      under _ (passes u.transferLimit (length eds) (started (max 1 (min wanted u.transferLimit))) (omega arith) (omega arith) (omega arith) refl)
+      under _ (passes u.transfer_limit (length eds) (started (max 1 (min wanted u.transfer_limit))) (omega arith) (omega arith) (omega arith) refl)
 
-  of_under : (p : Position) → upload_ok u (Under p) ≡ true → all (position_tests u.transferLimit (length eds) p) ≡ true
+  of_under : (p : Position) → upload_ok u (Under p) ≡ true → all (position_tests u.transfer_limit (length eds) p) ≡ true
   unfolding upload_ok
   of_under p e = rw present at e
 
   advanced_ok : (p : Position) → upload_ok u (Under p) ≡ true → upload_ok u (Under (advanced eds p)) ≡ true
   unfolding advanced
   advanced_ok p e =
-      let h = tested u.transferLimit (length eds) p (of_under p e) in
-      under _ (passes u.transferLimit (length eds) (advanced eds p) h.0 h.1 (omega arith) (le-leb _ _ h.2))
+      let h = tested u.transfer_limit (length eds) p (of_under p e) in
+      under _ (passes u.transfer_limit (length eds) (advanced eds p) h.0 h.1 (omega arith) (le-leb _ _ h.2))
 
   turn_ok : (p : Position) (number : ℕ) (t : Turn) → upload_ok u (Under p) ≡ true → upload_ok u (transfer_for eds p number t).1 ≡ true
   turn_ok p number (Repeat offset) e = e
@@ -213,7 +213,7 @@ module _ (st : State) (local mask : ℕ) (sized : Sized st) where
       (
         omega arith,
         (
-          omega (arith, sized.edsName),
+          omega (arith, sized.eds_name),
           (
             omega arith,
             (
@@ -240,15 +240,15 @@ module _ (st : State) (local mask : ℕ) (sized : Sized st) where
     unfolding upload_ok
     size_held p e =
         let h : upload_ok st.setup (Under p) ≡ true = rw e at ok in
-        let g = size_tested st.setup.transferLimit st.setup.eds p h in
-        omega (arith, sized.limitHigh)
+        let g = size_tested st.setup.transfer_limit st.setup.eds p h in
+        omega (arith, sized.limit_high)
 
     file_short : (eds : List ℕ) (service instance : ℕ) (a : FirstAttribute) (bytes : List ℕ)
         → data_length (file st.setup eds service instance a bytes up).0 ≤ 512
     unfolding file eds_file
     file_short eds service instance a bytes =
         let t = transfer_short eds up bytes 255 size_held in
-        let i = initiate_short eds st.setup.transferLimit up bytes in
+        let i = initiate_short eds st.setup.transfer_limit up bytes in
         one_step 512 (eqb instance 0) _ _ (single_short 512 service a class_attributes class_short)
         (one_step 512 (eqb instance eds_instance) _ _
         (one_step 512 (eqb service initiate_upload) _ _ (omega arith)
@@ -294,15 +294,15 @@ module _ (st : State) (local mask : ℕ) (sized : Sized st) where
         let h = transfer_short eds up bytes 255 size_held in
         rw (reply_length upload_transfer (transfer eds up bytes).0) (omega arith)
 
-    pub initiate_fits : (eds bytes : List ℕ) → length (reply_to initiate_upload (initiate st.setup.transferLimit eds up bytes).0) ≤ 263
+    pub initiate_fits : (eds bytes : List ℕ) → length (reply_to initiate_upload (initiate st.setup.transfer_limit eds up bytes).0) ≤ 263
     initiate_fits eds bytes =
-        let h = initiate_short eds st.setup.transferLimit up bytes in
-        rw (reply_length initiate_upload (initiate st.setup.transferLimit eds up bytes).0) (omega arith)
+        let h = initiate_short eds st.setup.transfer_limit up bytes in
+        rw (reply_length initiate_upload (initiate st.setup.transfer_limit eds up bytes).0) (omega arith)
 
     file_in_ok : (service instance : ℕ) (a : FirstAttribute) (bytes : List ℕ) (eds : Option (List ℕ)) → st.setup.eds ≡ eds
         → upload_ok st.setup (file_in st.setup service instance a bytes up eds).1 ≡ true
     file_in_ok service instance a bytes none e = ok
-    file_in_ok service instance a bytes (some eds) e = file_ok st.setup sized.limitLow eds e service instance a bytes up ok
+    file_in_ok service instance a bytes (some eds) e = file_ok st.setup sized.limit_low eds e service instance a bytes up ok
 
     any_ok : (b : Bool) (x y : Outcome × Upload) → upload_ok st.setup x.1 ≡ true → upload_ok st.setup y.1 ≡ true
         → upload_ok st.setup (cond b x y).1 ≡ true

@@ -61,7 +61,7 @@ module _ (st : State) (local mask : ℕ) (eds : List ℕ) (present : st.setup.ed
   transfer_message_lem number up = rw (file_request 0x4F number, present)
 
   initiate_message_lem : (wanted : ℕ) (up : Upload)
-      → message_outcome st local mask (initiate_message wanted) up ≡ initiate st.setup.transferLimit eds up (wanted ∷ [])
+      → message_outcome st local mask (initiate_message wanted) up ≡ initiate st.setup.transfer_limit eds up (wanted ∷ [])
   unfolding message_outcome of_class file eds_file
   initiate_message_lem wanted up = rw (file_request 0x4B wanted, present)
 
@@ -74,21 +74,21 @@ module _ (st : State) (local mask : ℕ) (eds : List ℕ) (present : st.setup.ed
     abbrev pub session : Client
     session = moves (by_message st local mask) ms (client (message_outcome st local mask (initiate_message wanted) earlier).1 0 [] [])
 
-    as_steps : session ≡ moves (step eds) ms (begins (clamped st.setup.transferLimit wanted))
+    as_steps : session ≡ moves (step eds) ms (begins (clamped st.setup.transfer_limit wanted))
     unfolding initiate
     as_steps = rw (initiate_message_lem wanted earlier) (moves_same (by_message st local mask) (step eds) by_step ms _)
 
     -- initiate's reply says the EDS's length and the size of a transfer
     pub session_begins : message_reply st local mask (initiate_message wanted) earlier
-        ≡ reply_head 0x4B 0 ++ initiate_reply eds (clamped st.setup.transferLimit wanted)
+        ≡ reply_head 0x4B 0 ++ initiate_reply eds (clamped st.setup.transfer_limit wanted)
     unfolding message_reply reply_to initiate
     session_begins = rw (file_request 0x4B wanted, initiate_message_lem wanted earlier)
 
     -- whenever the client sees the end, it has the EDS and its checksum
     pub session_whole : ended session ≡ true → got session ≡ eds ++ le_bytes 2 (checksum eds)
     session_whole e =
-        ap got as_steps ∙ uploaded_whole eds st.setup.transferLimit wanted ms (sym (ap ended as_steps) ∙ e)
+        ap got as_steps ∙ uploaded_whole eds st.setup.transfer_limit wanted ms (sym (ap ended as_steps) ∙ e)
 
     -- and it sees the end once it has asked for as many transfers as the EDS's length needs, and for one at least
-    pub session_ends : 1 ≤ nexts ms → length eds ≤ nexts ms * clamped st.setup.transferLimit wanted → ended session ≡ true
-    session_ends h g = ap ended as_steps ∙ uploaded_ends eds st.setup.transferLimit wanted ms h g
+    pub session_ends : 1 ≤ nexts ms → length eds ≤ nexts ms * clamped st.setup.transfer_limit wanted → ended session ≡ true
+    session_ends h g = ap ended as_steps ∙ uploaded_ends eds st.setup.transfer_limit wanted ms h g

@@ -78,17 +78,17 @@ news c a = cond (is_yes a) (yes_news c a) Nothing
 
 -- A READING of the news: what is learnt from each
 pub record Reading (G : Type 0) : Type 0 where
-  pub onOpen : ℕ → List ℕ → ForwardOpen → Origin → Answer → G → G
-  pub onClose : Triad → G → G
-  pub onFrame : ℕ → ℕ → Frame → G → G
-  pub onExpire : ℕ → G → G
+  pub on_open : ℕ → List ℕ → ForwardOpen → Origin → Answer → G → G
+  pub on_close : Triad → G → G
+  pub on_frame : ℕ → ℕ → Frame → G → G
+  pub on_expire : ℕ → G → G
 
 module _ {G : Type 0} (r : Reading G) where
   abbrev pub learnt : News → G → G
-  learnt (Opening t request q g a) w = r.onOpen t request q g a w
-  learnt (Closing k) w = r.onClose k w
-  learnt (Hearing t from f) w = r.onFrame t from f w
-  learnt (Expiring t) w = r.onExpire t w
+  learnt (Opening t request q g a) w = r.on_open t request q g a w
+  learnt (Closing k) w = r.on_close k w
+  learnt (Hearing t from f) w = r.on_frame t from f w
+  learnt (Expiring t) w = r.on_expire t w
   learnt Nothing w = w
 
   -- A HISTORY: what a reading has learnt from a log
@@ -106,10 +106,10 @@ module _ {G : Type 0} (r : Reading G) where
 abbrev pub both : {G H : Type 0} → Reading G → Reading H → Reading (G × H)
 both r q =
     record {
-      onOpen = λ t request o g a w. (r.onOpen t request o g a w.0, q.onOpen t request o g a w.1);
-      onClose = λ k w. (r.onClose k w.0, q.onClose k w.1);
-      onFrame = λ t from f w. (r.onFrame t from f w.0, q.onFrame t from f w.1);
-      onExpire = λ t w. (r.onExpire t w.0, q.onExpire t w.1);
+      on_open = λ t request o g a w. (r.on_open t request o g a w.0, q.on_open t request o g a w.1);
+      on_close = λ k w. (r.on_close k w.0, q.on_close k w.1);
+      on_frame = λ t from f w. (r.on_frame t from f w.0, q.on_frame t from f w.1);
+      on_expire = λ t w. (r.on_expire t w.0, q.on_expire t w.1);
     }
 
 pub both_learnt : {G H : Type 0} (r : Reading G) (q : Reading H) (n : News) (w : G × H) → learnt (both r q) n w ≡ (learnt r n w.0, learnt q n w.1)
@@ -159,11 +159,11 @@ acceptance q g p n = Accepted (asks_multicast q) (side_at q g p n).dest (reply_o
 pub record Follows {G : Type 0} (r : Reading G) (P : G → State → Type 0) : Type 0 where
   pub quiet : (w : G) → Quiet (P w)
   pub opening : (t : ℕ) (request : List ℕ) (q : ForwardOpen) (g : Origin) (p : Plan) (s : State) (w : G) → verdict_of request q s ≡ Planned p → P w s →
-      P (r.onOpen t request q g (acceptance q g p s.nextId) w) (opened t q g (config_bytes request q) p s)
+      P (r.on_open t request q g (acceptance q g p s.next_id) w) (opened t q g (config_bytes request q) p s)
   pub closing : (k : Triad) (c : Conn) (s : State) (w : G) → find (conn_triad k) s.table ≡ some c → P w s →
-      P (r.onClose k w) (removed false Closed c (without_first (conn_triad k) s.table) s)
-  pub expiring : (t : ℕ) (s : State) (w : G) → P w s → P (r.onExpire t w) (expire_effect t s)
-  pub hearing : (t from : ℕ) (f : Frame) (s : State) (w : G) → P w s → P (r.onFrame t from f w) (received t from f s)
+      P (r.on_close k w) (removed false Closed c (without_first (conn_triad k) s.table) s)
+  pub expiring : (t : ℕ) (s : State) (w : G) → P w s → P (r.on_expire t w) (expire_effect t s)
+  pub hearing : (t from : ℕ) (f : Frame) (s : State) (w : G) → P w s → P (r.on_frame t from f w) (received t from f s)
 
 found : {A : Type 0} (p : A → Bool) (l : List A) → any p l ≡ true → {Q : Type 0} → ((c : A) → find p l ≡ some c → Q) → Q
 found p [] y k = ListLaws.clash true refl (sym y)
@@ -179,11 +179,11 @@ module _ {G : Type 0} (r : Reading G) (P : G → State → Type 0) (k : Follows 
 
   -- OPEN
   plan_follows : (t : ℕ) (request : List ℕ) (q : ForwardOpen) (g : Origin) (room : ℕ) (s : State) (w : G) → P w s → (v : Verdict) → verdict_of request q s ≡ v →
-      let a = plan_answer q g s.nextId room v in
+      let a = plan_answer q g s.next_id room v in
       Step s w a (Opening t request q g a) (plan_effect t q g (config_bytes request q) s v)
   plan_follows t request q g room s w h (Stopped x) e = h
   plan_follows t request q g room s w h (Planned p) e =
-      either_way (λ a. Step s w a (Opening t request q g a) (opened t q g (config_bytes request q) p s)) (leb (length (reply_of q g p s.nextId)) room)
+      either_way (λ a. Step s w a (Opening t request q g a) (opened t q g (config_bytes request q) p s)) (leb (length (reply_of q g p s.next_id)) room)
       (k.opening t request q g p s w e h) h
 
   asked_follows : (t : ℕ) (request : List ℕ) (g : Origin) (room : ℕ) (s : State) (w : G) → P w s → (x : OpenAnswer) →
@@ -274,7 +274,7 @@ module _ {G : Type 0} (r : Reading G) (P : G → State → Type 0) (k : Follows 
 
 -- a reading that learns nothing
 abbrev unlearnt : Reading (Unit {0})
-unlearnt = record { onOpen = λ t request q g a w. w; onClose = λ k w. w; onFrame = λ t from f w. w; onExpire = λ t w. w }
+unlearnt = record { on_open = λ t request q g a w. w; on_close = λ k w. w; on_frame = λ t from f w. w; on_expire = λ t w. w }
 
 -- an expiry is so many removals
 module _ (P : State → Type 0) (removing : Removing P) where

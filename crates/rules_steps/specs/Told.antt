@@ -28,7 +28,7 @@ use Rattle.rules_steps.specs.Names.{ForwardOpen, OpenAnswer, CloseAnswer, Origin
 -- an accepted open: Opened, then the configuration data that it stored
 abbrev plan_told : State → ForwardOpen → Origin → List ℕ → Verdict → List Event
 plan_told s q g bytes (Stopped x) = []
-plan_told s q g bytes (Planned p) = Opened (info_of s.setup (new_fixed q g p s.nextId)) ∷ config_event s.setup p.stores bytes
+plan_told s q g bytes (Planned p) = Opened (info_of s.setup (new_fixed q g p s.next_id)) ∷ config_event s.setup p.stores bytes
 
 abbrev asked_told : Origin → List ℕ → State → OpenAnswer → List Event
 asked_told g request s NoOpen = []

@@ -33,13 +33,13 @@ use Rattle.state_image.specs.Kept.{suits_counters, suits_events, records_append,
 -- ---- the head
 
 abbrev pub produced_as : ℕ → State → State
-produced_as v st = with_counters (record { produced = v; late = st.counters.late; maxLate = st.counters.maxLate }) st
+produced_as v st = with_counters (record { produced = v; late = st.counters.late; max_late = st.counters.max_late }) st
 
 abbrev pub late_as : ℕ → State → State
-late_as v st = with_counters (record { produced = st.counters.produced; late = v; maxLate = st.counters.maxLate }) st
+late_as v st = with_counters (record { produced = st.counters.produced; late = v; max_late = st.counters.max_late }) st
 
 abbrev pub max_late_as : ℕ → State → State
-max_late_as v st = with_counters (record { produced = st.counters.produced; late = st.counters.late; maxLate = v }) st
+max_late_as v st = with_counters (record { produced = st.counters.produced; late = st.counters.late; max_late = v }) st
 
 module _ (s : List ℕ) where
   pub produced_becomes : (v : ℕ) → Becomes s (put 8 s 192 v) (produced_as v)
@@ -62,7 +62,7 @@ module _ (s : List ℕ) where
       (λ j. put 4 (h.is j) ring_at (word j)) ∙ fault_stored st l h.suits b
 
 abbrev pub counters_as : ℕ → ℕ → ℕ → State → State
-counters_as produced late maxLate st = with_counters (record { produced = produced; late = late; maxLate = maxLate }) st
+counters_as produced late max_late st = with_counters (record { produced = produced; late = late; max_late = max_late }) st
 
 pub counters_become : (s : List ℕ) (p q m : ℕ) → Becomes s (put 8 (put 8 (put 8 s 192 p) 200 q) 208 m) (counters_as p q m)
 counters_become s p q m st l h =

@@ -27,7 +27,7 @@ pub record Fits (st : State) : Type 0 where
   pub gone : st.events.gone < 1024
   pub waiting : length st.events.waiting ≤ 1024
   pub records : Records32 st.events.waiting
-  pub id : 0 < st.nextId
+  pub id : 0 < st.next_id
 
 pub record Lent (l : List ℕ) : Type 0 where
   pub long : length l ≡ state_size

@@ -116,10 +116,10 @@ module _ (s : List ℕ) (st : State) (l : List ℕ) (h : Holds s st l) where
   pub late_held : late_of s ≡ st.counters.late
   late_held = ap (λ (z : List ℕ). late_of z) h.is ∙ late_is st l w
 
-  pub max_late_held : max_late_of s ≡ st.counters.maxLate
+  pub max_late_held : max_late_of s ≡ st.counters.max_late
   max_late_held = ap (λ (z : List ℕ). max_late_of z) h.is ∙ max_late_is st l w
 
-  pub next_id_held : next_id_of s ≡ st.nextId
+  pub next_id_held : next_id_of s ≡ st.next_id
   next_id_held = ap (λ (z : List ℕ). next_id_of z) h.is ∙ next_id_is st l w
 
   pub word_held : ring_word_of s ≡ word_of (length st.events.waiting) st.events.gone st.fault

@@ -161,10 +161,10 @@ module _ (st : State) (l : List ℕ) (w : Suits st l) where
   pub late_is : late_of (store st l) ≡ st.counters.late
   late_is = ap (λ (vs : List ℕ). get_or vs 1 0) head_of_store
 
-  pub max_late_is : max_late_of (store st l) ≡ st.counters.maxLate
+  pub max_late_is : max_late_of (store st l) ≡ st.counters.max_late
   max_late_is = ap (λ (vs : List ℕ). get_or vs 2 0) head_of_store
 
-  pub next_id_is : next_id_of (store st l) ≡ st.nextId
+  pub next_id_is : next_id_of (store st l) ≡ st.next_id
   next_id_is = ap (λ (vs : List ℕ). get_or vs 3 0) head_of_store
 
   pub word_is : ring_word_of (store st l) ≡ word_of (length st.events.waiting) st.events.gone st.fault

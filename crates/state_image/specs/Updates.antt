@@ -66,15 +66,15 @@ head_put rs vs p z e t k v h b =
 module _ (st : State) (l : List ℕ) (w : Suits st l) where
   -- ---- the head
 
-  pub produced_stored : (v : ℕ) → put 8 (store st l) 192 v ≡ store (with_counters (record { produced = v; late = st.counters.late; maxLate = st.counters.maxLate }) st) l
+  pub produced_stored : (v : ℕ) → put 8 (store st l) 192 v ≡ store (with_counters (record { produced = v; late = st.counters.late; max_late = st.counters.max_late }) st) l
   unfolding store head_of marks_of table_of events_of data_of offset
   produced_stored v = head_put (regions_of st l) (list_head st) (drop head_used (head_in l)) (sized st l w) refl tt 0 v (omega arith) (omega arith)
 
-  pub late_stored : (v : ℕ) → put 8 (store st l) 200 v ≡ store (with_counters (record { produced = st.counters.produced; late = v; maxLate = st.counters.maxLate }) st) l
+  pub late_stored : (v : ℕ) → put 8 (store st l) 200 v ≡ store (with_counters (record { produced = st.counters.produced; late = v; max_late = st.counters.max_late }) st) l
   unfolding store head_of marks_of table_of events_of data_of offset
   late_stored v = head_put (regions_of st l) (list_head st) (drop head_used (head_in l)) (sized st l w) refl tt 1 v (omega arith) (omega arith)
 
-  pub max_late_stored : (v : ℕ) → put 8 (store st l) 208 v ≡ store (with_counters (record { produced = st.counters.produced; late = st.counters.late; maxLate = v }) st) l
+  pub max_late_stored : (v : ℕ) → put 8 (store st l) 208 v ≡ store (with_counters (record { produced = st.counters.produced; late = st.counters.late; max_late = v }) st) l
   unfolding store head_of marks_of table_of events_of data_of offset
   max_late_stored v = head_put (regions_of st l) (list_head st) (drop head_used (head_in l)) (sized st l w) refl tt 2 v (omega arith) (omega arith)
 

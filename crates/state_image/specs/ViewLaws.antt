@@ -75,8 +75,8 @@ module _ (st : State) (l : List ℕ) (w : Suits st l) where
         table = table_read i;
         events = record { gone = gone_is st l w i; waiting = waiting_read i };
         fault = b i;
-        nextId = next_id_is st l w i;
-        counters = record { produced = produced_is st l w i; late = late_is st l w i; maxLate = max_late_is st l w i };
+        next_id = next_id_is st l w i;
+        counters = record { produced = produced_is st l w i; late = late_is st l w i; max_late = max_late_is st l w i };
       }
 
 -- ---- what a tested buffer says fits

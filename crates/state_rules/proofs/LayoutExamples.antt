@@ -15,8 +15,8 @@ use Rattle.state_rules.specs.Rows.{kind_in, output_in}
 -- a setup's region by what is tested of it: the number of assemblies, the transfer limit, the lengths of product name and EDS name, the
 -- EDS mark; 16.8: all else is 255, but the greatest RPI is 0, below the least
 abbrev pub region : ℕ → ℕ → ℕ → ℕ → ℕ → List ℕ
-region assemblies limit name edsName mark =
-    (assemblies ∷ limit ∷ name ∷ edsName ∷ le_bytes 4 mark) ++ replicate 24 255 ++ replicate 4 0 ++ replicate 156 255
+region assemblies limit name eds_name mark =
+    (assemblies ∷ limit ∷ name ∷ eds_name ∷ le_bytes 4 mark) ++ replicate 24 255 ++ replicate 4 0 ++ replicate 156 255
 
 -- 16.3: the most and the least that pass; 17 assemblies, a limit of 0, names of 33 bytes, an EDS of 65,536
 pub setups_tested : map good_setup (

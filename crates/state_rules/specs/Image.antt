@@ -38,8 +38,8 @@ view l =
       table = conns_in (connections_of l) (table_in l);
       events = record { gone = first_of l; waiting = ring_of 32 record32 as_is (first_of l) (waiting_of l) (ring_in l) };
       fault = to_bool (fault_of l);
-      nextId = next_id_of l;
-      counters = record { produced = produced_of l; late = late_of l; maxLate = max_late_of l };
+      next_id = next_id_of l;
+      counters = record { produced = produced_of l; late = late_of l; max_late = max_late_of l };
     }
 
 -- ---- a state written over a buffer: every byte that no part of the state stands for stays, but rows that fell free are zero
@@ -48,8 +48,8 @@ abbrev pub list_head : State → List ℕ
 list_head st =
     st.counters.produced
     ∷ st.counters.late
-    ∷ st.counters.maxLate
-    ∷ st.nextId
+    ∷ st.counters.max_late
+    ∷ st.next_id
     ∷ word_of (length st.events.waiting) st.events.gone st.fault
     ∷ length st.table
     ∷ []

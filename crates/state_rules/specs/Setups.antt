@@ -44,15 +44,15 @@ abbrev pub setup_with : List Shape → List ℕ → List ℕ → Setup
 setup_with shapes r e =
     record {
       identity = identity_of r;
-      inputOnly = le 4 r 20;
-      listenOnly = le 4 r 24;
-      rpiMin = le 4 r 28;
-      rpiMax = le 4 r 32;
+      input_only = le 4 r 20;
+      listen_only = le 4 r 24;
+      rpi_min = le 4 r 28;
+      rpi_max = le 4 r 32;
       late_limit = le 4 r 36;
-      transferLimit = le 1 r 1;
+      transfer_limit = le 1 r 1;
       mac = take 6 (drop 40 r);
       eds = eds_of (le 4 r 4) e;
-      edsName = take (le 1 r 3) (drop 78 r);
+      eds_name = take (le 1 r 3) (drop 78 r);
       assemblies = shapes;
     }
 
