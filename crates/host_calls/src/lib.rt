@@ -1,4 +1,5 @@
-// Each C function under the contract that the theorem of runs has for it: what a run asks of a call, the code does.
+// Each function that a host calls under the contract that the theorem of runs has for it: what a run asks of a call, the code does. adapter_c
+// exports these same functions to C, under the same clauses.
 #![tactic(auto)]
 
 ghost use Rattle.std.specs.Prelude.{[]};
