@@ -1,2 +1,1 @@
--- The examples that a wrong reading of a rule breaks.
-pub mod Examples
+pub mod ShapeLaws

@@ -43,20 +43,9 @@ module _ (r : List ℕ) (i : ℕ) where
   kind_high g h = let e = kind_in_lem in simp (le-leb 1 (le 1 b 4) (omega arith), lt-leb (le 1 b 4) 3 (omega arith))
 
   module _ (g : 1 ≤ le 1 r (i * 5 + 114)) (h : le 1 r (i * 5 + 114) ≤ 3) where
-    kind_good : kind_given (take shape_size (drop (i * shape_size) (drop shapes_at r))) ≡ true
+    pub kind_good : kind_given (take shape_size (drop (i * shape_size) (drop shapes_at r))) ≡ true
     unfolding kind_given
     kind_good = let e = kind_in_lem in simp (le-leb 1 (le 1 b 4) (omega arith), le-leb (le 1 b 4) 3 (omega arith))
-
-    pub no_instance : (n : ℕ) → n ≡ (given_in r i).instance → n < 1 → false ≡ shape_given (take shape_size (drop (i * shape_size) (drop shapes_at r)))
-    unfolding shape_given
-    no_instance n e p = simp (kind_good, lt-leb 1 (given_in r i).instance (omega arith))
-
-    pub shape_rest : (n m : ℕ) → n ≡ (given_in r i).instance → m ≡ (given_in r i).size → 1 ≤ n → n ≤ 65535
-        → leb m 512 ≡ shape_given (take shape_size (drop (i * shape_size) (drop shapes_at r)))
-    unfolding shape_given
-    shape_rest n m e f p q =
-        ap (λ (k : ℕ). leb k 512) f
-        ∙ simp (kind_good, le-leb 1 (given_in r i).instance (omega arith), le-leb (given_in r i).instance 65535 (omega arith))
 
 -- ---- the instances
 

@@ -95,26 +95,6 @@ pub plan_is : (r : checks.Roles) (n : ℕ) (stream : Stream) (z : Stores) → z 
     → ◌≡◌ {A = Plan} (record { kind = r.kind; input = r.input; output = r.output; stores = z; stream = stream }) (plan_for r n stream)
 plan_is r n stream z e = λ j. record { kind = r.kind; input = r.input; output = r.output; stores = e j; stream = stream }
 
--- ---- checks 10 to 13, where the stream is the one that the rules find
-
-module _ (u : Setup) (table : List Fixed) (o : ForwardOpen) (r : checks.Roles) (datalen : ℕ) (stream : Stream) (es : stream ≡ stream_of o r table)
-    (c : Option Stop) (ec : c ≡ first_stop (table_checks_of u table o r stream)) where
-  abbrev table_plan : Plan
-  table_plan = plan_for r datalen (stream_of o r table)
-
-  known : first_stop (table_checks_of u table o r stream) ≡ first_stop (table_checks u table o r)
-  known =
-      ap (λ (z : Stream). first_stop (table_checks_of u table o r z)) es
-      ∙ ap (λ (z : Option Stop). first_stop (checks.triad_check o table ∷ checks.owner_check u r table ∷ z ∷ checks.room_check table ∷ [])) (stop_reads o r table)
-
-  pub table_stops : (s : Stop) → c ≡ some s → Stopped s ≡ decided table_plan (table_checks u table o r)
-  table_stops s h = ap (λ (z : Option Stop). maybe (Planned table_plan) Stopped z) (sym h ∙ ec ∙ known)
-
-  pub table_holds : c ≡ none → (plan : Plan) → plan ≡ plan_for r datalen stream → Planned plan ≡ decided table_plan (table_checks u table o r)
-  table_holds h plan ep =
-      ap Planned (ep ∙ ap (λ (z : Stream). plan_for r datalen z) es)
-      ∙ ap (λ (z : Option Stop). maybe (Planned table_plan) Stopped z) (sym h ∙ ec ∙ known)
-
 -- ---- check 4 and what the points come to
 
 module _ (u : Setup) (table : List Fixed) (o : ForwardOpen) (p : ConnectionPath) (x : Points) (es : said x ≡ points_check u p)
@@ -131,30 +111,3 @@ module _ (u : Setup) (table : List Fixed) (o : ForwardOpen) (p : ConnectionPath)
       let q : roles_in y ≡ roles_of u p = ap (roles_or (roles_of u p)) (sym h) ∙ er in
       one_holds (plan_of u table o p) (points_check u p) (role_checks u table o p (roles_of u p)) (ap said (sym h) ∙ es) v
       (e ∙ ap (λ (z : checks.Roles). decided (plan_for z p.datalen (stream_of o z table)) (role_checks u table o p z)) q)
-
--- ---- check 2, by the path's answer
-
-module _ (u : Setup) (table : List Fixed) (o : ForwardOpen) (a : PathAnswer) where
-  abbrev answer_plan : PathAnswer → Plan
-  answer_plan z = plan_of u table o (path_in z)
-
-  pub answer_broken : (n : ℕ) → a ≡ Unparsed n → Stopped (PathBroken n) ≡ decided (answer_plan a) (answer_checks u table o a)
-  unfolding path_check
-  answer_broken n h = sym (ap (λ (z : PathAnswer). decided (answer_plan z) (answer_checks u table o z)) h)
-
-  pub answer_parsed : (p : ConnectionPath) → a ≡ Parsed p → (v : Verdict) → v ≡ decided (plan_of u table o p) (parsed_checks u table o p)
-      → v ≡ decided (answer_plan a) (answer_checks u table o a)
-  unfolding path_check
-  answer_parsed p h v e = e ∙ sym (ap (λ (z : PathAnswer). decided (answer_plan z) (answer_checks u table o z)) h)
-
-  -- ---- all thirteen
-
-  verdict_is : decided (answer_plan a) (transport_check o ∷ answer_checks u table o a) ≡ verdict u table o a
-  unfolding verdict
-  verdict_is = refl
-
-  pub verdict_stops : (s : Stop) → some s ≡ transport_check o → Stopped s ≡ verdict u table o a
-  verdict_stops s h = one_stops (answer_plan a) (transport_check o) (answer_checks u table o a) s h ∙ verdict_is
-
-  pub verdict_goes : none ≡ transport_check o → (v : Verdict) → v ≡ decided (answer_plan a) (answer_checks u table o a) → v ≡ verdict u table o a
-  verdict_goes h v e = one_holds (answer_plan a) (transport_check o) (answer_checks u table o a) h v e ∙ verdict_is

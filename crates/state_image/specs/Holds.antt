@@ -17,7 +17,8 @@ use Rattle.state_rules.specs.Places.{setup_in, marks_in, table_in, data_in, setu
 use Rattle.state_rules.specs.Setups.{setup_of, shape_in, kind_named}
 use Rattle.state_rules.specs.SetupLaws.{shape_short}
 use Rattle.state_rules.specs.Rows.{dec_conn, enc_conn, conn_at, conns_in}
-use Rattle.state_rules.specs.RowLaws.{length_enc_conn, dec_enc_conn}
+use Rattle.state_rules.specs.RowLaws.{length_enc_conn}
+use Rattle.state_rules.proofs.RowLaws.{dec_enc_conn}
 use Rattle.state_rules.specs.Bits.{word_of, run_in, notified_in}
 use Rattle.state_rules.specs.Image.{view, store, tested, bytes_of, marks_of, table_of, data_of}
 use Rattle.state_image.specs.RowsFit.{fits_at}

@@ -9,7 +9,8 @@ use Rattle.rules.specs.declared.Conn.{Conn}
 use Rattle.rules.specs.declared.Fixed.{Fixed}
 use Rattle.state_rules.specs.Places.{row_size}
 use Rattle.state_rules.specs.Rows.{RoleFits, RowFits, enc_conn, dec_conn, conns_in}
-use Rattle.state_rules.specs.RowLaws.{length_enc_conn, dec_enc_conn, fits_dec_conn}
+use Rattle.state_rules.specs.RowLaws.{length_enc_conn, fits_dec_conn}
+use Rattle.state_rules.proofs.RowLaws.{dec_enc_conn}
 
 pub data RowsFit : List Conn → Type 0 where
   none : RowsFit []

@@ -16,7 +16,7 @@ use Rattle.rules.specs.State.{Shape, State}
 use Rattle.state_rules.specs.Places.{widths, setup_in, head_in, w_head, marks_in, table_in, ring_in, data_in, eds_in, head_at, table_at, table_size, events_at, events_size, state_size, row_size, head_used, next_id_of, ring_word_of, first_of, waiting_of, connections_of, fault_of, produced_of, late_of, max_late_of}
 use Rattle.state_rules.specs.Setups.{setup_of}
 use Rattle.state_rules.specs.Rows.{dec_conn, enc_conn, row_at, conns_in}
-use Rattle.state_rules.specs.RowLaws.{enc_dec_conn}
+use Rattle.state_rules.proofs.RowLaws.{enc_dec_conn}
 use Rattle.state_rules.specs.Bits.{word_of, of_to_word}
 use Rattle.state_rules.specs.Image.{contents_of, record32, as_is, view, list_head, head_of, marks_of, table_of, events_of, data_of, store, tested}
 use Rattle.state_image.specs.RowsFit.{rows_fit, rows_read}

@@ -1,2 +1,3 @@
 pub mod LayoutExamples
 pub mod ImageExamples
+pub mod RowLaws

@@ -169,53 +169,12 @@ module _ (c : Conn) where
       let r : ℕ = carried_of c.fixed in
       ap as_heard heard_fields ∙ (λ i. record { until = h.until; any = any_of_flags r h i; sequence = h.sequence; anycip = anycip_of_flags r h i; cip = h.cip })
 
-  pub fixed_stored : RowFits c → dec_fixed (enc_conn c) ≡ c.fixed
-  unfolding dec_fixed
-  fixed_stored fit =
-      let f = c.fixed in
-      ap₂ as_fixed flags_stored fixed_fields
-      ∙ (λ i. record {
-        kind = kind_of_role f.kind f.output fit i;
-        triad = f.triad;
-        originator = f.originator;
-        otid = f.otid;
-        toid = f.toid;
-        otrpi = f.otrpi;
-        multiplier = f.multiplier;
-        torpi = f.torpi;
-        input = input_of_flags f c.heard i;
-        output = output_of_role f.kind f.output fit i;
-        dest = f.dest;
-        multicast = multicast_of_flags f c.heard i;
-        local = f.local;
-      })
-
-  pub dec_enc_conn : RowFits c → dec_conn (enc_conn c) ≡ c
-  dec_enc_conn fit i = record { fixed = fixed_stored fit i; heard = heard_stored i; sent = sent_stored i }
-
 -- ---- what was read is written again
 
 -- what is read can be stored
 pub fits_dec_conn : (b : List ℕ) → RowFits (dec_conn b)
 unfolding dec_fixed
 fits_dec_conn b = role_fits (le 1 b 29)
-
-pub enc_dec_conn : (b : List ℕ) → Bytes b → length b ≡ row_size → enc_conn (dec_conn b) ≡ b
-unfolding enc_sent enc_heard enc_fixed dec_sent dec_heard dec_fixed sum
-enc_dec_conn b y n =
-    let k : le 1 b 29 ≤ 255 = rw (le_1 b 29) (let z = y 29 in omega arith) in
-    let es : list_sent (as_sent (dec_fields w_sent b 0)) ≡ dec_fields w_sent b 0 =
-    λ i. of_to_due (le 8 b 0) i ∷ le 4 b 8 ∷ le 2 b 12 ∷ [] in
-    let eh : list_heard (carried_of (dec_fixed b)) (as_heard (dec_fields w_heard b 14)) ≡ dec_fields w_heard b 14 =
-    λ i. le 2 b 14 ∷ le 8 b 16 ∷ le 4 b 24 ∷ of_to_flags (le 1 b 28) i ∷ [] in
-    let ef : list_fixed (dec_fixed b) ≡ dec_fields w_fixed b 29 =
-    ap (λ (v : ℕ). v ∷ dec_fields (2 ∷ 4 ∷ 4 ∷ 4 ∷ 4 ∷ 4 ∷ 4 ∷ 4 ∷ 2 ∷ 2 ∷ 4 ∷ 1 ∷ []) b 30) (of_to_role (le 1 b 29) k) in
-    ap₂ ◌++◌ (ap (enc_fields w_sent) es ∙ enc_dec w_sent tt b 0 y (omega arith))
-    (ap₂ ◌++◌ (ap (enc_fields w_heard) eh ∙ enc_dec w_heard tt b 14 y (omega arith)) (ap (enc_fields w_fixed) ef ∙ enc_dec w_fixed tt b 29 y (omega arith))
-    ∙ ap (λ (z : List ℕ). take 15 (drop 14 b) ++ take 40 z) (sym (drop-drop 15 14 b))
-    ∙ sym (take-add 15 40 (drop 14 b)))
-    ∙ sym (take-add 14 55 b)
-    ∙ take_all row_size b (omega arith)
 
 -- ---- one part written in place
 

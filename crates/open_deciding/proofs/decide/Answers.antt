@@ -4,7 +4,7 @@ use Rattle.rules.specs.State.{Setup}
 use Rattle.state_rules.specs.Rows.{fixeds_in}
 use Rattle.state_rules.specs.Setups.{setup_from}
 use Rattle.open_checking.specs.Says.{stop_in}
-use Rattle.open_deciding.specs.DecidedLaws.{verdict_stops, verdict_goes}
+use Rattle.open_deciding.proofs.DecidedLaws.{verdict_stops, verdict_goes}
 use Rattle.open_deciding.proofs.decide.Goals as goal
 
 pub returns-in-Stops : goal.returns-in-Stops

@@ -3,7 +3,7 @@ use Rattle.rules.specs.declared.Fixed.{Fixed}
 use Rattle.rules.specs.State.{Setup}
 use Rattle.state_rules.specs.Rows.{fixeds_in}
 use Rattle.state_rules.specs.Setups.{setup_from}
-use Rattle.open_deciding.specs.DecidedLaws.{answer_broken, answer_parsed}
+use Rattle.open_deciding.proofs.DecidedLaws.{answer_broken, answer_parsed}
 use Rattle.open_deciding.proofs.decide_answer.Goals as goal
 
 pub returns-in-Unparsed : goal.returns-in-Unparsed

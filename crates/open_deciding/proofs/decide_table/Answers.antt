@@ -7,7 +7,7 @@ use Rattle.rules.specs.Checks.{Roles}
 use Rattle.open_checking.specs.Says.{stop_in}
 use Rattle.open_roles.specs.Roles.{roles_in}
 use Rattle.open_streams.specs.Joining.{stream_reads}
-use Rattle.open_deciding.specs.DecidedLaws.{table_stops, table_holds}
+use Rattle.open_deciding.proofs.DecidedLaws.{table_stops, table_holds}
 use Rattle.open_deciding.proofs.decide_table.Goals as goal
 
 pub returns-in-Stops : goal.returns-in-Stops

@@ -1,5 +1,6 @@
 use Rattle.std.proofs.Common.{arith, rules}
-use Rattle.app_starting.specs.Shapes.{kind_low, kind_high, no_instance, shape_rest}
+use Rattle.app_starting.specs.Shapes.{kind_low, kind_high}
+use Rattle.app_starting.proofs.ShapeLaws.{no_instance, shape_rest}
 use Rattle.app_starting.proofs.shapes.shape_given.Goals as goal
 
 pub returns-then-k-lt1 : goal.returns-then-k-lt1
