@@ -1,5 +1,5 @@
 -- DEMAND 3 ON EXAMPLES: the premise is met in the subtle case, and without it the conclusion fails.
-use Rattle.std.specs.Prelude.{◌≡◌, refl, List, [], ◌∷◌, ◌++◌, map, true, not, ◌&&◌, ℕ, ◌+◌, length}
+use Rattle.std.specs.Prelude.{◌≡◌, refl, List, [], ◌∷◌, ◌++◌, map, true, not, ◌&&◌, ℕ, length}
 use Rattle.std.proofs.Common.{sym, ◌∙◌, ap, ap₂}
 use Rattle.base_cells.specs.Numbers.{le, le_of, le_bytes}
 use Rattle.base_cells.specs.BigEndian.{bytes_be}

@@ -1,14 +1,12 @@
 -- Demand 3 on examples: pairs of runs, of which proofs/Examples.antt proves that the premise is met in the subtle case, and that without
 -- it the conclusion fails.
-use Rattle.std.specs.Prelude.{List, [], ◌∷◌, ◌++◌, map, ℕ, ◌+◌, get_or}
+use Rattle.std.specs.Prelude.{List, [], ◌∷◌, ◌++◌, map, ℕ, get_or}
 use Rattle.wire_rules.specs.Frames.{io_frame}
-use Rattle.rules.specs.Removal.{closed}
-use Rattle.rules.specs.Producing.{sent}
-use Rattle.rules.specs.Calls.{Call, run}
+use Rattle.rules.specs.Calls.{Call}
 use Rattle.rules.proofs.Examples.{ask, from, points, ending}
 use Rattle.rules.specs.State.{State}
 use Rattle.rules_steps.specs.Names.{Triad, Conn}
-use Rattle.rules_isolation.specs.Demand.{Paired, end, both, second_only, other}
+use Rattle.rules_isolation.specs.Demand.{Paired, end, both, second_only}
 
 -- an open of serial number n at a point, multicast, with an O→T RPI that decides the timeout
 abbrev opening : ℕ → ℕ → ℕ → ℕ → Call
