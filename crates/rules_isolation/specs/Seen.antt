@@ -1,6 +1,6 @@
 -- What can be seen of a state apart from one address: its connections without what they heard, the outputs that it may own without what
 -- they hold. Each call's lemma: states that look alike stay so, and answer alike.
-use Rattle.std.specs.Prelude.{◌≡◌, List, [], ◌∷◌, ◌++◌, map, Bool, cond, not, ◌&&◌, ℕ, ◌+◌, eqb, leb, length}
+use Rattle.std.specs.Prelude.{◌≡◌, List, [], ◌∷◌, ◌++◌, map, Bool, cond, not, ◌&&◌, ℕ, eqb, leb, length}
 use Rattle.std.proofs.Math.Path.{refl, sym, ap, ap₂, subst}
 use Rattle.std.proofs.Common.{◌∙◌}
 use Rattle.std.proofs.Math.Option.{Option, none, some}

@@ -18,7 +18,8 @@ use Rattle.rules.specs.Producing.{sends, produce_effect}
 use Rattle.rules.specs.Host.{next_event_effect}
 use Rattle.rules.specs.Calls.{Call, next, run}
 use Rattle.rules_steps.specs.Names.{ForwardOpen, Origin, Fixed, Conn, Info, Event, Plan}
-use Rattle.rules_steps.specs.Steps.{Kept, kept, run_kept}
+use Rattle.rules_steps.specs.Steps.{Kept}
+use Rattle.rules_steps.proofs.Steps.{kept, run_kept}
 use Rattle.rules_isolation.specs.Ends.{all_removal}
 use Rattle.rules_isolation.specs.Apart.{apart_without, apart_change, apart_map, apart_removal, apart_append}
 use Rattle.rules_isolation.specs.Survive.{Distinct, triad_of, triad_is_sym}
