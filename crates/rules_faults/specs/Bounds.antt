@@ -21,7 +21,8 @@ use Rattle.rules.specs.Host.{set_input_answer, set_input_effect, set_input_call,
 use Rattle.rules.specs.Calls
 use Rattle.rules.specs.Calls.{Call, answer, next, run}
 use Rattle.rules_steps.specs.Names.{ForwardOpen, Origin, Conn, Info, Event, Plan}
-use Rattle.rules_steps.specs.Steps.{Kept, run_kept}
+use Rattle.rules_steps.specs.Steps.{Kept}
+use Rattle.rules_steps.proofs.Steps.{run_kept}
 use Rattle.rules_isolation.specs.Ends.{length_removal}
 
 -- A REFUSED CALL LEAVES THE WHOLE STATE EQUAL

@@ -24,7 +24,8 @@ use Rattle.rules_isolation.specs.Seen.{hear_fixed, send_fixed, taken_owner}
 use Rattle.rules_isolation.specs.Expiry.{owns_not, expire_table}
 use Rattle.rules_isolation.specs.Sound.{Sound, sound_kept, fresh_sound, Owning}
 use Rattle.rules_steps.specs.Names.{ForwardOpen, Origin, Stores, Fixed, Conn, Info, Event, Plan}
-use Rattle.rules_steps.specs.Steps.{Kept, kept, run_kept}
+use Rattle.rules_steps.specs.Steps.{Kept}
+use Rattle.rules_steps.proofs.Steps.{kept, run_kept}
 
 -- a connection that owns the output at a place
 abbrev pub owner_of : ℕ → Conn → Bool

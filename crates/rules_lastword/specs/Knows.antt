@@ -28,7 +28,8 @@ use Rattle.rules_isolation.specs.Survive.{Distinct, triad_of, triad_is_true}
 use Rattle.rules_isolation.specs.Seen.{hear_fixed, send_fixed}
 use Rattle.rules_faults.specs.RunBit.{none_silent}
 use Rattle.rules_steps.specs.Names.{Triad, ForwardOpen, Origin, Fixed, Sent, Conn, Plan}
-use Rattle.rules_steps.specs.Steps.{Removing, expiry_keeps, acceptance}
+use Rattle.rules_steps.specs.Steps.{Removing, acceptance}
+use Rattle.rules_steps.proofs.Steps.{expiry_keeps}
 use Rattle.rules_lastword.specs.Words.{Contact, met, is_for, in_order, is_news, speaks, noted, silent, contact_of}
 
 pub or_yes : (b : Bool) → b || true ≡ true
