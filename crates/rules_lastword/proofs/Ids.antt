@@ -1,5 +1,5 @@
 -- Every step keeps the ground on which a history stands: an open draws one id or two, behind all of the table, and nothing else draws any.
-use Rattle.std.specs.Prelude.{◌≡◌, refl, List, true, false, ℕ, suc, ◌+◌, ◌*◌, ◌-◌, ◌%◌, ◌^◌, ◌≤◌, ◌<◌, eqb, leb}
+use Rattle.std.specs.Prelude.{◌≡◌, refl, List, false, ℕ, suc, ◌+◌, ◌*◌, ◌-◌, ◌%◌, ◌^◌, ◌≤◌, ◌<◌, eqb, leb}
 use Rattle.std.proofs.Common.{arith}
 use borrow.Author.Tests.{leb-true, leb-false, le-leb, lt-leb, ltb-true}
 use Rattle.rules.specs.declared.Verdict.TheVariants.{Planned}

@@ -8,7 +8,7 @@ use Rattle.rules.specs.Lists.{any, is_some}
 use Rattle.rules.specs.State.{Setup, shape_at, content_at, State, is_output}
 use Rattle.rules.specs.Setup.{fresh}
 use Rattle.rules.specs.Checks.{place_of}
-use Rattle.rules.specs.Calls.{Call, run}
+use Rattle.rules.specs.Calls.{Call}
 use Rattle.rules_faults.specs.RunBit.{owner_of}
 use Rattle.rules_steps.specs.Steps.{log, history}
 use Rattle.rules_lastword.specs.Words.{Word, word_of, no_word, in_run, holds, opens}
