@@ -1,5 +1,5 @@
 -- The history on examples: a day's word, and that each premise of the theorems is met.
-use Rattle.std.specs.Prelude.{refl, List, [], ◌∷◌, ◌++◌, map, true, false, ℕ, ◌+◌, length}
+use Rattle.std.specs.Prelude.{refl, List, [], ◌∷◌, ◌++◌, map, true, false, ℕ, length}
 use Rattle.std.proofs.Math.Option.{Option, none, some}
 use Rattle.base_cells.specs.Numbers.{le, le_of, le_bytes}
 use Rattle.base_cells.specs.BigEndian.{bytes_be}

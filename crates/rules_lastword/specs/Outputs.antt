@@ -1,27 +1,25 @@
--- What an accepted open and a frame come to for an output: which open asks for it, and which frames are taken; and small laws of words.
-use Rattle.std.specs.Prelude.{◌≡◌, refl, List, [], ◌∷◌, Bool, true, false, cond, ◌&&◌, ◌||◌, ℕ, zero, suc, ◌+◌, ◌<◌, eqb, leb, ltb, length, get_or}
+-- What an accepted open comes to for an output: which open asks for it; and small laws of words. Which frames are taken stands in
+-- proofs/Outputs.antt.
+use Rattle.std.specs.Prelude.{◌≡◌, refl, List, [], ◌∷◌, Bool, true, false, cond, ◌&&◌, ◌||◌, ℕ, zero, suc, ◌<◌, eqb, ltb, length, get_or}
 use Rattle.std.proofs.Math.Path.{sym, subst}
-use Rattle.std.proofs.Common.{◌∙◌, ap, ap₂, arith, eq-eqb, le-leb, lt-ltb, ltb-true, ltb-false}
+use Rattle.std.proofs.Common.{◌∙◌, ap, arith, eq-eqb, ltb-true, ltb-false}
 use Rattle.std.proofs.Math.Option.{Option, none, some}
 use Rattle.std.proofs.Math.Bool.{not}
-use Rattle.std.specs.Bool.{beq}
 use Rattle.std.proofs.Math.ListN.{get_or-eq_default}
-use Rattle.base_cells.specs.Numbers.{le}
 use Rattle.rules.specs.declared.AssemblyKind.TheVariants.{Input, Output, Config}
 use Rattle.rules.specs.declared.Verdict.TheVariants.{Planned}
 use Rattle.rules.specs.declared.Stores.TheVariants.{Nothing, Into}
-use Rattle.rules.specs.Lists.{any, change_at, maybe, same, is_some}
+use Rattle.rules.specs.Lists.{any, change_at, maybe, is_some}
 use Rattle.rules_laws.specs.ListLaws
 use Rattle.rules_laws.specs.ListLaws.{by_cases, clash, and_left, and_right, eqb_true, not_true}
 use Rattle.rules.specs.State.{Setup, Shape, no_shape, shape_at, Content, no_content, State, fixeds, is_output, is_config, is_owner}
 use Rattle.rules.specs.Checks.{owns, is_at, place_of, place_or0, kind_of, ot_point, points_check, plan_of, roles_of, owner_check, stores_into, path_in, has_config, config_point, verdict}
 use Rattle.rules_laws.specs.CheckLaws
 use Rattle.rules.specs.Opening.{asked_path, verdict_of}
-use Rattle.rules.specs.Receiving.{Frame, newer, taken, changes, deliver}
+use Rattle.rules.specs.Receiving.{Frame}
 use Rattle.rules_faults.specs.RunBit.{owner_of}
 use Rattle.rules_steps.specs.Names.{AssemblyKind, ConnectionPath, ForwardOpen, Conn, Plan}
-use Rattle.rules_lastword.specs.Words.{Contact, is_for, in_order, is_news, asks_for, fits, says_run, data_in, counts}
-use Rattle.rules_lastword.specs.Knows.{Ear, newer_is, news_is}
+use Rattle.rules_lastword.specs.Words.{Contact, asks_for, says_run}
 
 -- ---- PLACES
 pub at_place : (is : AssemblyKind → Bool) (u : Setup) (m j : ℕ) → place_of is u m ≡ some j → (is (shape_at u j).kind ≡ true) × ((shape_at u j).instance ≡ m)
@@ -31,6 +29,11 @@ at_place is u m j e =
     subst (λ x. is_some x ≡ true → is_at is m (get_or u.assemblies (place_or0 x) no_shape) ≡ true) e (CheckLaws.place_is (is_at is m) u.assemblies no_shape) refl in
     let x = shape_at u j in
     (and_left (is x.kind) (eqb x.instance m) a, eqb_true x.instance m (and_right (is x.kind) (eqb x.instance m) a))
+
+pub output_there : (u : Setup) (i : ℕ) → is_output (shape_at u i).kind ≡ true → i < length u.assemblies
+output_there u i out =
+    by_cases (ltb i (length u.assemblies)) (λ y. ltb-true i (length u.assemblies) y)
+    (λ n. clash (is_output (shape_at u i).kind) out (ap (λ (a : Shape). is_output a.kind) (get_or-eq_default u.assemblies no_shape (ltb-false i (length u.assemblies) n))))
 
 -- ---- AN OPEN
 kind_owner : (u : Setup) (point : ℕ) → is_owner (kind_of u point) ≡ not (eqb point u.input_only) && not (eqb point u.listen_only)
@@ -101,74 +104,6 @@ module _ (u : Setup) (n i : ℕ) (there : place_of is_output u n ≡ some i) whe
         config = λ j k. (at_place is_config u (config_point a) j (stores_at (eqb a.datalen 0) (has_config a) (place_of is_config u (config_point a)) j k)).0;
       })
 
--- ---- A FRAME
-core : (l r s : Bool) → (s ≡ true → l ≡ true) → l && r && s ≡ r && s
-core true r s k = refl
-core false true true k = clash true refl (sym (k refl))
-core false true false k = refl
-core false false s k = refl
-
-shuffle : (n o l r t s : Bool) → o ≡ true → t ≡ true → (s ≡ true → l ≡ true) → n && (o && l) && r && (t && s) ≡ n && r && s
-shuffle false o l r t s a b k = refl
-shuffle true o l r t s a b k = rw (a, b) (core l r s k)
-
-pub output_there : (u : Setup) (i : ℕ) → is_output (shape_at u i).kind ≡ true → i < length u.assemblies
-output_there u i out =
-    by_cases (ltb i (length u.assemblies)) (λ y. ltb-true i (length u.assemblies) y)
-    (λ n. clash (is_output (shape_at u i).kind) out (ap (λ (a : Shape). is_output a.kind) (get_or-eq_default u.assemblies no_shape (ltb-false i (length u.assemblies) n))))
-
-six_has_two : (n size : ℕ) → eqb n (size + 6) ≡ true → leb 2 n ≡ true
-six_has_two n size e = let k = eqb_true n (size + 6) e in le-leb 2 n (omega (arith, k))
-
-taken_at : (u : Setup) (f : Frame) (c : Conn) (m : Contact) → Ear m c → is_output (shape_at u c.fixed.output).kind ≡ true → is_owner c.fixed.kind ≡ true →
-    taken u f c ≡ in_order m.last f && is_news m.cip f && fits (shape_at u c.fixed.output).size f
-unfolding taken
-taken_at u f c m ear out o =
-    let repeated = not (c.heard.anycip && eqb c.heard.cip (le 2 f.payload 0)) in
-    let size = (shape_at u c.fixed.output).size in
-    shuffle (newer c.heard f.sequence) (is_owner c.fixed.kind) (leb 2 (length f.payload)) repeated (ltb c.fixed.output (length u.assemblies))
-    (fits size f) o (lt-ltb c.fixed.output (length u.assemblies) (output_there u c.fixed.output out)) (six_has_two (length f.payload) size) ∙
-    ap₂ (λ a b. a && b && fits size f) (newer_is m f c ear) (news_is m f c ear o)
-
--- an owner's frame is taken exactly where it counts
-pub taken_is : (u : Setup) (i from : ℕ) (f : Frame) (c : Conn) (m : Contact) → is_output (shape_at u i).kind ≡ true → Ear m c → owner_of i c ≡ true → is_for from f m ≡ true →
-    taken u f c ≡ counts (shape_at u i).size from f m
-taken_is u i from f c m out ear y z =
-    let o = and_left (is_owner c.fixed.kind) (eqb c.fixed.output i) y in
-    let k = eqb_true c.fixed.output i (and_right (is_owner c.fixed.kind) (eqb c.fixed.output i) y) in
-    let a = subst (λ j. is_output (shape_at u j).kind ≡ true → taken u f c ≡ in_order m.last f && is_news m.cip f && fits (shape_at u j).size f) k
-    (λ v. taken_at u f c m ear v o) out in
-    a ∙ sym (ap (λ b. b && in_order m.last f && is_news m.cip f && fits (shape_at u i).size f) z)
-
--- what a taken frame leaves is what it says
-same_is : (xs ys : List ℕ) → same xs ys ≡ true → xs ≡ ys
-same_is [] [] e = refl
-same_is [] (y ∷ ys) e = clash true refl (sym e)
-same_is (x ∷ xs) [] e = clash true refl (sym e)
-same_is (x ∷ xs) (y ∷ ys) e = ap₂ ◌∷◌ (eqb_true x y (and_left (eqb x y) (same xs ys) e)) (same_is xs ys (and_right (eqb x y) (same xs ys) e))
-
-beq_is : (a b : Bool) → beq a b ≡ true → a ≡ b
-beq_is true true e = refl
-beq_is true false e = clash true refl (sym e)
-beq_is false true e = clash true refl (sym e)
-beq_is false false e = refl
-
-not_false_is : (b : Bool) → not b ≡ false → b ≡ true
-not_false_is true e = refl
-not_false_is false e = sym e
-
-unchanged : (f : Frame) (a : Content) → changes f a ≡ false → (a.run ≡ says_run f) × (a.bytes ≡ data_in f)
-unfolding changes
-unchanged f a e =
-    let b = not_false_is (same a.bytes (data_in f) && beq a.run (says_run f)) e in (
-      beq_is a.run (says_run f) (and_right (same a.bytes (data_in f)) (beq a.run (says_run f)) b),
-      same_is a.bytes (data_in f) (and_left (same a.bytes (data_in f)) (beq a.run (says_run f)) b),
-    )
-
-pub as_said : (f : Frame) (a : Content) → ((deliver f a).run ≡ says_run f) × ((deliver f a).bytes ≡ data_in f)
-unfolding deliver
-as_said f a = by_cases (changes f a) (λ y. rw y (refl, refl)) (λ n. rw n (unchanged f a n))
-
 -- ---- lists
 pub change_there : (i : ℕ) (f : Content → Content) (l : List Content) → i < length l → get_or (change_at i f l) i no_content ≡ f (get_or l i no_content)
 change_there i f [] h = absurd (omega (arith, h))
@@ -197,10 +132,6 @@ opened_present x m true true e = refl
 opened_present x m true false e = e
 opened_present x m false true e = refl
 opened_present x m false false e = e
-
-pub not_taken : (size from : ℕ) (f : Frame) (o : Option Contact) → maybe false (is_for from f) o ≡ false → maybe false (counts size from f) o ≡ false
-not_taken size from f none h = refl
-not_taken size from f (some m) h = ap (λ b. b && in_order m.last f && is_news m.cip f && fits size f) h
 
 pub in_run_is : (o : Option Contact) (b : Bool) → is_some o && b ≡ maybe false (λ m. b) o
 in_run_is none b = refl
