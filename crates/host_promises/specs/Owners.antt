@@ -21,7 +21,8 @@ use Rattle.state_rules.specs.Bits.{run_in}
 use Rattle.state_rules.specs.Image.{view, tested, contents_of}
 use Rattle.state_image.specs.Fits.{few_assemblies, length_assemblies, is_sound}
 use Rattle.state_image.specs.TestLaws.{assemblies_in}
-use Rattle.rules_faults.specs.RunBit.{owner_of, Owned, run_has_owner, run_is_heard}
+use Rattle.rules_faults.specs.RunBit.{owner_of, Owned}
+use Rattle.rules_faults.proofs.RunBit.{run_has_owner, run_is_heard}
 use Rattle.host_runs.specs.CallContracts.{Said, Met, Told}
 use Rattle.host_runs.specs.HostCalls.{HostCall, contract_of, CCall}
 use Rattle.host_runs.specs.Steps.{agrees}

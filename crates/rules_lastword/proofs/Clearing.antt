@@ -22,7 +22,8 @@ use Rattle.rules.specs.Calls
 use Rattle.rules.specs.Calls.{Call, answer, next, run}
 use Rattle.rules_isolation.specs.Survive.{triad_is_refl}
 use Rattle.rules_steps.specs.Names.{Triad}
-use Rattle.rules_steps.specs.Steps.{log, news, learnt, history, history_next, run_next, run_follows}
+use Rattle.rules_steps.specs.Steps.{log, news, learnt, history, history_next, run_next}
+use Rattle.rules_steps.proofs.Steps.{run_follows}
 use Rattle.rules_lastword.specs.Words.{Contact, is_news, speaks, noted, silent, Word, counts, fits, says_run, takes, asks_for, word_of, no_word, in_run, opens, early}
 use Rattle.rules_lastword.specs.Knows.{or_yes}
 use Rattle.rules_lastword.specs.LastWord.{accepted, word}

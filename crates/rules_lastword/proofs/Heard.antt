@@ -19,7 +19,8 @@ use Rattle.rules.specs.Calls.{Call, run}
 use Rattle.rules_isolation.specs.Survive.{triad_of, triad_is_true, triad_is_refl}
 use Rattle.rules_isolation.specs.Sound.{accepted}
 use Rattle.rules_steps.specs.Names.{Triad, ForwardOpen, Origin, Conn, Plan}
-use Rattle.rules_steps.specs.Steps.{log, history, both, both_history, Follows, run_follows, acceptance}
+use Rattle.rules_steps.specs.Steps.{log, history, both, both_history, Follows, acceptance}
+use Rattle.rules_steps.proofs.Steps.{run_follows}
 use Rattle.rules_lastword.specs.Words.{Contact, contact_of, opens, early}
 use Rattle.rules_lastword.specs.Ids.{Ground, fresh_ground, next_is_new, fewer_early}
 use Rattle.rules_lastword.proofs.Ids.{ground_follows}

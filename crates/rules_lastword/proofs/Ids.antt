@@ -19,7 +19,8 @@ use Rattle.rules.specs.Host.{next_event_effect}
 use Rattle.rules_isolation.specs.Ends.{all_removal}
 use Rattle.rules_isolation.specs.Seen.{hear_fixed, send_fixed}
 use Rattle.rules_steps.specs.Names.{ForwardOpen, Origin, Fixed, Plan, Stream}
-use Rattle.rules_steps.specs.Steps.{Removing, Follows, expiry_keeps}
+use Rattle.rules_steps.specs.Steps.{Removing, Follows}
+use Rattle.rules_steps.proofs.Steps.{expiry_keeps}
 use Rattle.rules_isolation.specs.Sound.{sound_kept, fixed_map, fixed_change}
 use Rattle.rules_lastword.specs.Words.{opens, few}
 use Rattle.rules_lastword.specs.Ids.{along, Numbered, Ground, fewer_early}

@@ -18,7 +18,7 @@ use Rattle.rules_isolation.specs.Apart.{Apart, apart_change}
 use Rattle.rules_isolation.specs.Seen.{hear_fixed}
 use Rattle.rules_faults.specs.RunBit.{none_silent}
 use Rattle.rules_steps.specs.Names.{ForwardOpen, Fixed, Conn}
-use Rattle.rules_steps.specs.Steps.{expiry_keeps}
+use Rattle.rules_steps.proofs.Steps.{expiry_keeps}
 use Rattle.rules_lastword.specs.Words.{Contact, is_for, in_order, is_news, speaks, noted, silent, contact_of}
 use Rattle.rules_lastword.specs.Knows.{or_yes, optional, Ear, Known, same_id, passes, crowds, Ears, Knows, sole, knows_removing}
 

@@ -33,7 +33,8 @@ use Rattle.rules_isolation.specs.Seen.{hear_fixed, send_fixed, taken_owner, inpu
 use Rattle.rules_isolation.specs.Expiry.{owns_not}
 use Rattle.rules_faults.specs.RunBit.{owner_of, at_change}
 use Rattle.rules_steps.specs.Names.{Triad, ForwardOpen, Origin, Stores, Fixed, Conn, Plan}
-use Rattle.rules_steps.specs.Steps.{log, both, both_history, Removing, Follows, run_follows, expiry_keeps, acceptance}
+use Rattle.rules_steps.specs.Steps.{log, both, both_history, Removing, Follows, acceptance}
+use Rattle.rules_steps.proofs.Steps.{run_follows, expiry_keeps}
 use Rattle.rules_lastword.specs.Words.{Contact, met, is_for, counts, Word, asks_for, says_run, data_in, takes, word_of, no_word, holds, opens, early, contact_of}
 use Rattle.rules_lastword.specs.Ids.{Ground, fresh_ground, next_is_new, fewer_early}
 use Rattle.rules_lastword.proofs.Ids.{ground_follows}
