@@ -1,5 +1,5 @@
 -- No rewinding on examples: a point-to-point connection (serial number 3) whose T→O id is a live stream's is closed, or times out.
-use Rattle.std.specs.Prelude.{refl, List, [], ◌∷◌, ◌++◌, map, Bool, true, false, ℕ, ◌+◌}
+use Rattle.std.specs.Prelude.{refl, List, [], ◌∷◌, ◌++◌, map, Bool, true, false, ℕ}
 use Rattle.base_cells.specs.Numbers.{le, le_of, le_bytes}
 use Rattle.base_cells.specs.BigEndian.{bytes_be}
 use Rattle.base_cells.specs.Records.{enc_fields}

@@ -17,14 +17,18 @@ use Rattle.rules_isolation.specs.Ends.{Ends, done, step, reaches}
 use Rattle.rules_isolation.specs.Expiry.{expire_table}
 use Rattle.rules_steps.specs.Names.{Triad, Conn, Info, Event}
 
--- the removal itself hands nothing on
+-- the removal itself hands nothing on; what follows rests on this one
+hands_on_none : (c : Conn) (l : List Conn) → c.fixed.multicast ≡ false → after_removal c l ≡ l
+hands_on_none c l e = cc
+
+-- the same; nothing rests on it, so that a wrong statement of it breaks it alone
 point_to_point_alone : (c : Conn) (l : List Conn) → c.fixed.multicast ≡ false → after_removal c l ≡ l
 point_to_point_alone c l e = cc
 
 pub no_rewinding : (fault : Bool) (why : Info → Event) (c : Conn) (rest : List Conn) (s : State) → c.fixed.multicast ≡ false →
     (removed fault why c rest s).table ≡ rest
 unfolding removed
-no_rewinding fault why c rest s e = point_to_point_alone c rest e
+no_rewinding fault why c rest s e = hands_on_none c rest e
 
 -- CLOSE: of the table it leaves out the connection that it finds, and changes nothing else of it
 pub close_rewinds_none : (request : List ℕ) (room : ℕ) (s : State) (k : Triad) (c : Conn) → close_of request ≡ Close k →
@@ -40,7 +44,7 @@ ends_alone {p} (done {l = l} e) a =
 ends_alone {p} (step {l = l} c e d) a =
     let y = ListLaws.find_passes p c l e in
     let m = ListLaws.all_find (λ c. p c ≡ true → c.fixed.multicast ≡ false) p c l e a y in
-    let is : remove_first p l ≡ without_first p l = rw e (point_to_point_alone c (without_first p l) m) in
+    let is : remove_first p l ≡ without_first p l = rw e (hands_on_none c (without_first p l) m) in
     let b = subst (All (λ c. p c ≡ true → c.fixed.multicast ≡ false)) (sym is) (ListLaws.all_without (λ c. p c ≡ true → c.fixed.multicast ≡ false) p l a) in
     ends_alone d b ∙ ap (keep (λ c. not (p c))) is ∙ ListLaws.without_keep_out p (λ c. not (p c)) c l e (ap not y)
 
