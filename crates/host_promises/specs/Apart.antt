@@ -18,7 +18,8 @@ use Rattle.app_starting.specs.Calls.{setup_fresh}
 use Rattle.host_runs.specs.CallContracts.{Said, Answers}
 use Rattle.host_runs.specs.HostCalls.{HostCall, contract_of, call_of}
 use Rattle.host_promises.specs.Rows.{conns, conns_view}
-use Rattle.host_promises.specs.Pairs.{Pair, end, both, first_only, second_only, SameGoing, NotOwned, firsts, seconds, paired, step, both_run, premise, unowned}
+use Rattle.host_promises.specs.Pairs.{Pair, end, both, first_only, second_only, SameGoing, NotOwned, firsts, seconds, paired}
+use Rattle.host_promises.proofs.Pairs.{step, both_run, premise, unowned}
 
 -- ---- the answers that are equal
 

@@ -44,9 +44,12 @@ use Rattle.app_starting.specs.Calls.{set_up}
 use Rattle.adapter.specs.Origins.{origin_of}
 use Rattle.host_runs.specs.CallContracts.{Said, Met}
 use Rattle.host_runs.specs.HostCalls.{HostCall, contract_of, call_of, CCall}
-use Rattle.host_runs.specs.Runs.{Turn, Ran, none, one, held, run_is_ruled}
+use Rattle.host_runs.specs.Runs.{Turn, Ran, none, one, held}
+use Rattle.host_runs.proofs.Runs.{run_is_ruled}
 use Rattle.host_promises.specs.Owners.{Owner, run_read}
-use Rattle.host_promises.specs.Lane.{last_word, said_by, few_calls, Gives, output_is_the_last_word, run_byte_was_heard}
+use Rattle.host_promises.specs.Lane.{last_word, said_by, few_calls, Gives}
+use Rattle.host_promises.proofs.Lane.{output_is_the_last_word}
+use Rattle.host_promises.proofs.Heard.{run_byte_was_heard}
 
 -- ---- the setup: output 150 of 2 bytes, input 101 of 1, configuration 5 of 2; no EDS
 

@@ -22,10 +22,12 @@ use Rattle.rules_lastword.proofs.Clearing.{in_run_was_heard}
 use Rattle.app_starting.specs.Block.{setup_given, setup_call}
 use Rattle.host_runs.specs.CallContracts.{Said, Met, Told}
 use Rattle.host_runs.specs.HostCalls.{HostCall, contract_of, call_of, CCall, contract}
-use Rattle.host_runs.specs.Steps.{agrees}
-use Rattle.host_runs.specs.Runs.{Turn, Ran, none, one, run_is_ruled}
+use Rattle.host_runs.proofs.Steps.{agrees}
+use Rattle.host_runs.specs.Runs.{Turn, Ran, none, one}
+use Rattle.host_runs.proofs.Runs.{run_is_ruled}
 use Rattle.host_promises.specs.Owners.{late_refused}
-use Rattle.host_promises.specs.Logs.{calls_of, ruled, log_of, anew, OneSetup, Looks, history_same, run_same}
+use Rattle.host_promises.specs.Logs.{calls_of, ruled, log_of, anew, OneSetup, Looks}
+use Rattle.host_promises.proofs.Logs.{history_same, run_same}
 
 -- ---- what the calls made and the answers given tell
 

@@ -25,7 +25,7 @@ use Rattle.adapter.specs.Origins.{origin_of}
 use Rattle.host_runs.specs.CallContracts.{Said, Answers}
 use Rattle.host_runs.specs.HostCalls.{HostCall, contract_of, call_of, CCall, contract, next_c, answer_c}
 use Rattle.host_runs.specs.Runs.{Turn, run_c, Answered}
-use Rattle.host_promises.specs.Refusals.{low_zero}
+use Rattle.host_promises.proofs.Refusals.{low_zero}
 
 -- a yes has the low byte 0: then what stands in the output; else a no
 abbrev pub seen : Said → Answer

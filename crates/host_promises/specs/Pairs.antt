@@ -14,7 +14,8 @@ use Rattle.rules_isolation.specs.Demand
 use Rattle.rules_isolation.specs.Demand.{Paired, removes, RemovesAlike, SameExpiries, owned_by, NeverOwned}
 use Rattle.host_runs.specs.CallContracts.{Said, Met}
 use Rattle.host_runs.specs.HostCalls.{HostCall, contract_of, call_of, CCall}
-use Rattle.host_runs.specs.Steps.{Agrees, agrees}
+use Rattle.host_runs.specs.Steps.{Agrees}
+use Rattle.host_runs.proofs.Steps.{agrees}
 use Rattle.host_promises.specs.Rows.{conns, conns_view}
 
 -- the bytes found by the first run and by the second, and those left by both

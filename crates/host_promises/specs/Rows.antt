@@ -12,7 +12,8 @@ use Rattle.state_image.specs.Fits.{is_long, few_events, few_conns}
 use Rattle.rules.specs.declared.Conn.{Conn}
 use Rattle.rules_faults.specs.Streams.{AllFed}
 use Rattle.rules_faults.proofs.Streams.{streams_are_fed}
-use Rattle.host_runs.specs.Runs.{Held, held_passes, held_reached}
+use Rattle.host_runs.specs.Runs.{Held}
+use Rattle.host_runs.proofs.Held.{held_passes, held_reached}
 
 -- the connection in a row, and those in use
 abbrev pub row_of : List ℕ → ℕ → Conn

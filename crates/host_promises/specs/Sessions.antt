@@ -14,8 +14,10 @@ use Rattle.msg_answering.specs.Lifted.{lifted_message}
 use Rattle.msg_answering.specs.Accepted.{zeros_pass, message_accepted, message_bytes}
 use Rattle.host_runs.specs.CallContracts.{Said, Met}
 use Rattle.host_runs.specs.HostCalls.{HostCall, contract_of, CCall}
-use Rattle.host_runs.specs.Steps.{same_next, suits, agrees}
-use Rattle.host_runs.specs.Runs.{Held, held_passes}
+use Rattle.host_runs.specs.Steps.{same_next, suits}
+use Rattle.host_runs.proofs.Steps.{agrees}
+use Rattle.host_runs.specs.Runs.{Held}
+use Rattle.host_runs.proofs.Held.{held_passes}
 
 -- the state's bytes and the session's position, at first and at last: calls of others, their messages too, and its own messages. No setup
 -- comes between: it would begin anew. That the state is made of bytes is so of whatever is lent

@@ -12,7 +12,7 @@ use Rattle.app_starting.specs.Block.{setup_given, accepted, setup_call}
 use Rattle.app_starting.specs.Calls.{setup_fresh}
 use Rattle.host_runs.specs.CallContracts.{Said, Met, Answers}
 use Rattle.host_runs.specs.HostCalls.{call_of, CCall, contract, next_c, answer_c}
-use Rattle.host_runs.specs.Steps.{agrees}
+use Rattle.host_runs.proofs.Steps.{agrees}
 
 -- a call, and what it answered
 abbrev pub Turn : Type 0

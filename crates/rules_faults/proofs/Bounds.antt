@@ -19,7 +19,8 @@ use Rattle.rules.specs.Producing.{sends, produce_effect}
 use Rattle.rules.specs.Host.{next_event_effect}
 use Rattle.rules.specs.Calls.{Call, run}
 use Rattle.rules_steps.specs.Names.{ForwardOpen, Origin, Conn, Info, Event, Plan}
-use Rattle.rules_steps.specs.Steps.{Kept, run_kept}
+use Rattle.rules_steps.specs.Steps.{Kept}
+use Rattle.rules_steps.proofs.Steps.{run_kept}
 use Rattle.rules_isolation.specs.Ends.{length_removal}
 use Rattle.rules_faults.specs.Bounds.{Bounded}
 

@@ -23,7 +23,8 @@ use Rattle.rules_isolation.specs.Seen.{hear_fixed, send_fixed, taken_owner}
 use Rattle.rules_isolation.specs.Expiry.{owns_not}
 use Rattle.rules_isolation.specs.Sound.{Sound, sound_kept, fresh_sound, Owning}
 use Rattle.rules_steps.specs.Names.{ForwardOpen, Origin, Stores, Fixed, Conn, Info, Event, Plan}
-use Rattle.rules_steps.specs.Steps.{Kept, kept, run_kept}
+use Rattle.rules_steps.specs.Steps.{Kept}
+use Rattle.rules_steps.proofs.Steps.{kept, run_kept}
 use Rattle.rules_faults.specs.RunBit.{owner_of, InRun, Owned, at_change, none_silent}
 
 idle_there : (i : ℕ) (l : List Content) → (get_or (change_at i idle l) i no_content).run ≡ false

@@ -23,7 +23,8 @@ use Rattle.rules.specs.Calls.{Call, run}
 use Rattle.rules_isolation.specs.Ends.{all_removal, to_id_is, in_stream_is}
 use Rattle.rules_isolation.specs.Seen.{hear_fixed, send_fixed}
 use Rattle.rules_steps.specs.Names.{ToId, Socket, ForwardOpen, Origin, Fixed, Due, Conn, Info, Event, Stream, Plan}
-use Rattle.rules_steps.specs.Steps.{Kept, run_kept}
+use Rattle.rules_steps.specs.Steps.{Kept}
+use Rattle.rules_steps.proofs.Steps.{run_kept}
 use Rattle.rules_faults.specs.Streams.{source, Fed, AllFed}
 
 -- a connection is in one stream only
