@@ -24,8 +24,9 @@ use Rattle.state_image.specs.TestLaws.{assemblies_in}
 use Rattle.rules_faults.specs.RunBit.{owner_of, Owned, run_has_owner, run_is_heard}
 use Rattle.host_runs.specs.CallContracts.{Said, Met, Told}
 use Rattle.host_runs.specs.HostCalls.{HostCall, contract_of, CCall}
-use Rattle.host_runs.specs.Steps.{agrees}
-use Rattle.host_runs.specs.Runs.{Held, held_passes, held_reached}
+use Rattle.host_runs.proofs.Steps.{agrees}
+use Rattle.host_runs.specs.Runs.{Held}
+use Rattle.host_runs.proofs.Held.{held_passes, held_reached}
 use Rattle.host_promises.specs.Rows.{row_of, conns_view, row_found}
 
 pub held_owned : {s : List ℕ} → Held s → Owned (view s)
