@@ -1,7 +1,7 @@
 -- The rows of the table in the bytes that a host holds: never more than 32, never more than 1,024 events; and every stream is fed.
-use Rattle.std.specs.Prelude.{ℕ, suc, ◌*◌, ◌≤◌, ◌<◌, Bool, true, List, [], ◌∷◌, ◌≡◌, refl, length, get_or}
+use Rattle.std.specs.Prelude.{ℕ, suc, ◌≤◌, ◌<◌, Bool, true, List, [], ◌∷◌, ◌≡◌, refl, length, get_or}
 use Rattle.std.proofs.Common.{sym, subst, arith}
-use Rattle.base_tables.specs.Tables.{rows, row_at_lem, length_rows}
+use Rattle.base_tables.specs.Tables.{row_at_lem, length_rows}
 use Rattle.rules.specs.Lists.{any}
 use Rattle.rules_laws.specs.ListLaws.{by_cases}
 use Rattle.rules.specs.State.{State}
@@ -10,8 +10,7 @@ use Rattle.state_rules.specs.Rows.{dec_conn, conn_at, conns_in}
 use Rattle.state_rules.specs.Image.{view}
 use Rattle.state_image.specs.Fits.{is_long, few_events, few_conns}
 use Rattle.rules.specs.declared.Conn.{Conn}
-use Rattle.rules_faults.specs.Streams.{AllFed}
-use Rattle.rules_faults.proofs.Streams.{streams_are_fed}
+use Rattle.rules_faults.specs.Streams.{AllFed, streams_are_fed}
 use Rattle.host_runs.specs.Runs.{Held}
 use Rattle.host_runs.proofs.Held.{held_passes, held_reached}
 
