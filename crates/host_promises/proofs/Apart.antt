@@ -9,7 +9,8 @@ use Rattle.rules.specs.Setup.{fresh}
 use Rattle.rules.specs.Calls
 use Rattle.rules.specs.Calls.{Call, answer, next, run}
 use Rattle.state_rules.specs.Image.{view, tested}
-use Rattle.rules_isolation.specs.Demand.{SameExpiries, AnsweredAlike, AllAnsweredAlike, NeverOwned, other, demand_3, inputs_equal}
+use Rattle.rules_isolation.specs.Demand.{SameExpiries, AnsweredAlike, AllAnsweredAlike, NeverOwned, other}
+use Rattle.rules_isolation.proofs.Demand.{demand_3, inputs_equal}
 use Rattle.app_starting.specs.Block.{setup_given, setup_call}
 use Rattle.app_starting.specs.Calls.{setup_fresh}
 use Rattle.host_runs.specs.CallContracts.{Answers}

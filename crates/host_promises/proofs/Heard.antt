@@ -13,8 +13,9 @@ use Rattle.rules.specs.Calls.{Call, answer, next, run}
 use Rattle.state_rules.specs.Image.{view, tested}
 use Rattle.rules_steps.specs.Steps.{log, Expiring, Nothing, learnt, history, history_next, run_next}
 use Rattle.rules_lastword.specs.Words.{word_of, no_word, in_run, opens, early}
-use Rattle.rules_lastword.specs.LastWord.{lane_obeys}
-use Rattle.rules_lastword.specs.Clearing.{HeardLately, in_run_was_heard}
+use Rattle.rules_lastword.proofs.LastWord.{lane_obeys}
+use Rattle.rules_lastword.specs.Clearing.{HeardLately}
+use Rattle.rules_lastword.proofs.Clearing.{in_run_was_heard}
 use Rattle.app_starting.specs.Block.{setup_given, setup_call}
 use Rattle.host_runs.specs.CallContracts.{Said, Met}
 use Rattle.host_runs.specs.HostCalls.{HostCall, contract_of, call_of, CCall}

@@ -11,7 +11,7 @@ use Rattle.rules.specs.Calls.{Call, answer, run}
 use Rattle.state_rules.specs.Image.{view}
 use Rattle.rules_steps.specs.Steps.{log, News, Opening, Closing, Hearing, Expiring, Nothing, news, learnt, history}
 use Rattle.rules_lastword.specs.Words.{Word, word_of, no_word, opens, early}
-use Rattle.rules_lastword.specs.LastWord.{host_reads_the_word}
+use Rattle.rules_lastword.proofs.LastWord.{host_reads_the_word}
 use Rattle.app_starting.specs.Block.{setup_given, setup_call}
 use Rattle.host_runs.specs.CallContracts.{Said, Met, Told}
 use Rattle.host_runs.specs.HostCalls.{HostCall, contract_of, CCall}

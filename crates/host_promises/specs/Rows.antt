@@ -10,7 +10,8 @@ use Rattle.state_rules.specs.Rows.{dec_conn, conn_at, conns_in}
 use Rattle.state_rules.specs.Image.{view}
 use Rattle.state_image.specs.Fits.{is_long, few_events, few_conns}
 use Rattle.rules.specs.declared.Conn.{Conn}
-use Rattle.rules_faults.specs.Streams.{AllFed, streams_are_fed}
+use Rattle.rules_faults.specs.Streams.{AllFed}
+use Rattle.rules_faults.proofs.Streams.{streams_are_fed}
 use Rattle.host_runs.specs.Runs.{Held}
 use Rattle.host_runs.proofs.Held.{held_passes, held_reached}
 
