@@ -38,7 +38,7 @@ module _ (st : State) (local mask service : ℕ) (a : FirstAttribute) (bytes : L
       g ∙ ap (λ (z : Outcome × Upload). stepped z out) (sym e)
 
   pub object_is : (object v : Object) → object ≡ v → x ≡ stepped (of_object st local mask service a bytes up v) out → x ≡ stepped (of_object st local mask service a bytes up object) out
-  object_is object v e g = g ∙ ap (λ (o : Object). stepped (of_object st local mask service a bytes up o) out) (sym e)
+  object_is _ v e g = g ∙ ap (λ (o : Object). stepped (of_object st local mask service a bytes up o) out) (sym e)
 
 -- the data of a message, as they are lent
 pub data_lent : (m : List ℕ) (start : ℕ) → take (length m - start) (drop start m) ≡ drop start m
