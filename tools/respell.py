@@ -1,7 +1,8 @@
 #!/usr/bin/env python3
 """Respells the repository's own definitions and lemmas: words in snake case, so that one style stands in every file.
 
-usage: respell.py [--list]     at the top of the repository; --list prints the pairs and changes nothing
+usage: respell.py            at the top of the repository: respells the files of crates/ in place
+       respell.py --list     prints the pairs, old and new, and changes nothing
 
 Own names are those that a file of specs/ or of proofs/ (not a proof of one function) declares: definitions, lemmas, fields of
 records and constructors. A name's humps and dashes become underscores; a name that begins with a capital is a type's, in camel
@@ -145,6 +146,13 @@ def turned(source, table, rust, goals):
 
 
 def main(argv):
+    if argv and argv != ["--list"]:
+        asked = argv[0] in ("-h", "--help")
+        print(__doc__, file=sys.stdout if asked else sys.stderr)
+        return 0 if asked else 2
+    if not os.path.isdir("crates"):
+        print("respell.py: no folder crates here: run it at the top of the repository", file=sys.stderr)
+        return 2
     crates = set(os.listdir("crates"))
     paths = list(files())
     table, own = pairs(paths, crates)
