@@ -3,7 +3,7 @@ ghost use Rattle.std.specs.Prelude.{◌≡◌};
 ghost use Rattle.rules.specs.Removal.{close_call, expire_call};
 ghost use Rattle.state_image.specs.Lift.{lifted, lifted_out};
 
-use wire_rules::CloseAnswer;
+use app_answers::answers;
 
 // Closes a connection. Yes: 10 reply bytes. No: 1, 4, 9, 8.
 pub fn threshtide_close(state: &mut [u8], request: &[u8], out: &mut [u8]) -> u64
@@ -13,8 +13,8 @@ pub fn threshtide_close(state: &mut [u8], request: &[u8], out: &mut [u8]) -> u64
         return 1;
     }
     match wire_opens::decode_close(request) {
-        CloseAnswer::NoClose => 4,
-        CloseAnswer::Close(t) => conn_ending::close(state, t, out),
+        None => 4,
+        Some(t) => answers::number(conn_ending::close(state, t, out)),
     }
 }
 

@@ -5,6 +5,8 @@ ghost use Rattle.rules.specs.Receiving.{receive_call};
 ghost use Rattle.rules.specs.Producing.{produce_call};
 ghost use Rattle.state_image.specs.Lift.{lifted, lifted_out, lifted_read};
 
+use app_answers::answers;
+
 // The time when a packet is due or a connection lives no longer, 8 bytes. No: 1, 9, 8.
 pub fn threshtide_next_deadline(state: &[u8], out: &mut [u8]) -> u64
     ensures { (result, out.new) ≡ lifted_read deadline_answer state.now out.old }
@@ -12,7 +14,7 @@ pub fn threshtide_next_deadline(state: &[u8], out: &mut [u8]) -> u64
     if !state_image::test_state(state) {
         return 1;
     }
-    io_deadlines::next_deadline(state, out)
+    answers::number(io_deadlines::next_deadline(state, out))
 }
 
 // A frame from an address; one of no use is ignored. No: 1, 3.
@@ -39,5 +41,5 @@ pub fn threshtide_produce(state: &mut [u8], time: u64, out: &mut [u8]) -> u64
     if time > 9223372036854775807 {
         return 3;
     }
-    io_producing::produce(state, time, out)
+    answers::number(io_producing::produce(state, time, out))
 }

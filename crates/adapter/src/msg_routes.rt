@@ -7,12 +7,12 @@ ghost use Rattle.msg_routing.specs.Answered.{answered};
 pub fn threshtide_path(path: &[u8], out: &mut [u8]) -> u64
     ensures { (result, out.new) ≡ answered (path_answer path.now) out.old }
 {
-    msg_routing::tell_path(path, out)
+    app_answers::answers::number(msg_routing::tell_path(path, out))
 }
 
 // What an explicit message asks, a record of 20 bytes. No: 4, 8.
 pub fn threshtide_request(message: &[u8], out: &mut [u8]) -> u64
     ensures { (result, out.new) ≡ answered (request_answer message.now) out.old }
 {
-    msg_routing::tell_request(message, out)
+    app_answers::answers::number(msg_routing::tell_request(message, out))
 }

@@ -7,7 +7,6 @@ ghost use Rattle.adapter.specs.Origins.{origin_of};
 
 use open_answering::asking;
 use rules::{Origin, Socket};
-use wire_rules::OpenAnswer;
 
 // Opens a connection. Yes: 26 reply bytes; multicast in bits 8 to 15, port in 16 to 31, address in 32 to 63. No: 1, 3, 4, 5, 8.
 pub fn threshtide_open(
@@ -32,18 +31,16 @@ pub fn threshtide_open(
     if time > 9223372036854775807 {
         return 3;
     }
-    let socket = Socket { address, port };
     let g = Origin {
         peer,
         local,
         mask,
-        given,
-        socket,
+        socket: given.then_some(Socket { address, port }),
         ioport,
     };
     match open_refusing::request_of(service, request) {
-        OpenAnswer::NoOpen => 4,
-        OpenAnswer::Open(o) => asking::open_request(state, time, o, request, g, out),
+        None => 4,
+        Some(o) => asking::open_request(state, time, o, request, g, out),
     }
 }
 
@@ -51,5 +48,5 @@ pub fn threshtide_open(
 pub fn threshtide_open_refusal(service: u8, request: &[u8], out: &mut [u8]) -> u64
     ensures { (result, out.new) ≡ answered (refusal_answer service request.now) out.old }
 {
-    open_refusing::refusal(service, request, out)
+    app_answers::answers::number(open_refusing::refusal(service, request, out))
 }

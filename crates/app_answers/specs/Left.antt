@@ -1,6 +1,5 @@
 -- The state test accepts what each of these calls leaves.
-use Rattle.std.specs.Prelude.{ℕ, ◌+◌, ◌-◌, ◌≤◌, Bool, true, false, cond, List, ◌++◌, ◌≡◌, refl, leb, length, replicate}
-use Rattle.std.proofs.Math.Option.{Option, none, some}
+use Rattle.std.specs.Prelude.{ℕ, ◌+◌, ◌-◌, ◌≤◌, Bool, true, false, cond, List, ◌++◌, ◌≡◌, refl, leb, length, replicate, Option, Some, None}
 use Rattle.std.proofs.Common.{ap, sym, ◌∙◌, subst, arith, length-append, leb-true}
 use Rattle.std.proofs.lemmas.List.{length-replicate}
 use Rattle.std.proofs.Math.ListN.{length-drop}
@@ -39,8 +38,8 @@ module _ (l : List ℕ) (t : tested l ≡ true) where
       subst (λ (z : List Content). Suits (with_contents z (view l)) l) (sym (change_at_place u no_content (view l).contents i)) (suits_content (view l) l w i (u (content_at (view l) i)) e)
 
   filled_suits : (bytes : List ℕ) (o : Option ℕ) → Suits (settled (set_input_at (view l).setup bytes o) (input_set bytes (view l) o) (view l)).1 l
-  filled_suits bytes none = w
-  filled_suits bytes (some i) =
+  filled_suits bytes None = w
+  filled_suits bytes (Some i) =
       let n : ℕ = (shape_at (view l).setup i).size in
       by_cases (leb (length bytes) n)
       (λ e. let h : length bytes ≤ n = leb-true (length bytes) n e in
@@ -58,8 +57,8 @@ module _ (l : List ℕ) (t : tested l ≡ true) where
   input_tested n bytes = lifted_tested (set_input_call n bytes) l t (input_suits n bytes)
 
   read_suits : (o : Option ℕ) → Suits (output_read (view l) o) l
-  read_suits none = w
-  read_suits (some i) = changed_suits i read refl
+  read_suits None = w
+  read_suits (Some i) = changed_suits i read refl
 
   pub output_suits : (n room : ℕ) → Suits (output_call n room (view l)).1 l
   unfolding output_call output_effect

@@ -6,12 +6,14 @@ use Rattle.std.proofs.Math.Seq.{sets}
 use Rattle.std.proofs.lemmas.Bool.{lt-leb}
 use Rattle.base_cells.specs.Back.{Bytes}
 use Rattle.rules.specs.State.{State}
-use Rattle.rules.specs.Answers.{Answer, Done, Wrote, Refused, No, NoRoom, no_number, answer_number, answer_bytes, fitting}
+use Rattle.rules.specs.Answers.{Answer, Done, Wrote, Refused, no_number, answer_number, answer_bytes, fitting}
 use Rattle.state_rules.specs.Image.{view, store, tested}
 use Rattle.state_image.specs.ViewLaws.{store_view}
 use Rattle.state_image.specs.Holds.{ready_tested, slotted_tested}
 use Rattle.app_answers.specs.Outcomes.{Passed}
 use Rattle.state_image.specs.Lift.{lifted, lifted_out, lifted_read, lifted_passes, out_done, read_done}
+use Rattle.rules.specs.declared.No.{No}
+use Rattle.rules.specs.declared.No.TheVariants.{NoRoom}
 
 pub passed_tested : (s : List ℕ) → tested s ≡ true → Passed s
 passed_tested s t = record { test = t; ready = ready_tested s t; slotted = slotted_tested s t }

@@ -4,12 +4,13 @@ use Rattle.std.proofs.Common.{sym, ◌∙◌, arith}
 use Rattle.std.proofs.Math.Seq.{sets}
 use Rattle.base_cells.specs.Numbers.{put, le_bytes}
 use Rattle.base_cells.specs.Records.{enc_fields, put_fields_eq, puts, done, step}
-use Rattle.rules.specs.Answers.{Wrote, NoRoom}
+use Rattle.rules.specs.Answers.{Wrote}
 use Rattle.rules.specs.Host.{stats_bytes, stats_answer}
 use Rattle.state_rules.specs.Places.{produced_of, late_of, max_late_of}
 use Rattle.state_rules.specs.Image.{view, tested}
 use Rattle.state_image.specs.Lift.{lifted_read}
 use Rattle.app_answers.specs.Ways.{fits_in, fits_not, read_wrote, read_no}
+use Rattle.rules.specs.declared.No.TheVariants.{NoRoom}
 
 -- three numbers of 8 bytes, one behind the other
 length_three : (a b c : ℕ) → length (le_bytes 8 a ++ le_bytes 8 b ++ le_bytes 8 c) ≡ 24

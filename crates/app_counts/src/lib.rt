@@ -4,20 +4,21 @@
 ghost use Rattle.std.specs.Prelude.{◌≡◌};
 ghost use Rattle.rules.specs.Host.{stats_answer};
 ghost use Rattle.state_image.specs.Lift.{lifted_read};
-ghost use Rattle.app_answers.specs.Outcomes.{outcome_number, Passed};
+ghost use Rattle.rules.specs.Answers.{outcome_number};
+ghost use Rattle.app_answers.specs.Outcomes.{Passed};
 
-use app_answers::answers::Outcome;
+use rules::No;
 
 // Packets produced, those of them that were late, and the greatest lateness.
-pub fn stats(s: &[u8], out: &mut [u8]) -> Outcome
+pub fn stats(s: &[u8], out: &mut [u8]) -> Result<u16, No>
     requires { Passed s.now }
     ensures { (outcome_number result, out.new) ≡ lifted_read stats_answer s.now out.old }
 {
     if out.len() < 24 {
-        return Outcome::NoRoom;
+        return Err(No::NoRoom);
     }
     base_cells::put_u64(out, 0, base_cells::u64_at(s, state_layout::PRODUCED));
     base_cells::put_u64(out, 8, base_cells::u64_at(s, state_layout::LATE));
     base_cells::put_u64(out, 16, base_cells::u64_at(s, state_layout::MAX_LATE));
-    Outcome::Wrote(24)
+    Ok(24)
 }

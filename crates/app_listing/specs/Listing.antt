@@ -5,13 +5,13 @@ use Rattle.std.proofs.Math.Path.{refl, ap}
 use Rattle.std.proofs.Common.{ap₂, sym, ◌∙◌, arith, add-one, length-append, take-suc, take_all, length-take-le}
 use Rattle.std.proofs.Math.Seq.{sets}
 use borrow.Rule.Slice.PartMut.{put_mid}
-use Rattle.base_cells.specs.Numbers.{le, sets_append, lent}
-use Rattle.base_tables.specs.Tables.{rows, length_rows, row_at_lem}
+use Rattle.base_cells.specs.Numbers.{sets_append, lent}
+use Rattle.base_tables.specs.Tables.{length_rows, row_at_lem}
 use Rattle.rules.specs.Lists.{joined}
 use Rattle.rules.specs.State.{Setup}
 use Rattle.rules.specs.declared.Conn.{Conn}
 use Rattle.rules.specs.declared.Fixed.{Fixed}
-use Rattle.rules.specs.Answers.{Wrote, NoRoom}
+use Rattle.rules.specs.Answers.{Wrote}
 use Rattle.rules.specs.Events.{info_of, info_record}
 use Rattle.rules.specs.Host.{connection_bytes, connections_answer}
 use Rattle.state_rules.specs.Places.{setup_in, table_in, row_size, connections_of}
@@ -23,6 +23,7 @@ use Rattle.state_image.specs.Lift.{lifted_read}
 use Rattle.state_records.specs.Fields.{length_info}
 use Rattle.state_records.specs.Shapes.{info_in}
 use Rattle.app_answers.specs.Ways.{fits_in, fits_not, read_wrote, read_no}
+use Rattle.rules.specs.declared.No.TheVariants.{NoRoom}
 
 -- a connection's record
 unfoldable pub record_of : Setup → Conn → List ℕ

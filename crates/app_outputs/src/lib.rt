@@ -1,51 +1,68 @@
 // Outputs, and any assembly's data, handed to the application.
 #![tactic(auto)]
 
-ghost use Rattle.std.specs.Prelude.{◌≡◌, ◌<◌};
+ghost use Rattle.std.specs.Prelude.{◌≡◌, ◌≢◌, ◌<◌, MatchOption};
+ghost use Rattle.rules.specs.declared.AssemblyKind.{AssemblyKind};
 ghost use Rattle.rules.specs.Host.{output_call, assembly_answer};
 ghost use Rattle.state_rules.specs.Places.{assemblies_of};
 ghost use Rattle.state_image.specs.Lift.{lifted_out, lifted_read};
-ghost use Rattle.app_answers.specs.Outcomes.{outcome_number, Passed};
+ghost use Rattle.rules.specs.Answers.{outcome_number};
+ghost use Rattle.state_places.specs.Kinds.{number_of};
+ghost use Rattle.app_answers.specs.Outcomes.{Passed};
 ghost use Rattle.app_answers.specs.Places.{assembly_read_at, output_read_at};
 
-use app_answers::answers::Outcome;
-use state_layout::Found;
+use rules::{AssemblyKind, No};
 
 // The data of the assembly at that place.
-fn copy_assembly(s: &[u8], i: usize, out: &mut [u8]) -> Outcome
+fn copy_assembly(s: &[u8], i: usize, out: &mut [u8]) -> Result<u16, No>
     requires { Passed s.now × (i < assemblies_of s.now) }
     ensures { (outcome_number result, out.new) ≡ lifted_read (assembly_read_at i) s.now out.old }
 {
     let n = state_layout::size_at(s, i) as usize;
     if out.len() < n {
-        return Outcome::NoRoom;
+        return Err(No::NoRoom);
     }
     let a = state_layout::DATA + i * state_layout::SLOT;
     let e = a + n;
     base_copies::copy_in(out, 0, &s[a..e]);
-    Outcome::Wrote(n as u16)
+    Ok(n as u16)
 }
 
-// An assembly's data; kinds are 1 input, 2 output, 3 configuration.
-pub fn assembly(s: &[u8], kind: u8, instance: u32, out: &mut [u8]) -> Outcome
-    requires { Passed s.now }
-    ensures { (outcome_number result, out.new) ≡ lifted_read (assembly_answer kind instance) s.now out.old }
+// The kind that a number of the host's names.
+fn kind_of(number: u8) -> Option<AssemblyKind>
+    ensures { MatchOption result ((k : AssemblyKind) → number_of k ≢ number) (λ k. number_of k ≡ number) }
 {
-    let f = state_places::find(&s[0..state_layout::SETUP_SIZE], kind, instance);
-    match f {
-        Found::Nowhere => Outcome::NoAssembly,
-        Found::At(i) => copy_assembly(s, i, out),
+    match number {
+        1 => Some(AssemblyKind::Input),
+        2 => Some(AssemblyKind::Output),
+        3 => Some(AssemblyKind::Config),
+        _ => None,
     }
 }
 
+// An assembly's data; kinds are 1 input, 2 output, 3 configuration.
+pub fn assembly(s: &[u8], kind: u8, instance: u32, out: &mut [u8]) -> Result<u16, No>
+    requires { Passed s.now }
+    ensures { (outcome_number result, out.new) ≡ lifted_read (assembly_answer kind instance) s.now out.old }
+{
+    let Some(asked) = kind_of(kind) else {
+        return Err(No::NoAssembly);
+    };
+    let setup = &s[0..state_layout::SETUP_SIZE];
+    let Some(i) = state_places::find(setup, asked, instance) else {
+        return Err(No::NoAssembly);
+    };
+    copy_assembly(s, i, out)
+}
+
 // Run byte and data of the output at that place; its next change is told again.
-fn take_output(s: &mut [u8], i: usize, out: &mut [u8]) -> Outcome
+fn take_output(s: &mut [u8], i: usize, out: &mut [u8]) -> Result<u16, No>
     requires { Passed s.old × (i < assemblies_of s.old) }
     ensures { (outcome_number result, (s.new, out.new)) ≡ lifted_out (output_read_at i) s.old out.old }
 {
     let n = state_layout::size_at(s, i) as usize;
     if out.len() <= n {
-        return Outcome::NoRoom;
+        return Err(No::NoRoom);
     }
     let run = state_layout::runs(s, i);
     let a = state_layout::DATA + i * state_layout::SLOT;
@@ -53,16 +70,16 @@ fn take_output(s: &mut [u8], i: usize, out: &mut [u8]) -> Outcome
     base_cells::put_u8(out, 0, run as u8);
     base_copies::copy_in(out, 1, &s[a..e]);
     state_changes::put_mark(s, i, run, false);
-    Outcome::Wrote((n + 1) as u16)
+    Ok((n + 1) as u16)
 }
 
-pub fn output(s: &mut [u8], instance: u32, out: &mut [u8]) -> Outcome
+pub fn output(s: &mut [u8], instance: u32, out: &mut [u8]) -> Result<u16, No>
     requires { Passed s.old }
     ensures { (outcome_number result, (s.new, out.new)) ≡ lifted_out (output_call instance) s.old out.old }
 {
-    let f = state_places::find(&s[0..state_layout::SETUP_SIZE], 2, instance);
-    match f {
-        Found::Nowhere => Outcome::NoAssembly,
-        Found::At(i) => take_output(s, i, out),
-    }
+    let setup = &s[0..state_layout::SETUP_SIZE];
+    let Some(i) = state_places::find(setup, AssemblyKind::Output, instance) else {
+        return Err(No::NoAssembly);
+    };
+    take_output(s, i, out)
 }

@@ -12,7 +12,7 @@ use Rattle.base_cells.specs.Records.{to_bool}
 use Rattle.base_cells.specs.Back.{Bytes}
 use Rattle.base_tables.specs.Ring.{ring_of}
 use Rattle.rules.specs.State.{State}
-use Rattle.rules.specs.Answers.{Answer, Wrote, Refused, NoRoom, NothingThere, settled}
+use Rattle.rules.specs.Answers.{Answer, Wrote, Refused, settled}
 use Rattle.rules.specs.Events.{oldest_gone}
 use Rattle.rules.specs.Host.{event_at, next_event_answer, next_event_effect, next_event_call}
 use Rattle.state_rules.specs.Places.{ring_in, events_at, events_size, ring_at, first_of, waiting_of, fault_of}
@@ -23,6 +23,7 @@ use Rattle.state_image.specs.Kept.{byte_of}
 use Rattle.state_image.specs.Taken.{taken_stored}
 use Rattle.state_image.specs.Lift.{lifted_out}
 use Rattle.app_answers.specs.Ways.{fits_in, fits_not, out_wrote, out_no}
+use Rattle.rules.specs.declared.No.TheVariants.{NoRoom, NothingThere}
 
 -- a part of a part of a buffer
 pub part_of : (n k a m : ℕ) (l : List ℕ) → k + n ≤ m → take n (drop k (take m (drop a l))) ≡ take n (drop (a + k) l)

@@ -4,21 +4,22 @@
 ghost use Rattle.std.specs.Prelude.{◌≡◌};
 ghost use Rattle.rules.specs.Host.{next_event_call};
 ghost use Rattle.state_image.specs.Lift.{lifted_out};
-ghost use Rattle.app_answers.specs.Outcomes.{outcome_number, Passed};
+ghost use Rattle.rules.specs.Answers.{outcome_number};
+ghost use Rattle.app_answers.specs.Outcomes.{Passed};
 
-use app_answers::answers::Outcome;
+use rules::No;
 
 // The oldest event's record, which leaves the list.
-pub fn next_event(s: &mut [u8], out: &mut [u8]) -> Outcome
+pub fn next_event(s: &mut [u8], out: &mut [u8]) -> Result<u16, No>
     requires { Passed s.old }
     ensures { (outcome_number result, (s.new, out.new)) ≡ lifted_out next_event_call s.old out.old }
 {
     let n = state_layout::events_waiting(s);
     if n < 1 {
-        return Outcome::NothingThere;
+        return Err(No::NothingThere);
     }
     if out.len() < 32 {
-        return Outcome::NoRoom;
+        return Err(No::NoRoom);
     }
     let first = state_layout::first_slot(s);
     let fault = state_layout::faulty(s);
@@ -30,5 +31,5 @@ pub fn next_event(s: &mut [u8], out: &mut [u8]) -> Outcome
         state_layout::RING,
         (n - 1) * 2048 + (first + 1) % 1024 * 2 + fault as u32,
     );
-    Outcome::Wrote(32)
+    Ok(32)
 }

@@ -7,10 +7,11 @@ use Rattle.base_cells.specs.Pick.{pick}
 use Rattle.base_tables.specs.Tables.{rows}
 use Rattle.base_tables.specs.Regions.{joined}
 use Rattle.rules.specs.State.{Shape, Setup}
-use Rattle.rules.specs.Answers.{Done, Refused, BadSetup, answer_number}
+use Rattle.rules.specs.Answers.{Done, Refused, answer_number}
 use Rattle.rules.specs.Setup.{within, setup_ok, first_id}
 use Rattle.state_rules.specs.Places.{w_head, instances_at, sizes_at, kinds_at, table_size, events_size, data_size, state_size, assemblies_of}
 use Rattle.state_rules.specs.Setups.{kind_named, setup_with}
+use Rattle.rules.specs.declared.No.TheVariants.{BadSetup}
 
 -- ---- the block's assemblies: from 110 on 5 bytes each, instance 2 at 0, size 2 at 2, kind 1 at 4
 

@@ -1,8 +1,7 @@
 -- What an accepted block says, test by test.
-use Rattle.std.specs.Prelude.{ℕ, ◌+◌, ◌-◌, ◌≤◌, ◌<◌, Bool, true, false, ◌&&◌, ◌||◌, ◌≡◌, refl, eqb, leb, length, take, drop}
+use Rattle.std.specs.Prelude.{ℕ, ◌+◌, ◌-◌, ◌≤◌, ◌<◌, Bool, true, false, ◌&&◌, ◌||◌, ◌≡◌, refl, eqb, leb, length, take, drop, Some, None}
 use Rattle.std.proofs.Math.Bool.{cond, not}
 use mathlib.Core.List.{List, ◌++◌, map}
-use Rattle.std.proofs.Math.Option.{none, some}
 use Rattle.std.proofs.Math.Path.{ap}
 use Rattle.std.proofs.Common.{sym, ◌∙◌, arith, length-drop, length-take-le, take_at, take_all}
 use borrow.Author.Tests.{eqb-true, leb-true, leb-false, ne_eqb}
@@ -64,16 +63,16 @@ module _ (block eds : List ℕ) (long : length block ≡ 192) where
   pub some_mark : eqb (le 4 block 4) 0 ≡ false → le 4 (marked_block block eds) 4 ≡ length eds + 1
   some_mark e = mark_of ∙ ap (λ (b : Bool). cond b 0 (length eds + 1)) e
 
-  pub no_eds : eqb (le 4 block 4) 0 ≡ true → (setup_given block eds).eds ≡ none
+  pub no_eds : eqb (le 4 block 4) 0 ≡ true → (setup_given block eds).eds ≡ None
   unfolding setup_given
   no_eds e = ap (λ (m : ℕ). eds_of m eds) (no_mark e)
 
-  pub some_eds : eqb (le 4 block 4) 0 ≡ false → (setup_given block eds).eds ≡ some eds
+  pub some_eds : eqb (le 4 block 4) 0 ≡ false → (setup_given block eds).eds ≡ Some eds
   unfolding setup_given
   some_eds e =
       ap (λ (m : ℕ). eds_of m eds) (some_mark e)
-      ∙ ap (λ (b : Bool). cond b none (some (take (length eds + 1 - 1) eds))) (ne_eqb (length eds + 1) 0 (λ q. omega arith))
-      ∙ ap some (take_all (length eds + 1 - 1) eds (omega arith))
+      ∙ ap (λ (b : Bool). cond b None (Some (take (length eds + 1 - 1) eds))) (ne_eqb (length eds + 1) 0 (λ q. omega arith))
+      ∙ ap Some (take_all (length eds + 1 - 1) eds (omega arith))
 
 module _ (block eds : List ℕ) (ok : accepted block eds ≡ true) where
   abbrev r : List ℕ
@@ -173,6 +172,6 @@ module _ (block eds : List ℕ) (ok : accepted block eds ≡ true) where
       (λ e. let m = some_mark block eds long_block e in
       let k : length eds ≡ length eds + 1 - 1 = omega arith in
       ap (λ (n : ℕ). eds_of n (eds ++ z)) m
-      ∙ ap (λ (x : List ℕ). cond (eqb (length eds + 1) 0) none (some x))
+      ∙ ap (λ (x : List ℕ). cond (eqb (length eds + 1) 0) None (Some x))
       (take_at eds z (length eds + 1 - 1) k ∙ sym (take_all (length eds + 1 - 1) eds (omega arith)))
       ∙ sym (ap (λ (n : ℕ). eds_of n eds) m))

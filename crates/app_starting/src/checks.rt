@@ -9,10 +9,7 @@ use crate::shapes::{once_each, shapes_given};
 fn eds_fits(flag: u32, n: usize) -> bool
     ensures { result ≡ eds_fits flag n }
 {
-    if flag == 0 {
-        return n == 0;
-    }
-    n <= 65535
+    if flag == 0 { n == 0 } else { n <= 65535 }
 }
 
 pub fn accept(block: &[u8], eds: &[u8]) -> bool

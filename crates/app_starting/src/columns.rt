@@ -20,9 +20,7 @@ pub fn put_shapes(s: &mut [u8], block: &[u8], n: usize)
     requires { (setup_size ≤ length s.old) × (setup_size ≤ length block.now) × (n ≤ 16) }
     ensures { s.new ≡ spread block.now n s.old }
 {
-    let mut i = 0;
-    while i < n {
+    for i in 0..n {
         put_shape(s, block, i);
-        i += 1;
     }
 }

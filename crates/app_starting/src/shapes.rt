@@ -44,12 +44,10 @@ pub fn shapes_given(r: &[u8], n: usize) -> bool
     requires { (n ≤ 16) × (setup_size ≤ length r.now) }
     ensures { result ≡ all (rows 5 shape_given n (drop shapes_at r.now)) }
 {
-    let mut i = 0;
-    while i < n {
+    for i in 0..n {
         if !shape_given(r, i) {
             return false;
         }
-        i += 1;
     }
     true
 }
@@ -59,12 +57,10 @@ fn again(r: &[u8], x: u16, j: usize, n: usize) -> bool
     requires { (n ≤ 16) × (setup_size ≤ length r.now) }
     ensures { result ≡ any (eqb x) (drop j (instances_in n r.now)) }
 {
-    let mut i = j;
-    while i < n {
+    for i in j..n {
         if x == instance_at(r, i) {
             return true;
         }
-        i += 1;
     }
     false
 }
@@ -73,12 +69,10 @@ pub fn once_each(r: &[u8], n: usize) -> bool
     requires { (n ≤ 16) × (setup_size ≤ length r.now) }
     ensures { result ≡ distinct (instances_in n r.now) }
 {
-    let mut i = 0;
-    while i < n {
+    for i in 0..n {
         if again(r, instance_at(r, i), i + 1, n) {
             return false;
         }
-        i += 1;
     }
     true
 }

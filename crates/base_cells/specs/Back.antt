@@ -1,5 +1,5 @@
 -- What was read is put back: bytes below 256 are the bytes of the numbers that they stand for.
-use Rattle.std.specs.Prelude.{ℕ, zero, suc, ◌+◌, ◌-◌, ◌≤◌, ◌<◌, Bool, true, false, List, [], ◌∷◌, ◌++◌, ◌≡◌, refl, T, length, take, drop, get_or}
+use Rattle.std.specs.Prelude.{ℕ, zero, suc, ◌+◌, ◌≤◌, ◌<◌, Bool, true, false, List, [], ◌∷◌, ◌++◌, ◌≡◌, refl, T, length, take, drop, get_or}
 use Rattle.std.proofs.Common.{ap, ap₂, sym, ◌∙◌, arith, drop-cons, drop-drop, take-add, get_or-drop}
 use Rattle.base_cells.specs.Numbers.{le, le_bytes, le_suc, le_1}
 use Rattle.base_cells.specs.Records.{sum, enc_fields, dec_fields, Wide, of_bool, to_bool}

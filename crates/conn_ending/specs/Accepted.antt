@@ -1,14 +1,13 @@
 -- The state test accepts what close and expire leave.
-use Rattle.std.specs.Prelude.{ℕ, zero, suc, ◌≤◌, Bool, cond, not, ◌&&◌, ◌≡◌, length, get_or}
+use Rattle.std.specs.Prelude.{ℕ, zero, suc, ◌≤◌, Bool, cond, not, ◌&&◌, ◌≡◌, length, get_or, Option, Some, None}
 use Rattle.std.proofs.Math.Bool.{true, false}
 use mathlib.Core.List.{List, [], ◌∷◌}
-use Rattle.std.proofs.Math.Option.{Option, none, some}
 use Rattle.std.proofs.Math.Path.{refl, subst}
-use Rattle.std.proofs.Common.{ap, sym, ◌∙◌, arith}
+use Rattle.std.proofs.Common.{ap, sym, arith}
 use Rattle.base_tables.specs.Tables.{without}
-use Rattle.rules.specs.Lists.{find, place, keep, change_first, change_at, repeat}
+use Rattle.rules.specs.Lists.{place, keep, change_first, change_at, repeat}
 use Rattle.rules_laws.specs.ListLaws.{either_way, length_keep, length_change}
-use Rattle.rules.specs.State.{Content, State, no_content, content_at, with_contents, with_table, with_events, with_fault, with_sent, is_owner, produces}
+use Rattle.rules.specs.State.{Content, State, no_content, content_at, with_contents, with_table, with_events, with_sent, is_owner, produces}
 use Rattle.rules.specs.Events.{info_of, info_record, event_record, appended, pushed, pushed_all}
 use Rattle.rules.specs.Removal.{in_stream, idle, closed_events, conn_triad, expired, closed, close_by, close_answer, close_effect, close_call, expired_first, expire_effect, expire_answer, expire_call}
 use Rattle.rules_laws.specs.RemovalLaws.{removed_if}
@@ -20,8 +19,6 @@ use Rattle.rules.specs.declared.Kind.{Kind}
 use Rattle.rules.specs.declared.Sent.{Sent}
 use Rattle.base_ids.specs.declared.ToId.{ToId}
 use Rattle.base_ids.specs.declared.Triad.{Triad}
-use Rattle.wire_rules.specs.declared.CloseAnswer.{CloseAnswer}
-use Rattle.wire_rules.specs.declared.CloseAnswer.TheVariants.{Close, NoClose}
 use Rattle.wire_rules.specs.Opens.{close_of}
 use Rattle.state_rules.specs.Image.{view, store, tested}
 use Rattle.state_image.specs.RowsFit.{RowsFit, fits_change, fits_keep}
@@ -31,7 +28,7 @@ use Rattle.state_image.specs.ViewLaws.{suits_view}
 use Rattle.state_image.specs.Passes.{tested_store}
 use Rattle.state_image.specs.Kept.{suits_table, suits_removed, suits_content, suits_fault}
 use Rattle.state_image.specs.Changes.{suits_pushed}
-use Rattle.state_searches.specs.Searches.{find_at, change_at_place}
+use Rattle.state_searches.specs.Searches.{change_at_place}
 use Rattle.state_records.specs.Fields.{length_info}
 use Rattle.conn_lookup.specs.RowTests.{place_none}
 use Rattle.state_events.specs.Pushes.{told}
@@ -88,16 +85,16 @@ module _ (l : List ℕ) where
   suits_closed t st w = go (place (conn_triad t) st.table) refl
     where
       go : (o : Option ℕ) → place (conn_triad t) st.table ≡ o → Suits (closed t st) l
-      go none e = subst (λ (z : State). Suits z l) (ap (removed_if false Closed (conn_triad t) st) (sym (place_none (conn_triad t) st.table e))) w
-      go (some i) e = subst (λ (z : State). Suits z l) (closed_is t st i e) (suits_gone 2 i st w)
+      go None e = subst (λ (z : State). Suits z l) (ap (removed_if false Closed (conn_triad t) st) (sym (place_none (conn_triad t) st.table e))) w
+      go (Some i) e = subst (λ (z : State). Suits z l) (closed_is t st i e) (suits_gone 2 i st w)
 
   suits_first : (t : ℕ) (st : State) → Suits st l → Suits (expired_first t st) l
   unfolding expired_first
   suits_first t st w = go (place (expired t) st.table) refl
     where
       go : (o : Option ℕ) → place (expired t) st.table ≡ o → Suits (expired_first t st) l
-      go none e = subst (λ (z : State). Suits z l) (ap (removed_if true TimedOut (expired t) st) (sym (place_none (expired t) st.table e))) w
-      go (some i) e = subst (λ (z : State). Suits z l) (expired_is t st i e) (suits_fault (gone_at 3 i st) l (suits_gone 3 i st w) true)
+      go None e = subst (λ (z : State). Suits z l) (ap (removed_if true TimedOut (expired t) st) (sym (place_none (expired t) st.table e))) w
+      go (Some i) e = subst (λ (z : State). Suits z l) (expired_is t st i e) (suits_fault (gone_at 3 i st) l (suits_gone 3 i st w) true)
 
   suits_repeat : (n t : ℕ) (st : State) → Suits st l → Suits (repeat n (expired_first t) st) l
   suits_repeat zero t st w = w
@@ -111,9 +108,9 @@ module _ (l : List ℕ) where
     close_suits request room =
         either_way (λ (z : State). Suits z l) (is_yes (close_answer request room (view l))) {x = close_by (view l) (close_of request)} {y = view l} (go (close_of request)) (suits_view l ok)
       where
-        go : (q : CloseAnswer) → Suits (close_by (view l) q) l
-        go NoClose = suits_view l ok
-        go (Close t) = suits_closed t (view l) (suits_view l ok)
+        go : (q : Option Triad) → Suits (close_by (view l) q) l
+        go None = suits_view l ok
+        go (Some t) = suits_closed t (view l) (suits_view l ok)
 
     pub close_accepted : (request : List ℕ) (room : ℕ) → tested (store (close_call request room (view l)).1 l) ≡ true
     close_accepted request room = tested_store (close_call request room (view l)).1 l (close_suits request room)

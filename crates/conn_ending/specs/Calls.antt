@@ -1,29 +1,23 @@
 -- Close and expire as calls: what each way out answers, and the calls on lent bytes.
-use Prim.Native.Nat.{ℕ, ◌+◌, ◌*◌, ◌-◌, ◌≤◌, ◌<◌, ◌^◌}
-use Rattle.std.specs.Prelude.{Bool, true, false, ◌≡◌, refl, leb}
+use Prim.Native.Nat.{ℕ, ◌*◌, ◌-◌, ◌≤◌, ◌<◌, ◌^◌}
+use Rattle.std.specs.Prelude.{Bool, true, ◌≡◌, Option, Some, None}
 use Rattle.std.proofs.Math.Bool.{cond}
-use mathlib.Core.List.{List, []}
-use Rattle.std.proofs.Math.Option.{Option, none, some}
+use mathlib.Core.List.{List}
 use Rattle.std.proofs.Math.Path.{ap, sym}
 use Rattle.std.proofs.Common.{◌∙◌, le-leb}
 use native.Mathlib.Omega.{arith}
 use Rattle.std.proofs.Math.ListN.{length}
 use Rattle.std.proofs.Math.Seq.{sets}
 use Rattle.std.proofs.lemmas.Bool.{lt-leb}
-use Rattle.base_cells.specs.Numbers.{le}
 use Rattle.base_cells.specs.Back.{Bytes}
 use Rattle.base_cells.specs.Writes.{written, written_all}
-use Rattle.base_cells.specs.declared.Written.{Written}
-use Rattle.wire_rules.specs.declared.CloseAnswer.{CloseAnswer}
-use Rattle.wire_rules.specs.declared.CloseAnswer.TheVariants.{Close, NoClose}
 use Rattle.wire_rules.specs.Opens.{close_of}
 use Rattle.wire_rules.specs.Replies.{close_reply}
 use Rattle.wire_replies.specs.ReplyLaws.{close_reply_long}
-use Rattle.rules.specs.Lists.{place, any}
+use Rattle.rules.specs.Lists.{place}
 use Rattle.rules.specs.State.{State}
-use Rattle.rules.specs.Answers.{No, BadTime, NotParsed, NoRoom, NothingThere, no_number, Answer, Wrote, Gone, Refused, is_yes, answer_number, answer_bytes, fitting}
+use Rattle.rules.specs.Answers.{no_number, Answer, Wrote, Gone, Refused, is_yes, answer_number, answer_bytes, fitting}
 use Rattle.rules.specs.Removal.{conn_triad, closed, close_for, close_by, close_answer, close_effect, close_call, expire_effect, expire_answer, expire_call}
-use Rattle.rules.specs.declared.Conn.{Conn}
 use Rattle.base_ids.specs.declared.Triad.{Triad}
 use Rattle.state_rules.specs.Places.{table_in, connections_of}
 use Rattle.state_rules.specs.Rows.{conns_in}
@@ -31,12 +25,12 @@ use Rattle.state_rules.specs.Image.{view, store, tested}
 use Rattle.state_image.specs.Updates.{no_conn}
 use Rattle.state_image.specs.Holds.{Held, held_tested}
 use Rattle.state_image.specs.Lift.{lifted, lifted_out, lifted_done, lifted_kept, out_done, out_kept}
-use Rattle.state_layout.specs.declared.Found.{Found}
-use Rattle.state_layout.specs.declared.Found.TheVariants.{At, Nowhere}
-use Rattle.conn_lookup.specs.RowTests.{found_of, place_any, place_never}
+use Rattle.conn_lookup.specs.RowTests.{place_any, place_never}
 use Rattle.conn_removal.specs.Turns.{Turns, found_there, found_nowhere}
 use Rattle.conn_removal.specs.Removals.{gone_at, closed_is}
 use Rattle.conn_ending.specs.Expiry.{EndsAll}
+use Rattle.rules.specs.declared.No.{No}
+use Rattle.rules.specs.declared.No.TheVariants.{BadTime, NoRoom, NotParsed, NothingThere}
 
 -- a call's outcome over a held state: the answer's number, the state left and the answer's bytes
 pub record Settles (a : Answer) (after before : State) (r : ℕ) (s' out out' l : List ℕ) : Type 0 where
@@ -69,7 +63,7 @@ module _ (i : ℕ) (t : Triad) (s out : List ℕ) where
       settles_no (reply_for t (length out)) NoRoom (gone_at 2 i st) st s out l
       (ap (λ (b : Bool). cond b (Wrote (close_reply t)) (Refused NoRoom)) (sym (lt-leb (length (close_reply t)) (length out) (omega arith)))) o.holds.is
 
-  pub close_done : 10 ≤ length out → (s' out' : List ℕ) (x : Written) → Turns s s' (gone_at 2 i) → (x, out') ≡ written out (close_reply t) → ClosesAt i t 2560 s s' out out'
+  pub close_done : 10 ≤ length out → (s' out' : List ℕ) (x : Option ℕ) → Turns s s' (gone_at 2 i) → (x, out') ≡ written out (close_reply t) → ClosesAt i t 2560 s s' out out'
   unfolding answer_number
   close_done h s' out' x d e st l o =
       let n = close_reply_long t in
@@ -78,24 +72,24 @@ module _ (i : ℕ) (t : Triad) (s out : List ℕ) where
       record {
         number = ap (λ (k : ℕ). 2 ^ 8 * k) (sym n) ∙ ap answer_number a;
         state = (d st l o).holds.is ∙ ap (λ (z : Answer). store (cond (is_yes z) (gone_at 2 i st) st) l) a;
-        bytes = ap (λ (z : Written × List ℕ). z.1) (e ∙ written_all out (close_reply t) (omega arith)) ∙ ap (λ (z : Answer). sets out 0 (answer_bytes z)) a;
+        bytes = ap (λ (z : Option ℕ × List ℕ). z.1) (e ∙ written_all out (close_reply t) (omega arith)) ∙ ap (λ (z : Answer). sets out 0 (answer_bytes z)) a;
       }
 
 abbrev pub ClosesFor : Triad → ℕ → List ℕ → List ℕ → List ℕ → List ℕ → Type 0
-ClosesFor t r s s' out out' = (st : State) (l : List ℕ) → Held s st l → Settles (close_for (length out) st (Close t)) (closed t st) st r s' out out' l
+ClosesFor t r s s' out out' = (st : State) (l : List ℕ) → Held s st l → Settles (close_for (length out) st (Some t)) (closed t st) st r s' out out' l
 
-module _ (t : Triad) (s out : List ℕ) (n : ℕ) (x : Found) (en : n ≡ connections_of s) (ex : x ≡ found_of (place (conn_triad t) (conns_in n (table_in s)))) where
-  pub close_nothing : x ≡ Nowhere → ClosesFor t 9 s s out out
+module _ (t : Triad) (s out : List ℕ) (n : ℕ) (x : Option ℕ) (en : n ≡ connections_of s) (ex : x ≡ place (conn_triad t) (conns_in n (table_in s))) where
+  pub close_nothing : x ≡ None → ClosesFor t 9 s s out out
   close_nothing e st l o =
-      settles_no (close_for (length out) st (Close t)) NothingThere (closed t st) st s out l
+      settles_no (close_for (length out) st (Some t)) NothingThere (closed t st) st s out l
       (ap (λ (b : Bool). cond b (reply_for t (length out)) (Refused NothingThere)) (sym (place_never (conn_triad t) st.table (found_nowhere (conn_triad t) s n x en ex e st l o))))
       o.holds.is
 
-  pub close_found : (i : ℕ) → x ≡ At i → (r : ℕ) (s' out' : List ℕ) → ClosesAt i t r s s' out out' → ClosesFor t r s s' out out'
+  pub close_found : (i : ℕ) → x ≡ Some i → (r : ℕ) (s' out' : List ℕ) → ClosesAt i t r s s' out out' → ClosesFor t r s s' out out'
   close_found i e r s' out' d st l o =
       let g = found_there (conn_triad t) s n x en ex i e st l o in
       let y = d st l o in
-      let a : reply_for t (length out) ≡ close_for (length out) st (Close t) =
+      let a : reply_for t (length out) ≡ close_for (length out) st (Some t) =
       ap (λ (b : Bool). cond b (reply_for t (length out)) (Refused NothingThere)) (sym (place_any (conn_triad t) no_conn st.table i g)) in
       record {
         number = y.number ∙ ap answer_number a;
@@ -105,20 +99,20 @@ module _ (t : Triad) (s out : List ℕ) (n : ℕ) (x : Found) (en : n ≡ connec
 
 -- the call on lent bytes
 module _ (request l out : List ℕ) (ok : tested l ≡ true) (b : Bytes l) where
-  pub close_unread : close_of request ≡ NoClose → (4, (l, out)) ≡ lifted_out (close_call request) l out
+  pub close_unread : close_of request ≡ None → (4, (l, out)) ≡ lifted_out (close_call request) l out
   unfolding close_call close_answer close_effect answer_number
   close_unread e =
       let a : Refused NotParsed ≡ close_for (length out) (view l) (close_of request) = ap (close_for (length out) (view l)) (sym e) in
       out_kept (close_call request) l out ok b 4 (ap answer_number a) (ap (λ (z : Answer). cond (is_yes z) (close_by (view l) (close_of request)) (view l)) (sym a)) (ap answer_bytes (sym a))
 
-  pub close_read : (t : Triad) → close_of request ≡ Close t → (r : ℕ) (l' out' : List ℕ) → ClosesFor t r l l' out out' → (r, (l', out')) ≡ lifted_out (close_call request) l out
+  pub close_read : (t : Triad) → close_of request ≡ Some t → (r : ℕ) (l' out' : List ℕ) → ClosesFor t r l l' out out' → (r, (l', out')) ≡ lifted_out (close_call request) l out
   unfolding close_call close_answer close_effect
   close_read t e r l' out' d =
       let y = d (view l) l (held_tested l ok b) in
-      let q : Close t ≡ close_of request = sym e in
-      out_done (close_call request) l out ok r l' out' (y.number ∙ ap (λ (z : CloseAnswer). answer_number (close_for (length out) (view l) z)) q)
-      (y.state ∙ ap (λ (z : CloseAnswer). store (cond (is_yes (close_for (length out) (view l) z)) (close_by (view l) z) (view l)) l) q)
-      (y.bytes ∙ ap (λ (z : CloseAnswer). sets out 0 (answer_bytes (close_for (length out) (view l) z))) q)
+      let q : Some t ≡ close_of request = sym e in
+      out_done (close_call request) l out ok r l' out' (y.number ∙ ap (λ (z : Option Triad). answer_number (close_for (length out) (view l) z)) q)
+      (y.state ∙ ap (λ (z : Option Triad). store (cond (is_yes (close_for (length out) (view l) z)) (close_by (view l) z) (view l)) l) q)
+      (y.bytes ∙ ap (λ (z : Option Triad). sets out 0 (answer_bytes (close_for (length out) (view l) z))) q)
 
 -- ---- expire
 

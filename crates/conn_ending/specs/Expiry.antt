@@ -1,16 +1,14 @@
 -- Expiry: the first that has expired removed, repeatedly; what is left to do gives the whole answer.
-use Rattle.std.specs.Prelude.{ℕ, zero, suc, ◌+◌, ◌-◌, ◌≤◌, ◌<◌, Bool, true, false, List, ◌≡◌, refl, length}
+use Rattle.std.specs.Prelude.{ℕ, zero, suc, ◌+◌, ◌-◌, ◌≤◌, ◌<◌, Bool, false, List, ◌≡◌, refl, length, None}
 use Rattle.std.proofs.Common.{ap, ap₂, sym, subst, ◌∙◌, arith}
 use Rattle.rules.specs.Lists.{repeat, any}
 use Rattle.rules.specs.State.{State, with_fault}
 use Rattle.rules.specs.Removal.{expired, expired_first, expire_effect}
 use Rattle.state_rules.specs.Places.{table_in, connections_of}
 use Rattle.state_rules.specs.Rows.{conns_in}
-use Rattle.state_layout.specs.declared.Found.TheVariants.{Nowhere}
-use Rattle.state_rules.specs.Image.{store}
 use Rattle.state_image.specs.Holds.{Held, Becomes, conns_held}
 use Rattle.state_image.specs.Kept.{suits_fault}
-use Rattle.conn_lookup.specs.RowTests.{found_of, never_place}
+use Rattle.conn_lookup.specs.RowTests.{never_place}
 use Rattle.conn_removal.specs.Turns.{Turns, turn}
 use Rattle.conn_removal.specs.Removals.{Ends, ends_none}
 
@@ -57,32 +55,28 @@ still : (n : ℕ) (f : State → State) (st : State) → f st ≡ st → repeat 
 still zero f st e = refl
 still (suc n) f st e = ap (repeat n f) e ∙ still n f st e
 
-module _ (t n m : ℕ) (s₀ s : List ℕ) (en : n ≡ connections_of s₀) (em : m ≡ connections_of s) where
-  all_of : (st : State) (l : List ℕ) → Held s₀ st l → (at : State) → Held s at l → at ≡ expire_effect t st → AllEnded t (n - m) s st l
-  all_of st l o at w q =
-      record {
-        count = ap₂ ◌-◌ (en ∙ conns_held s₀ st l o.holds) (em ∙ conns_held s at l w.holds ∙ ap (λ (z : State). length z.table) q);
-        held = subst (λ (z : State). Held s z l) q w;
-      }
-
-  pub rest_end : (k : ℕ) → n ≤ k → Going t n k s₀ s → EndsAll t (n - m) s₀ s
-  rest_end k p g st l o =
-      let w = g st l o in
-      let z : n - k ≡ 0 = omega arith in
-      all_of st l o w.at w.held (ap (λ (j : ℕ). repeat j (expired_first t) w.at) (sym z) ∙ w.rest)
+pub rest_end : (t n k : ℕ) (s₀ s : List ℕ) → n ≤ k → Going t n k s₀ s → Turns s₀ s (expire_effect t)
+rest_end t n k s₀ s p g st l o =
+    let w = g st l o in
+    let z : n - k ≡ 0 = omega arith in
+    subst (λ (x : State). Held s x l) (ap (λ (j : ℕ). repeat j (expired_first t) w.at) (sym z) ∙ w.rest) w.held
 
 -- nothing more has expired: the turns that are left change nothing
-pub rest_stop : (t n m k : ℕ) (r : Bool) (s₀ s s' : List ℕ) → n ≡ connections_of s₀ → m ≡ connections_of s' → Going t n k s₀ s → Ends t r s s' → r ≡ false → EndsAll t (n - m) s₀ s'
-rest_stop t n m k r s₀ s s' en em g d nn st l o =
+pub rest_stop : (t n k : ℕ) (r : Bool) (s₀ s s' : List ℕ) → Going t n k s₀ s → Ends t r s s' → r ≡ false → Turns s₀ s' (expire_effect t)
+rest_stop t n k r s₀ s s' g d nn st l o =
     let w = g st l o in
     let y = d w.at l w.held in
-    all_of t n m s₀ s' en em st l o (expired_first t w.at) y.held
-    (y.none_left nn ∙ sym (still (n - k) (expired_first t) w.at (y.none_left nn)) ∙ w.rest)
+    subst (λ (x : State). Held s' x l) (y.none_left nn ∙ sym (still (n - k) (expired_first t) w.at (y.none_left nn)) ∙ w.rest) y.held
+
+-- how many went is told by the two numbers of connections
+pub went : (t n m : ℕ) (s₀ s : List ℕ) → n ≡ connections_of s₀ → m ≡ connections_of s → Turns s₀ s (expire_effect t) → EndsAll t (n - m) s₀ s
+went t n m s₀ s en em g st l o =
+    let w = g st l o in record { count = ap₂ ◌-◌ (en ∙ conns_held s₀ st l o.holds) (em ∙ conns_held s (expire_effect t st) l w.holds); held = w }
 
 -- none has expired: nothing goes
 pub none_expired : (t n : ℕ) (s : List ℕ) → n ≡ connections_of s → any (expired t) (conns_in n (table_in s)) ≡ false → EndsAll t 0 s s
 none_expired t n s en e =
     let z : n - n ≡ 0 = omega arith in
     subst (λ (k : ℕ). EndsAll t k s s) z
-    (rest_stop t n n 0 false s s s en en (rest_start t n s en)
-    (ends_none t s n Nowhere en (sym (ap found_of (never_place (expired t) (conns_in n (table_in s)) e))) refl) refl)
+    (went t n n s s en en
+    (rest_stop t n 0 false s s s (rest_start t n s en) (ends_none t s n None en (sym (never_place (expired t) (conns_in n (table_in s)) e)) refl) refl))

@@ -2,41 +2,45 @@
 #![tactic(auto)]
 
 ghost use Rattle.std.specs.Prelude.{◌≡◌, ◌<◌};
+ghost use Rattle.rules.specs.Answers.{outcome_number};
 ghost use Rattle.state_rules.specs.Places.{connections_of};
 ghost use Rattle.state_image.specs.Holds.{Ready};
-ghost use Rattle.conn_removal.specs.Turns.{Fewer};
+ghost use Rattle.rules.specs.Removal.{expire_effect};
+ghost use Rattle.conn_removal.specs.Turns.{Turns, Fewer};
 ghost use Rattle.conn_removal.specs.Removals.{Ends};
 ghost use Rattle.conn_ending.specs.Expiry.{EndsAll};
 ghost use Rattle.conn_ending.specs.Calls.{ClosesAt, ClosesFor};
 
 use base_ids::Triad;
-use state_layout::Found;
+use rules::No;
+use state_records::Occasion;
 
 // ---- close
 
-// The connection at a place closed, and the reply at the start of the output; 8 where the reply does not fit.
-fn close_at(s: &mut [u8], i: usize, t: Triad, out: &mut [u8]) -> u64
+// The connection at a place closed, and the reply at the start of the output.
+fn close_at(s: &mut [u8], i: usize, t: Triad, out: &mut [u8]) -> Result<u16, No>
     requires { Ready s.old × (i < connections_of s.old) }
-    ensures { ClosesAt i t result s.old s.new out.old out.new }
+    ensures { ClosesAt i t (outcome_number result) s.old s.new out.old out.new }
 {
     if out.len() < 10 {
-        return 8;
+        return Err(No::NoRoom);
     }
-    conn_removal::remove_conn(s, i, 2);
+    conn_removal::remove_conn(s, i, Occasion::Closed);
     wire_replies::close_reply(out, t);
-    2560
+    Ok(10)
 }
 
-// The connection of the triad closed; 9 where there is none.
-pub fn close(s: &mut [u8], t: Triad, out: &mut [u8]) -> u64
+// The connection of the triad closed.
+pub fn close(s: &mut [u8], t: Triad, out: &mut [u8]) -> Result<u16, No>
     requires { Ready s.old }
-    ensures { ClosesFor t result s.old s.new out.old out.new }
+    ensures { ClosesFor t (outcome_number result) s.old s.new out.old out.new }
 {
     let n = base_cells::u16_at(s, state_layout::CONNECTIONS) as usize;
-    match conn_lookup::find_triad(&s[state_layout::TABLE..state_layout::EVENTS], n, t) {
-        Found::Nowhere => 9,
-        Found::At(i) => close_at(s, i, t, out),
-    }
+    let table = &s[state_layout::TABLE..state_layout::EVENTS];
+    let Some(i) = conn_lookup::find_triad(table, n, t) else {
+        return Err(No::NothingThere);
+    };
+    close_at(s, i, t, out)
 }
 
 // ---- expiry
@@ -47,29 +51,34 @@ fn expire_one(s: &mut [u8], time: u64) -> bool
     ensures { Fewer s.old s.new × Ends time result s.old s.new }
 {
     let n = base_cells::u16_at(s, state_layout::CONNECTIONS) as usize;
-    match conn_lookup::find_expired(&s[state_layout::TABLE..state_layout::EVENTS], n, time) {
-        Found::Nowhere => false,
-        Found::At(i) => {
-            conn_removal::remove_conn(s, i, 3);
-            state_changes::set_fault(s, true);
-            true
+    let table = &s[state_layout::TABLE..state_layout::EVENTS];
+    let Some(i) = conn_lookup::find_expired(table, n, time) else {
+        return false;
+    };
+    conn_removal::remove_conn(s, i, Occasion::TimedOut);
+    state_changes::set_fault(s, true);
+    true
+}
+
+// The connections that have expired removed, one after the other, of the n that there are.
+fn expire_each(s: &mut [u8], time: u64, n: u16)
+    requires { Ready s.old × (n ≡ connections_of s.old) }
+    ensures { Fewer s.old s.new × Turns s.old s.new (expire_effect time) }
+{
+    for _ in 0..n {
+        if !expire_one(s, time) {
+            return;
         }
     }
 }
 
-// The connections that have expired removed, one after the other; how many went.
+// How many went.
 fn expire_some(s: &mut [u8], time: u64) -> u16
     requires { Ready s.old }
     ensures { Fewer s.old s.new × EndsAll time result s.old s.new }
 {
     let n = base_cells::u16_at(s, state_layout::CONNECTIONS);
-    let mut k: u16 = 0;
-    while k < n {
-        if !expire_one(s, time) {
-            return n - base_cells::u16_at(s, state_layout::CONNECTIONS);
-        }
-        k += 1;
-    }
+    expire_each(s, time, n);
     n - base_cells::u16_at(s, state_layout::CONNECTIONS)
 }
 

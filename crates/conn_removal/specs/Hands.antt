@@ -1,6 +1,6 @@
 -- Hand-over, and the run bit lost: what each leaves, one law for each return.
-use Rattle.std.specs.Prelude.{ℕ, zero, suc, ◌+◌, ◌*◌, ◌≤◌, ◌<◌, Bool, true, false, cond, ◌&&◌, List, [], ◌∷◌, ◌≡◌, refl, length, get_or, set}
-use Rattle.std.proofs.Math.Option.{none}
+use Rattle.std.specs.Prelude.{ℕ, zero, suc, ◌+◌, ◌*◌, ◌≤◌, ◌<◌, Bool, true, false, cond, ◌&&◌, List, [], ◌∷◌, ◌≡◌, refl, length, get_or, set, Option, Some, None}
+use Rattle.std.specs.Option.{is_some}
 use Rattle.std.proofs.Common.{ap, sym, ◌∙◌, arith, length-set}
 use Rattle.base_cells.specs.Numbers.{le, le_8}
 use Rattle.base_cells.specs.Back.{Bytes}
@@ -21,17 +21,19 @@ use Rattle.state_image.specs.Holds.{Becomes, assemblies_held, notified_held}
 use Rattle.state_image.specs.Kept.{suits_row, suits_content}
 use Rattle.state_image.specs.Changes.{sent_as, mark_as}
 use Rattle.state_searches.specs.Searches.{change_at_lem, change_at_place}
-use Rattle.state_layout.specs.declared.Found.{Found}
-use Rattle.state_layout.specs.declared.Found.TheVariants.{At, Nowhere}
-use Rattle.conn_lookup.specs.RowTests.{found_of, place_none}
+use Rattle.conn_lookup.specs.RowTests.{place_none}
 use Rattle.conn_removal.specs.Turns.{Turns, turn, turn_as, turn_none, found_there, found_nowhere}
 
 -- ---- hand-over: the first remaining multicast connection of the id sends on
 
+pub produces_as : (d : Option ℕ) (b : Bool) → is_some d ≡ b → produces d ≡ b
+produces_as None b e = e
+produces_as (Some t) b e = e
+
 abbrev pub handed : Bool → ToId → Sent → State → State
 handed multicast id x st = with_table (cond (multicast && produces x.due) (change_first (in_stream id) (with_sent x) st.table) st.table) st
 
-change_none : {A : Type 0} (p : A → Bool) (u : A → A) (xs : List A) → find p xs ≡ none → change_first p u xs ≡ xs
+change_none : {A : Type 0} (p : A → Bool) (u : A → A) (xs : List A) → find p xs ≡ None → change_first p u xs ≡ xs
 change_none p u [] e = refl
 change_none p u (x ∷ xs) e = by_cases (p x) (λ t. absurd (let z : ◌≡◌ {A = ℕ} 0 1 = cc in omega arith)) (λ t. cc (change_none p u xs (cc)))
 
@@ -51,8 +53,8 @@ module _ (multicast : Bool) (id : ToId) (x : Sent) (s : List ℕ) where
       handing : (st : State) → with_table (change_first (in_stream id) (with_sent x) st.table) st ≡ handed multicast id x st
       handing st = λ j. with_table (cond (sym em j && sym ep j) (change_first (in_stream id) (with_sent x) st.table) st.table) st
 
-      module _ (n : ℕ) (y : Found) (en : n ≡ connections_of s) (ey : y ≡ found_of (place (in_stream id) (conns_in n (table_in s)))) where
-        pub hands_nowhere : y ≡ Nowhere → Turns s s (handed multicast id x)
+      module _ (n : ℕ) (y : Option ℕ) (en : n ≡ connections_of s) (ey : y ≡ place (in_stream id) (conns_in n (table_in s))) where
+        pub hands_nowhere : y ≡ None → Turns s s (handed multicast id x)
         hands_nowhere e =
             turn_none s (handed multicast id x)
             (λ st l o.
@@ -60,7 +62,7 @@ module _ (multicast : Bool) (id : ToId) (x : Sent) (s : List ℕ) where
             (sym (change_none (in_stream id) (with_sent x) st.table (place_none (in_stream id) st.table (found_nowhere (in_stream id) s n y en ey e st l o))))
             ∙ handing st)
 
-        pub hands_on : (j : ℕ) → y ≡ At j → (s' : List ℕ) → Becomes s s' (sent_as j x) → Turns s s' (handed multicast id x)
+        pub hands_on : (j : ℕ) → y ≡ Some j → (s' : List ℕ) → Becomes s s' (sent_as j x) → Turns s s' (handed multicast id x)
         hands_on j e s' b =
             turn_as s s' (sent_as j x) (handed multicast id x)
             (turn s s' (sent_as j x) b (λ st l w. suits_row st l w j (with_sent x (get_or st.table j no_conn)) refl)

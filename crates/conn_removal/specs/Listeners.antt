@@ -1,6 +1,5 @@
 -- A stream that nobody feeds any more: its listeners close, the first and then the rest.
-use Rattle.std.specs.Prelude.{ℕ, ◌+◌, ◌-◌, ◌<◌, Bool, true, false, cond, not, ◌&&◌, List, [], ◌∷◌, ◌≡◌, refl, eqb, get_or}
-use Rattle.std.proofs.Math.Option.{Option, none, some}
+use Rattle.std.specs.Prelude.{ℕ, ◌+◌, ◌-◌, ◌<◌, Bool, true, false, cond, not, ◌&&◌, List, [], ◌∷◌, ◌≡◌, refl, eqb, get_or, Option, Some, None}
 use Rattle.std.proofs.Common.{ap, sym, subst, ◌∙◌, arith, eq-eqb}
 use Rattle.base_cells.specs.Records.{of_bool}
 use Rattle.rules.specs.Lists.{maybe, find, place, any, keep, without_first}
@@ -19,9 +18,7 @@ use Rattle.state_image.specs.Holds.{Held, Ready}
 use Rattle.state_image.specs.Kept.{Kept}
 use Rattle.state_image.specs.Changes.{row_gone}
 use Rattle.state_searches.specs.Searches.{find_at, without_at}
-use Rattle.state_layout.specs.declared.Found.{Found}
-use Rattle.state_layout.specs.declared.Found.TheVariants.{At, Nowhere}
-use Rattle.conn_lookup.specs.RowTests.{found_of, place_any, place_none, place_never}
+use Rattle.conn_lookup.specs.RowTests.{place_any, place_none, place_never}
 use Rattle.state_events.specs.Pushes.{told}
 use Rattle.conn_removal.specs.Turns.{Turns, Fewer, turn_as, turn_none, found_in, found_there, found_nowhere, row_held}
 
@@ -43,20 +40,20 @@ all_closed id st =
 
 -- ---- lists
 
-keep_none : {A : Type 0} (p : A → Bool) (xs : List A) → find p xs ≡ none → keep p xs ≡ []
+keep_none : {A : Type 0} (p : A → Bool) (xs : List A) → find p xs ≡ None → keep p xs ≡ []
 keep_none p [] e = refl
 keep_none p (x ∷ xs) e = by_cases (p x) (λ t. absurd (let z : ◌≡◌ {A = ℕ} 0 1 = cc in omega arith)) (λ t. cc (keep_none p xs (cc)))
 
-keep_others : {A : Type 0} (p : A → Bool) (xs : List A) → find p xs ≡ none → keep (λ x. not (p x)) xs ≡ xs
+keep_others : {A : Type 0} (p : A → Bool) (xs : List A) → find p xs ≡ None → keep (λ x. not (p x)) xs ≡ xs
 keep_others p xs e = keep_all (λ x. not (p x)) xs (all_to (λ x. p x ≡ false) (λ x. not (p x) ≡ true) (λ x h. ap not h) xs (none_found p xs e))
 
-keep_first : {A : Type 0} (p : A → Bool) (c : A) (xs : List A) → find p xs ≡ some c → keep p xs ≡ c ∷ keep p (without_first p xs)
+keep_first : {A : Type 0} (p : A → Bool) (c : A) (xs : List A) → find p xs ≡ Some c → keep p xs ≡ c ∷ keep p (without_first p xs)
 keep_first p c [] e = clash true refl (cc)
-keep_first p c (x ∷ xs) e = by_cases (p x) (λ t. let f : some x ≡ some c = cc in cc) (λ t. cc (keep_first p c xs (cc)))
+keep_first p c (x ∷ xs) e = by_cases (p x) (λ t. let f : Some x ≡ Some c = cc in cc) (λ t. cc (keep_first p c xs (cc)))
 
 -- ---- all of them, by the first and the rest
 
-pub all_none : (id : ToId) (st : State) → find (in_stream id) st.table ≡ none → all_closed id st ≡ st
+pub all_none : (id : ToId) (st : State) → find (in_stream id) st.table ≡ None → all_closed id st ≡ st
 unfolding pushed_all
 all_none id st e =
     λ j.
@@ -70,7 +67,7 @@ all_none id st e =
       counters = st.counters;
     }
 
-all_found : (id : ToId) (st : State) (c : Conn) → find (in_stream id) st.table ≡ some c
+all_found : (id : ToId) (st : State) (c : Conn) → find (in_stream id) st.table ≡ Some c
     → all_closed id (told 2 c.fixed (with_table (without_first (in_stream id) st.table) st)) ≡ all_closed id st
 unfolding pushed event_record appended pushed_all
 all_found id st c e =
@@ -94,8 +91,8 @@ all_one id st = go (find (in_stream id) st.table) refl
   where
     go : (o : Option Conn) → find (in_stream id) st.table ≡ o
         → all_closed id (maybe st (λ c. told 2 c.fixed (with_table (without_first (in_stream id) st.table) st)) o) ≡ all_closed id st
-    go none e = refl
-    go (some c) e = all_found id st c e
+    go None e = refl
+    go (Some c) e = all_found id st c e
 
 -- ---- the first closed, if there is any
 
@@ -105,7 +102,7 @@ pub record Dropped (r : Bool) (s s' : List ℕ) : Type 0 where
 
 pub record ClosedOne (id : ToId) (r : Bool) (s' : List ℕ) (st : State) (l : List ℕ) : Type 0 where
   pub held : Held s' (one_closed id st) l
-  pub none_left : r ≡ false → find (in_stream id) st.table ≡ none
+  pub none_left : r ≡ false → find (in_stream id) st.table ≡ None
 
 abbrev pub Closes : ToId → Bool → List ℕ → List ℕ → Type 0
 Closes id r s s' = (st : State) (l : List ℕ) → Held s st l → ClosedOne id r s' st l
@@ -113,14 +110,14 @@ Closes id r s s' = (st : State) (l : List ℕ) → Held s st l → ClosedOne id 
 pub dropped_none : (s : List ℕ) → Ready s → Dropped false s s
 dropped_none s r = record { ready = r; count = omega arith }
 
-module _ (id : ToId) (s : List ℕ) (n : ℕ) (x : Found) (en : n ≡ connections_of s) (ex : x ≡ found_of (place (in_stream id) (conns_in n (table_in s)))) where
-  pub closes_none : x ≡ Nowhere → Closes id false s s
+module _ (id : ToId) (s : List ℕ) (n : ℕ) (x : Option ℕ) (en : n ≡ connections_of s) (ex : x ≡ place (in_stream id) (conns_in n (table_in s))) where
+  pub closes_none : x ≡ None → Closes id false s s
   closes_none e st l o =
-      let q : find (in_stream id) st.table ≡ none = place_none (in_stream id) st.table (found_nowhere (in_stream id) s n x en ex e st l o) in
+      let q : find (in_stream id) st.table ≡ None = place_none (in_stream id) st.table (found_nowhere (in_stream id) s n x en ex e st l o) in
       let w : st ≡ one_closed id st = ap (maybe st (λ c. told 2 c.fixed (with_table (without_first (in_stream id) st.table) st))) (sym q) in
       record { held = subst (λ (z : State). Held s z l) w o; none_left = λ h. q }
 
-  pub closes_one : (i : ℕ) → x ≡ At i → (f : Fixed) → f ≡ dec_fixed (row_at (table_in s) i) → (s₁ s₂ : List ℕ) → Turns s s₁ (row_gone i) → Turns s₁ s₂ (told 2 f)
+  pub closes_one : (i : ℕ) → x ≡ Some i → (f : Fixed) → f ≡ dec_fixed (row_at (table_in s) i) → (s₁ s₂ : List ℕ) → Turns s s₁ (row_gone i) → Turns s₁ s₂ (told 2 f)
       → Closes id true s s₂
   closes_one i e f ef s₁ s₂ a b st l o =
       let p : Conn → Bool = in_stream id in
@@ -135,7 +132,7 @@ module _ (id : ToId) (s : List ℕ) (n : ℕ) (x : Found) (en : n ≡ connection
         none_left = λ h. clash true refl h;
       }
 
-  pub dropped_one : (i : ℕ) → x ≡ At i → (s₁ s₂ : List ℕ) → Kept (connections_of s - 1) s s₁ → Kept (connections_of s₁) s₁ s₂ → Dropped true s s₂
+  pub dropped_one : (i : ℕ) → x ≡ Some i → (s₁ s₂ : List ℕ) → Kept (connections_of s - 1) s s₁ → Kept (connections_of s₁) s₁ s₂ → Dropped true s s₂
   dropped_one i e s₁ s₂ a b =
       let h = found_in (in_stream id) s n x en ex i e in
       let p = a.conns in let q = b.conns in
@@ -143,36 +140,26 @@ module _ (id : ToId) (s : List ℕ) (n : ℕ) (x : Found) (en : n ≡ connection
 
 -- ---- the loop: the rest gives the whole answer
 
-pub record Left (id : ToId) (go : Bool) (s : List ℕ) (st : State) (l : List ℕ) : Type 0 where
+pub record Left (id : ToId) (s : List ℕ) (st : State) (l : List ℕ) : Type 0 where
   pub at : State
   pub held : Held s at l
   pub rest : all_closed id at ≡ all_closed id st
-  pub over : go ≡ false → find (in_stream id) at.table ≡ none
 
-abbrev pub Closing : ToId → Bool → List ℕ → List ℕ → Type 0
-Closing id go s₀ s = (st : State) (l : List ℕ) → Held s₀ st l → Left id go s st l
+abbrev pub Closing : ToId → List ℕ → List ℕ → Type 0
+Closing id s₀ s = (st : State) (l : List ℕ) → Held s₀ st l → Left id s st l
 
-pub closing_start : (id : ToId) (s : List ℕ) → Closing id true s s
-closing_start id s st l o = record { at = st; held = o; rest = refl; over = λ h. clash true refl h }
+pub closing_turn : (id : ToId) (r : Bool) (s₀ s s' : List ℕ) → Closing id s₀ s → Closes id r s s' → Closing id s₀ s'
+closing_turn id r s₀ s s' g d st l o =
+    let w = g st l o in record { at = one_closed id w.at; held = (d w.at l w.held).held; rest = all_one id w.at ∙ w.rest }
 
-pub closing_turn : (id : ToId) (go r : Bool) (s₀ s s' : List ℕ) → Closing id go s₀ s → Closes id r s s' → Closing id r s₀ s'
-closing_turn id go r s₀ s s' g d st l o =
+-- the turn that found none changes nothing
+pub closing_end : (id : ToId) (r : Bool) (s₀ s s' : List ℕ) → Closing id s₀ s → Closes id r s s' → r ≡ false → Turns s₀ s' (all_closed id)
+closing_end id r s₀ s s' g d e st l o =
     let w = g st l o in
     let y = d w.at l w.held in
-    record {
-      at = one_closed id w.at;
-      held = y.held;
-      rest = all_one id w.at ∙ w.rest;
-      over = λ h. let q = y.none_left h in
-          ap (λ (z : State). find (in_stream id) z.table) (ap (maybe w.at (λ c. told 2 c.fixed (with_table (without_first (in_stream id) w.at.table) w.at))) q) ∙ q;
-    }
-
-pub closing_end : (id : ToId) (go : Bool) (s₀ s : List ℕ) → Closing id go s₀ s → go ≡ false → Turns s₀ s (all_closed id)
-closing_end id go s₀ s g e st l o =
-    let w = g st l o in subst (λ (z : State). Held s z l) (sym (all_none id w.at (w.over e)) ∙ w.rest) w.held
-
-pub closing_less : (go r : Bool) (s s' : List ℕ) → go ≡ true → Dropped r s s' → connections_of s' + of_bool r < connections_of s + of_bool go
-closing_less go r s s' e d = let q = d.count in rw e (omega arith)
+    let q = y.none_left e in
+    let same : one_closed id w.at ≡ w.at = ap (maybe w.at (λ c. told 2 c.fixed (with_table (without_first (in_stream id) w.at.table) w.at))) q in
+    subst (λ (z : State). Held s' z l) (same ∙ sym (all_none id w.at q) ∙ w.rest) y.held
 
 pub fewer_dropped : (r : Bool) (s₀ s s' : List ℕ) → Fewer s₀ s → Dropped r s s' → Fewer s₀ s'
 fewer_dropped r s₀ s s' a d = record { ready = d.ready; fewer = let p = a.fewer in let q = d.count in omega arith }
@@ -181,12 +168,6 @@ fewer_dropped r s₀ s s' a d = record { ready = d.ready; fewer = let p = a.fewe
 
 abbrev pub feeder : Kind → Bool → Bool
 feeder k multicast = multicast && not (is_listener k)
-
-pub feeder_not : (k : Kind) (multicast : Bool) → multicast ≡ false → false ≡ feeder k multicast
-feeder_not k multicast e = ap (λ (m : Bool). m && not (is_listener k)) (sym e)
-
-pub feeder_is : (k k' : Kind) (multicast : Bool) → multicast ≡ true → k ≡ k' → not (is_listener k') ≡ feeder k multicast
-feeder_is k k' multicast em ek = λ j. sym em j && not (is_listener (sym ek j))
 
 abbrev pub ends_for : Kind → Bool → ToId → List Conn → Bool
 ends_for k multicast id rest = ((multicast && eqb id.0 id.0) && not (is_listener k)) && not (any (feeds id) rest)
@@ -240,15 +221,15 @@ module _ (k : Kind) (multicast : Bool) (id : ToId) (s : List ℕ) where
       turn_none s (ended k multicast id)
       (λ st l o. ended_when k multicast id st false (ends_is st.table false (any (feeds id) st.table) (sym er ∙ e) refl))
 
-  module _ (r : Bool) (er : r ≡ feeder k multicast) (e : r ≡ true) (n : ℕ) (x : Found) (en : n ≡ connections_of s)
-      (ex : x ≡ found_of (place (feeds id) (conns_in n (table_in s)))) where
-    pub ends_fed : (i : ℕ) → x ≡ At i → Turns s s (ended k multicast id)
+  module _ (r : Bool) (er : r ≡ feeder k multicast) (e : r ≡ true) (n : ℕ) (x : Option ℕ) (en : n ≡ connections_of s)
+      (ex : x ≡ place (feeds id) (conns_in n (table_in s))) where
+    pub ends_fed : (i : ℕ) → x ≡ Some i → Turns s s (ended k multicast id)
     ends_fed i ei =
         turn_none s (ended k multicast id)
         (λ st l o. ended_when k multicast id st false
         (ends_is st.table true true (sym er ∙ e) (place_any (feeds id) no_conn st.table i (found_there (feeds id) s n x en ex i ei st l o))))
 
-    pub ends_all : x ≡ Nowhere → (s' : List ℕ) → Turns s s' (all_closed id) → Turns s s' (ended k multicast id)
+    pub ends_all : x ≡ None → (s' : List ℕ) → Turns s s' (all_closed id) → Turns s s' (ended k multicast id)
     ends_all ei s' d =
         turn_as s s' (all_closed id) (ended k multicast id) d
         (λ st l o. ended_when k multicast id st true

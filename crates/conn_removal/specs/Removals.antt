@@ -1,7 +1,6 @@
 -- A connection removed: the steps together are the rules' removal.
-use Rattle.std.specs.Prelude.{ℕ, ◌-◌, ◌<◌, Bool, false, List, get_or}
+use Rattle.std.specs.Prelude.{ℕ, ◌<◌, Bool, false, List, get_or, Option, Some, None}
 use Rattle.std.proofs.Math.Bool.{true}
-use Rattle.std.proofs.Math.Option.{some}
 use Rattle.std.proofs.Math.Path.{◌≡◌, ap, sym, subst}
 use Rattle.std.proofs.Common.{◌∙◌, arith}
 use Rattle.rules.specs.Lists.{place, without_first}
@@ -22,9 +21,7 @@ use Rattle.state_image.specs.Holds.{Held}
 use Rattle.state_image.specs.Kept.{Kept}
 use Rattle.state_image.specs.Changes.{row_gone}
 use Rattle.state_searches.specs.Searches.{find_at, without_at}
-use Rattle.state_layout.specs.declared.Found.{Found}
-use Rattle.state_layout.specs.declared.Found.TheVariants.{At, Nowhere}
-use Rattle.conn_lookup.specs.RowTests.{found_of, place_none}
+use Rattle.conn_lookup.specs.RowTests.{place_none}
 use Rattle.state_events.specs.Pushes.{told}
 use Rattle.conn_removal.specs.Turns.{Turns, Fewer, found_there, found_nowhere, row_held}
 use Rattle.conn_removal.specs.Hands.{handed, idled}
@@ -74,7 +71,7 @@ after fault e c st rest =
       counters = st.counters;
     }
 
-module _ (p : Conn → Bool) (st : State) (i : ℕ) (g : place p st.table ≡ some i) where
+module _ (p : Conn → Bool) (st : State) (i : ℕ) (g : place p st.table ≡ Some i) where
   abbrev c : Conn
   c = get_or st.table i no_conn
 
@@ -87,12 +84,12 @@ module _ (p : Conn → Bool) (st : State) (i : ℕ) (g : place p st.table ≡ so
   timed_at = ap (after true (TimedOut (info_of st.setup c.fixed)) c st) (without_at p no_conn st.table i g)
 
 -- close removes the connection of the triad
-pub closed_is : (t : Triad) (st : State) (i : ℕ) → place (conn_triad t) st.table ≡ some i → gone_at 2 i st ≡ closed t st
+pub closed_is : (t : Triad) (st : State) (i : ℕ) → place (conn_triad t) st.table ≡ Some i → gone_at 2 i st ≡ closed t st
 unfolding closed
 closed_is t st i g = sym (closed_at (conn_triad t) st i g) ∙ ap (removed_if false Closed (conn_triad t) st) (sym (find_at (conn_triad t) no_conn st.table i g))
 
 -- expiry removes the first that has expired, and sets the fault mark
-pub expired_is : (t : ℕ) (st : State) (i : ℕ) → place (expired t) st.table ≡ some i → with_fault true (gone_at 3 i st) ≡ expired_first t st
+pub expired_is : (t : ℕ) (st : State) (i : ℕ) → place (expired t) st.table ≡ Some i → with_fault true (gone_at 3 i st) ≡ expired_first t st
 unfolding expired_first
 expired_is t st i g = sym (timed_at (expired t) st i g) ∙ ap (removed_if true TimedOut (expired t) st) (sym (find_at (expired t) no_conn st.table i g))
 
@@ -105,14 +102,14 @@ pub record Ended (t : ℕ) (r : Bool) (s' : List ℕ) (st : State) (l : List ℕ
 abbrev pub Ends : ℕ → Bool → List ℕ → List ℕ → Type 0
 Ends t r s s' = (st : State) (l : List ℕ) → Held s st l → Ended t r s' st l
 
-module _ (t : ℕ) (s : List ℕ) (n : ℕ) (x : Found) (en : n ≡ connections_of s) (ex : x ≡ found_of (place (expired t) (conns_in n (table_in s)))) where
-  pub ends_none : x ≡ Nowhere → Ends t false s s
+module _ (t : ℕ) (s : List ℕ) (n : ℕ) (x : Option ℕ) (en : n ≡ connections_of s) (ex : x ≡ place (expired t) (conns_in n (table_in s))) where
+  pub ends_none : x ≡ None → Ends t false s s
   unfolding expired_first
   ends_none e st l o =
       let q : st ≡ expired_first t st = ap (removed_if true TimedOut (expired t) st) (sym (place_none (expired t) st.table (found_nowhere (expired t) s n x en ex e st l o))) in
       record { held = subst (λ (z : State). Held s z l) q o; none_left = λ h. sym q }
 
-  pub ends_one : (i : ℕ) → x ≡ At i → (s₁ s₂ : List ℕ) → Turns s s₁ (gone_at 3 i) → Turns s₁ s₂ (with_fault true) → Ends t true s s₂
+  pub ends_one : (i : ℕ) → x ≡ Some i → (s₁ s₂ : List ℕ) → Turns s s₁ (gone_at 3 i) → Turns s₁ s₂ (with_fault true) → Ends t true s s₂
   unfolding expired_first
   ends_one i e s₁ s₂ a b st l o =
       let g = found_there (expired t) s n x en ex i e st l o in

@@ -1,8 +1,8 @@
 -- Steps of a removal over a held state: what code must know of the buffer after each, and what the buffer then holds.
-use Rattle.std.specs.Prelude.{ℕ, ◌≤◌, ◌<◌, Bool, List, ◌≡◌, length, get_or}
-use Rattle.std.proofs.Math.Option.{none, some}
+use Rattle.std.specs.Prelude.{ℕ, ◌≤◌, ◌<◌, Bool, true, false, List, ◌≡◌, refl, length, get_or, Option, Some, None}
+use Rattle.std.specs.Option.{is_some}
 use Rattle.std.proofs.Common.{ap, sym, subst, ◌∙◌, arith}
-use Rattle.base_tables.specs.Tables.{rows, length_rows}
+use Rattle.base_tables.specs.Tables.{length_rows}
 use Rattle.rules.specs.Lists.{place}
 use Rattle.rules.specs.State.{State}
 use Rattle.rules.specs.Events.{info_of, info_record}
@@ -18,9 +18,6 @@ use Rattle.state_image.specs.Changes.{row_gone, suits_pushed}
 use Rattle.state_searches.specs.Searches.{place_in_lem}
 use Rattle.state_records.specs.Fields.{length_info}
 use Rattle.state_events.specs.Pushes.{told}
-use Rattle.state_layout.specs.declared.Found.{Found}
-use Rattle.state_layout.specs.declared.Found.TheVariants.{At, Nowhere}
-use Rattle.conn_lookup.specs.RowTests.{found_of, found_at, found_none}
 
 -- s' holds what f makes of the state that s holds
 abbrev pub Turns : List ℕ → List ℕ → (State → State) → Type 0
@@ -73,21 +70,29 @@ turn_told s s' what f b =
 
 -- ---- what a search along a held state's rows found
 
-module _ (p : Conn → Bool) (s : List ℕ) (n : ℕ) (x : Found) (en : n ≡ connections_of s) (ex : x ≡ found_of (place p (conns_in n (table_in s)))) where
-  held_place : (st : State) (l : List ℕ) → Held s st l → found_of (place p st.table) ≡ x
-  held_place st l o =
-      sym (ex ∙ ap (λ (k : ℕ). found_of (place p (conns_in k (table_in s)))) en ∙ ap (λ (z : List Conn). found_of (place p z)) (table_held s st l o.holds))
+pub is_there : (x : Option ℕ) → is_some x ≡ true → (i : ℕ) × (x ≡ Some i)
+is_there None e = absurd (let z : ◌≡◌ {A = ℕ} 0 1 = cc in omega arith)
+is_there (Some i) e = (i, refl)
 
-  pub found_in : (i : ℕ) → x ≡ At i → i < connections_of s
+pub is_nowhere : (x : Option ℕ) → is_some x ≡ false → x ≡ None
+is_nowhere None e = refl
+is_nowhere (Some i) e = absurd (let z : ◌≡◌ {A = ℕ} 0 1 = cc in omega arith)
+
+module _ (p : Conn → Bool) (s : List ℕ) (n : ℕ) (x : Option ℕ) (en : n ≡ connections_of s) (ex : x ≡ place p (conns_in n (table_in s))) where
+  held_place : (st : State) (l : List ℕ) → Held s st l → place p st.table ≡ x
+  held_place st l o =
+      sym (ex ∙ ap (λ (k : ℕ). (place p (conns_in k (table_in s)))) en ∙ ap (λ (z : List Conn). (place p z)) (table_held s st l o.holds))
+
+  pub found_in : (i : ℕ) → x ≡ Some i → i < connections_of s
   found_in i e =
-      let z = place_in_lem p no_conn (conns_in n (table_in s)) i (found_at (place p (conns_in n (table_in s))) i (sym ex ∙ e)) in
+      let z = place_in_lem p no_conn (conns_in n (table_in s)) i (sym ex ∙ e) in
       let w = length_rows row_size dec_conn n (table_in s) in omega arith
 
-  pub found_there : (i : ℕ) → x ≡ At i → (st : State) (l : List ℕ) → Held s st l → place p st.table ≡ some i
-  found_there i e st l o = found_at (place p st.table) i (held_place st l o ∙ e)
+  pub found_there : (i : ℕ) → x ≡ Some i → (st : State) (l : List ℕ) → Held s st l → place p st.table ≡ Some i
+  found_there i e st l o = held_place st l o ∙ e
 
-  pub found_nowhere : x ≡ Nowhere → (st : State) (l : List ℕ) → Held s st l → place p st.table ≡ none
-  found_nowhere e st l o = found_none (place p st.table) (held_place st l o ∙ e)
+  pub found_nowhere : x ≡ None → (st : State) (l : List ℕ) → Held s st l → place p st.table ≡ None
+  found_nowhere e st l o = held_place st l o ∙ e
 
 -- a row that is read is the connection's
 pub row_held : (s : List ℕ) (i : ℕ) → i < connections_of s → (st : State) (l : List ℕ) → Held s st l → conn_at (table_in s) i ≡ get_or st.table i no_conn

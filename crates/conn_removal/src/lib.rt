@@ -3,49 +3,34 @@
 #![tactic(auto)]
 
 ghost use Rattle.std.specs.Prelude.{◌≡◌, ◌<◌};
-ghost use Rattle.rules.specs.State.{produces};
 ghost use Rattle.state_rules.specs.Rows.{of_due};
 ghost use Rattle.state_rules.specs.Places.{connections_of};
 ghost use Rattle.state_image.specs.Holds.{Ready};
 ghost use Rattle.state_image.specs.Kept.{Kept};
+ghost use Rattle.state_records.specs.Occasions.{occasion_number};
 ghost use Rattle.conn_removal.specs.Turns.{Turns, Fewer};
 ghost use Rattle.conn_removal.specs.Hands.{handed, idled};
 ghost use Rattle.conn_removal.specs.Listeners.{Dropped, Closes, all_closed, feeder, ended};
 ghost use Rattle.conn_removal.specs.Removals.{without_it, gone_at};
 
 use base_ids::ToId;
-use rules::{Due, Fixed, Kind, Sent};
-use state_layout::Found;
+use rules::{Fixed, Kind, Sent};
+use state_records::Occasion;
 
 // ---- hand-over
-
-fn does_produce(d: Due) -> bool
-    ensures { result ≡ produces d }
-{
-    match d {
-        Due::Never => false,
-        Due::At(_) => true,
-    }
-}
 
 // A multicast producer that went hands its stream to the first that is left.
 fn hand_over(s: &mut [u8], multicast: bool, id: ToId, x: Sent)
     requires { Ready s.old × (of_due x.due < 18446744073709551616) }
     ensures { Kept (connections_of s.old) s.old s.new × Turns s.old s.new (handed multicast id x) }
 {
-    if !multicast {
-        return;
-    }
-    let due = x.due;
-    if !does_produce(due) {
+    if !multicast || x.due.is_none() {
         return;
     }
     let n = base_cells::u16_at(s, state_layout::CONNECTIONS) as usize;
-    match conn_lookup::find_stream(&s[state_layout::TABLE..state_layout::EVENTS], n, id) {
-        Found::Nowhere => {}
-        Found::At(j) => {
-            state_changes::put_sent(s, j, x);
-        }
+    let table = &s[state_layout::TABLE..state_layout::EVENTS];
+    if let Some(j) = conn_lookup::find_stream(table, n, id) {
+        state_changes::put_sent(s, j, x);
     }
 }
 
@@ -57,38 +42,27 @@ fn close_first(s: &mut [u8], id: ToId) -> bool
     ensures { Dropped result s.old s.new × Closes id result s.old s.new }
 {
     let n = base_cells::u16_at(s, state_layout::CONNECTIONS) as usize;
-    match conn_lookup::find_stream(&s[state_layout::TABLE..state_layout::EVENTS], n, id) {
-        Found::Nowhere => false,
-        Found::At(j) => {
-            let f = state_rows::fixed_at(&s[state_layout::TABLE..state_layout::EVENTS], j);
-            state_changes::remove_row(s, j);
-            state_events::tell(s, 2, f);
-            true
-        }
-    }
+    let table = &s[state_layout::TABLE..state_layout::EVENTS];
+    let Some(j) = conn_lookup::find_stream(table, n, id) else {
+        return false;
+    };
+    let f = state_rows::fixed_at(table, j);
+    state_changes::remove_row(s, j);
+    state_events::tell(s, Occasion::Closed, f);
+    true
 }
 
 fn close_stream(s: &mut [u8], id: ToId)
     requires { Ready s.old }
     ensures { Fewer s.old s.new × Turns s.old s.new (all_closed id) }
 {
-    let mut more = true;
-    while more {
-        more = close_first(s, id);
-    }
+    while close_first(s, id) {}
 }
 
 fn can_feed(k: Kind, multicast: bool) -> bool
     ensures { result ≡ feeder k multicast }
 {
-    if !multicast {
-        return false;
-    }
-    match k {
-        Kind::Owner => true,
-        Kind::InputOnly => true,
-        Kind::ListenOnly => false,
-    }
+    multicast && !matches!(k, Kind::ListenOnly)
 }
 
 // A connection of this kind went: if none is left that feeds its stream, the listeners close.
@@ -100,11 +74,9 @@ fn end_stream(s: &mut [u8], k: Kind, multicast: bool, id: ToId)
         return;
     }
     let n = base_cells::u16_at(s, state_layout::CONNECTIONS) as usize;
-    match conn_lookup::find_feeder(&s[state_layout::TABLE..state_layout::EVENTS], n, id) {
-        Found::Nowhere => {
-            close_stream(s, id);
-        }
-        Found::At(_) => {}
+    let table = &s[state_layout::TABLE..state_layout::EVENTS];
+    if conn_lookup::find_feeder(table, n, id).is_none() {
+        close_stream(s, id);
     }
 }
 
@@ -130,25 +102,24 @@ fn lose_run(s: &mut [u8], k: Kind, output: u8)
 // ---- removal
 
 // What follows when a connection's row has gone: f and x are what it said.
-fn finish(s: &mut [u8], what: u8, f: Fixed, x: Sent)
+fn finish(s: &mut [u8], occasion: Occasion, f: Fixed, x: Sent)
     requires { Ready s.old × (of_due x.due < 18446744073709551616) }
-    ensures { Fewer s.old s.new × Turns s.old s.new (without_it what f x) }
+    ensures { Fewer s.old s.new × Turns s.old s.new (without_it (occasion_number occasion) f x) }
 {
-    let k = f.kind;
-    let id = f.toid;
-    hand_over(s, f.multicast, id, x);
-    end_stream(s, k, f.multicast, id);
-    lose_run(s, k, f.output);
-    state_events::tell(s, what, f);
+    hand_over(s, f.multicast, f.toid, x);
+    end_stream(s, f.kind, f.multicast, f.toid);
+    lose_run(s, f.kind, f.output);
+    state_events::tell(s, occasion, f);
 }
 
-// The connection at a place removed, and told as 2 (closed) or 3 (timed out).
-pub fn remove_conn(s: &mut [u8], i: usize, what: u8)
+// The connection at a place removed, and told as closed or timed out.
+pub fn remove_conn(s: &mut [u8], i: usize, occasion: Occasion)
     requires { Ready s.old × (i < connections_of s.old) }
-    ensures { Fewer s.old s.new × Turns s.old s.new (gone_at what i) }
+    ensures { Fewer s.old s.new × Turns s.old s.new (gone_at (occasion_number occasion) i) }
 {
-    let f = state_rows::fixed_at(&s[state_layout::TABLE..state_layout::EVENTS], i);
-    let x = state_rows::sent_at(&s[state_layout::TABLE..state_layout::EVENTS], i);
+    let table = &s[state_layout::TABLE..state_layout::EVENTS];
+    let f = state_rows::fixed_at(table, i);
+    let x = state_rows::sent_at(table, i);
     state_changes::remove_row(s, i);
-    finish(s, what, f, x);
+    finish(s, occasion, f, x);
 }

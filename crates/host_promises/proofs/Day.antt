@@ -1,7 +1,6 @@
 -- The day on lent bytes: whatever the C functions leave and answer, the application is told run, by an owner that was heard.
-use Rattle.std.specs.Prelude.{ℕ, ◌*◌, ◌%◌, ◌≡◌, refl, replicate}
+use Rattle.std.specs.Prelude.{ℕ, ◌*◌, ◌%◌, ◌≡◌, refl, replicate, Some}
 use mathlib.Core.List.{List, [], ◌∷◌}
-use Rattle.std.proofs.Math.Option.{some}
 use Rattle.std.proofs.Math.Path.{ap}
 use Rattle.std.proofs.Common.{◌∙◌, arith}
 use Rattle.std.proofs.Math.ListN.{get_or}
@@ -47,7 +46,7 @@ module _ (s s₁ s₂ s₃ : List ℕ) (a b c : Said) (set : (0, s) ≡ setup_ca
       (f.0 ∙ ap answer_number e, f.1 ∙ ap (λ (x : Answer). sets (replicate 3 0) 0 (answer_bytes x)) e)
 
   -- so a row of the table owns it
-  pub its_owner : (i : ℕ) × (place_of is_output (view s₂).setup 150 ≡ some i) × Owner s₂ i
+  pub its_owner : (i : ℕ) × (place_of is_output (view s₂).setup 150 ≡ Some i) × Owner s₂ i
   its_owner =
       run_read (held (replicate state_size 0) block [] 4 set ran_before) 150 (replicate 3 0) s₃ c reading
       (ap (λ (n : ℕ). n % 256) told_run.0) (ap (λ (x : List ℕ). get_or x 0 0) told_run.1)
@@ -56,7 +55,7 @@ module _ (s s₁ s₂ s₃ : List ℕ) (a b c : Said) (set : (0, s) ≡ setup_ca
   pub its_word : let u : Setup = setup_given block [] in Gives (said_by u 0 (last_word u 150 0 before)) (replicate 3 0) c
   unfolding place_of
   its_word =
-      let there : place_of is_output (setup_given block []) 150 ≡ some 0 = ap (λ (u : Setup). place_of is_output u 150) block_says in
+      let there : place_of is_output (setup_given block []) 150 ≡ Some 0 = ap (λ (u : Setup). place_of is_output u 150) block_says in
       output_is_the_last_word (replicate state_size 0) block [] 4 s set (omega arith) 150 0 there ran_before (refl, (refl, tt))
       (few_calls before (omega arith)) (replicate 3 0) s₃ c reading
 
@@ -74,7 +73,7 @@ module _ (s s₁ s₂ s₃ s₄ : List ℕ) (a b d c : Said) (set : (0, s) ≡ s
       ap (λ (u : Setup). answer (call_of expires) (run (call_of opens ∷ call_of hears ∷ []) (fresh u 4))) block_says ∙ computed.1 in
       let y : answer (call_of reads) (run (call_of opens ∷ call_of hears ∷ call_of expires ∷ []) (fresh (setup_given block []) 4)) ≡ Wrote (1 ∷ 0xAA ∷ 0xBB ∷ []) =
       ap (λ (u : Setup). answer (call_of reads) (run (call_of opens ∷ call_of hears ∷ call_of expires ∷ []) (fresh u 4))) block_says ∙ computed.2 in
-      let there : place_of is_output (setup_given block []) 150 ≡ some 0 = ap (λ (u : Setup). place_of is_output u 150) block_says in
+      let there : place_of is_output (setup_given block []) 150 ≡ Some 0 = ap (λ (u : Setup). place_of is_output u 150) block_says in
       run_byte_was_heard (replicate state_size 0) block [] 4 s set (omega arith) 150 0 there
       (one (CCall.On opens) a opening (one (CCall.On hears) b hearing none)) (refl, (refl, tt)) (few_calls ((CCall.On opens, a) ∷ (CCall.On hears, b) ∷ []) (omega arith))
       3000 s₃ d expiring (ap (λ (n : ℕ). n % 256) (f.0 ∙ ap answer_number x)) (replicate 3 0) s₄ c reading

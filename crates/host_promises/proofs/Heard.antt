@@ -1,7 +1,6 @@
 -- The run byte says that the owner was heard, on bytes: after an expiry call, by the last word of the run that it ends.
-use Rattle.std.specs.Prelude.{ℕ, ◌%◌, ◌^◌, ◌<◌, Bool, true, false, cond, List, [], ◌∷◌, ◌++◌, ◌≡◌, refl, leb, length, get_or}
+use Rattle.std.specs.Prelude.{ℕ, ◌%◌, ◌^◌, ◌<◌, Bool, true, false, cond, List, [], ◌∷◌, ◌++◌, ◌≡◌, refl, leb, length, get_or, Some}
 use Rattle.std.proofs.Common.{ap, sym, subst, ◌∙◌, arith, leb-true, leb-false}
-use Rattle.std.proofs.Math.Option.{some}
 use Rattle.base_cells.specs.Records.{of_bool, to_bool, to_of}
 use Rattle.rules_laws.specs.ListLaws.{by_cases}
 use Rattle.rules.specs.State.{Setup, State, shape_at, content_at, is_output}
@@ -52,7 +51,7 @@ module _ (l block eds : List ℕ) (seed : ℕ) (s : List ℕ) (e : (0, s) ≡ se
   abbrev u : Setup
   u = setup_given block eds
 
-  module _ (n i : ℕ) (there : place_of is_output u n ≡ some i) where
+  module _ (n i : ℕ) (there : place_of is_output u n ≡ Some i) where
     -- AND IT WAS HEARD: after an expiry call at time t, answered yes, the run byte 1 means that a frame of the owner was recorded, the last one
     -- at most its timeout before t
     pub run_byte_was_heard : {ts : List Turn} {s' : List ℕ} → Ran ts s s' → OneSetup ts → early (opens_in ts) ≡ true

@@ -1,7 +1,6 @@
 -- The lane obeys its live owner's last word, on bytes: a run of C calls is a run of the rules, of which it is proved.
-use Rattle.std.specs.Prelude.{ℕ, ◌+◌, ◌^◌, ◌≤◌, ◌<◌, true, List, [], ◌∷◌, ◌≡◌, refl, length}
+use Rattle.std.specs.Prelude.{ℕ, ◌+◌, ◌^◌, ◌≤◌, ◌<◌, true, List, [], ◌∷◌, ◌≡◌, refl, length, Some}
 use Rattle.std.proofs.Common.{ap, sym, subst, ◌∙◌, arith, lt-ltb}
-use Rattle.std.proofs.Math.Option.{some}
 use Rattle.rules.specs.State.{Setup, shape_at, is_output}
 use Rattle.rules.specs.Answers.{Answer, Wrote, fitting}
 use Rattle.rules.specs.Setup.{fresh}
@@ -64,7 +63,7 @@ module _ (l block eds : List ℕ) (seed : ℕ) (s : List ℕ) (e : (0, s) ≡ se
         let size = (shape_at u i).size in
         sym (history_same (word_of u n size) (word_looks u n size) ts (fresh u seed) no_word (run_is_ruled l block eds seed s e r).answers same)
 
-  module _ (n i : ℕ) (there : place_of is_output u n ≡ some i) where
+  module _ (n i : ℕ) (there : place_of is_output u n ≡ Some i) where
     -- WHAT OUTPUT ANSWERS is the last word of its live owner
     pub output_is_the_last_word : {ts : List Turn} {s' : List ℕ} → Ran ts s s' → OneSetup ts → early (opens_in ts) ≡ true
         → (out s'' : List ℕ) (a : Said) → Met (contract_of (HostCall.Output n out)) s' s'' a → Gives (said_by u i (last_word u n i ts)) out a

@@ -1,21 +1,20 @@
 -- What a host saw of its calls tells what the rules' own log tells: of one call, then of all of them.
-use Rattle.std.specs.Prelude.{ℕ, ◌+◌, ◌%◌, Bool, true, false, cond, List, [], ◌∷◌, ◌++◌, ◌≡◌, refl, eqb, leb, length, drop}
+use Rattle.std.specs.Prelude.{ℕ, ◌+◌, ◌%◌, Bool, true, false, cond, List, [], ◌∷◌, ◌++◌, ◌≡◌, refl, eqb, leb, length, drop, Option, Some, None, Result, Ok, Err}
+use Rattle.rules.specs.declared.Stop.{Stop}
 use Rattle.std.proofs.Common.{append_assoc, ap, sym, subst, ◌∙◌, arith, eq-eqb, leb-true}
 use Rattle.std.proofs.lemmas.List.Edits.{sets, sets-eq}
 use Rattle.std.proofs.lemmas.Bool.{eqb-false}
 use Rattle.base_cells.specs.Numbers.{le, le_bytes}
 use Rattle.base_cells.specs.Records.{enc_fields, le_mid}
-use Rattle.wire_rules.specs.declared.OpenAnswer.TheVariants.{Open, NoOpen}
 use Rattle.wire_rules.specs.Replies.{open_reply}
 use Rattle.rules_laws.specs.ListLaws.{by_cases, clash, either_way}
-use Rattle.rules.specs.declared.Verdict.TheVariants.{Stopped, Planned}
 use Rattle.rules.specs.State.{State}
-use Rattle.rules.specs.Answers.{Answer, Done, Wrote, Accepted, Gone, Refused, Failed, BadSetup, NotParsed, NoRoom, is_yes, timely, words_number, words_of, answer_number, answer_bytes}
+use Rattle.rules.specs.Answers.{Answer, Done, Wrote, Accepted, Gone, Refused, Failed, is_yes, timely, words_number, words_of, answer_number, answer_bytes}
 use Rattle.rules.specs.Answers
 use Rattle.rules.specs.Opening.{open_asked, asked_answer, plan_answer, reply_of, verdict_of, open_answer, open_call}
 use Rattle.rules.specs.Calls
 use Rattle.rules.specs.Calls.{answer, next, run}
-use Rattle.rules_steps.specs.Names.{ForwardOpen, OpenAnswer, Origin, Plan, Verdict}
+use Rattle.rules_steps.specs.Names.{ForwardOpen, Origin, Plan}
 use Rattle.rules_steps.specs.Steps.{log, Nothing, news, Reading, learnt, history, acceptance}
 use Rattle.app_starting.specs.Block.{accepted}
 use Rattle.msg_positions.specs.Positions.{dec_upload}
@@ -26,6 +25,7 @@ use Rattle.host_runs.specs.HostCalls.{HostCall, contract_of, call_of, CCall, con
 use Rattle.host_runs.specs.Runs.{Turn, run_c, Answered}
 use Rattle.host_promises.proofs.Refusals.{low_zero}
 use Rattle.host_promises.specs.Logs.{seen, ruled, calls_of, logged, log_of, anew, OneSetup, Looks}
+use Rattle.rules.specs.declared.No.TheVariants.{BadSetup, BadTime, NoAssembly, NoRoom, NotParsed, NothingThere, TooLong}
 
 -- ---- a yes is seen as a yes
 
@@ -40,13 +40,13 @@ low_is_yes Done = refl
 low_is_yes (Wrote bs) = eq-eqb _ 0 (low_zero (Wrote bs) refl)
 low_is_yes (Accepted m s bs) = eq-eqb _ 0 (low_zero (Accepted m s bs) refl)
 low_is_yes (Gone n) = eq-eqb _ 0 (low_zero (Gone n) refl)
-low_is_yes (Refused Answers.BadSetup) = refl
-low_is_yes (Refused Answers.BadTime) = refl
-low_is_yes (Refused Answers.NotParsed) = refl
-low_is_yes (Refused Answers.NoAssembly) = refl
-low_is_yes (Refused Answers.TooLong) = refl
-low_is_yes (Refused Answers.NoRoom) = refl
-low_is_yes (Refused Answers.NothingThere) = refl
+low_is_yes (Refused BadSetup) = refl
+low_is_yes (Refused BadTime) = refl
+low_is_yes (Refused NotParsed) = refl
+low_is_yes (Refused NoAssembly) = refl
+low_is_yes (Refused TooLong) = refl
+low_is_yes (Refused NoRoom) = refl
+low_is_yes (Refused NothingThere) = refl
 low_is_yes (Failed s) = ap (λ (n : ℕ). eqb n 0) (low_words (words_of s))
 
 seen_yes : (x : Answer) (a : Said) → a.number ≡ answer_number x → is_yes (seen a) ≡ is_yes x
@@ -71,16 +71,16 @@ reply_stands q g p n out k y =
     let fits = leb-true (length bytes) (length out) k in
     ap (λ (l : List ℕ). le 4 l 0) (sets-eq bytes out 0 (omega arith)) ∙ reply_first q g p n (drop (0 + length bytes) out) ∙ sym (id_told q g p n)
 
-plan_stands : (q : ForwardOpen) (g : Origin) (n : ℕ) (out : List ℕ) (v : Verdict) → Stands out (plan_answer q g n (length out) v)
-plan_stands q g n out (Stopped x) = λ y. clash true refl (sym y)
-plan_stands q g n out (Planned p) =
+plan_stands : (q : ForwardOpen) (g : Origin) (n : ℕ) (out : List ℕ) (v : Result Plan Stop) → Stands out (plan_answer q g n (length out) v)
+plan_stands q g n out (Err x) = λ y. clash true refl (sym y)
+plan_stands q g n out (Ok p) =
     by_cases (leb (length (reply_of q g p n)) (length out))
     (λ k. subst (λ (b : Bool). Stands out (cond b (acceptance q g p n) (Refused NoRoom))) (sym k) (reply_stands q g p n out k))
     (λ k. subst (λ (b : Bool). Stands out (cond b (acceptance q g p n) (Refused NoRoom))) (sym k) (λ y. clash true refl (sym y)))
 
-asked_stands : (g : Origin) (request out : List ℕ) (st : State) (o : OpenAnswer) → Stands out (asked_answer g request (length out) st o)
-asked_stands g request out st NoOpen = λ y. clash true refl (sym y)
-asked_stands g request out st (Open q) = plan_stands q g st.next_id out (verdict_of request q st)
+asked_stands : (g : Origin) (request out : List ℕ) (st : State) (o : Option ForwardOpen) → Stands out (asked_answer g request (length out) st o)
+asked_stands g request out st None = λ y. clash true refl (sym y)
+asked_stands g request out st (Some q) = plan_stands q g st.next_id out (verdict_of request q st)
 
 open_stands : (t service : ℕ) (request : List ℕ) (g : Origin) (out : List ℕ) (st : State) → Stands out (open_call t service request g (length out) st).0
 unfolding open_call open_answer
@@ -106,10 +106,10 @@ setup_left block eds seed st a h n =
 
 module _ {G : Type 0} (r : Reading G) (looks : Looks r) where
   open_learnt : (t service : ℕ) (request : List ℕ) (g : Origin) (room : ℕ) (x y : Answer) (w : G) → is_yes x ≡ is_yes y
-      → (is_yes y ≡ true → le 4 (answer_bytes x) 0 ≡ le 4 (answer_bytes y) 0) → (o : OpenAnswer) → open_asked service request ≡ o
+      → (is_yes y ≡ true → le 4 (answer_bytes x) 0 ≡ le 4 (answer_bytes y) 0) → (o : Option ForwardOpen) → open_asked service request ≡ o
       → learnt r (news (Calls.Open t service request g room) x) w ≡ learnt r (news (Calls.Open t service request g room) y) w
-  open_learnt t service request g room x y w e same NoOpen k = by_cases (is_yes y) (λ z. rw (k, e ∙ z, z) refl) (λ z. rw (e ∙ z, z) refl)
-  open_learnt t service request g room x y w e same (Open q) k = by_cases (is_yes y) (λ z. rw (k, e ∙ z, z) (looks t request q g x y w (same z))) (λ z. rw (e ∙ z, z) refl)
+  open_learnt t service request g room x y w e same None k = by_cases (is_yes y) (λ z. rw (k, e ∙ z, z) refl) (λ z. rw (e ∙ z, z) refl)
+  open_learnt t service request g room x y w e same (Some q) k = by_cases (is_yes y) (λ z. rw (k, e ∙ z, z) (looks t request q g x y w (same z))) (λ z. rw (e ∙ z, z) refl)
 
   -- of the calls that bring no news
   no_news : (b c : Bool) (w : G) → learnt r (cond b Nothing Nothing) w ≡ learnt r (cond c Nothing Nothing) w

@@ -4,7 +4,7 @@ use Rattle.std.proofs.Common.{ap, sym, subst, ◌∙◌, arith}
 use Rattle.base_cells.specs.Back.{Bytes}
 use Rattle.rules_laws.specs.ListLaws.{by_cases}
 use Rattle.rules.specs.State.{Setup, State}
-use Rattle.rules.specs.Answers.{Wrote, Refused, NoRoom, answer_number}
+use Rattle.rules.specs.Answers.{Wrote, Refused, answer_number}
 use Rattle.rules.specs.Message.{reply_room, message_reply, message_answer}
 use Rattle.msg_positions.specs.Positions.{dec_upload}
 use Rattle.state_rules.specs.Image.{view, tested}
@@ -18,6 +18,7 @@ use Rattle.host_runs.proofs.Steps.{agrees}
 use Rattle.host_runs.specs.Runs.{Held}
 use Rattle.host_runs.proofs.Held.{held_passes}
 use Rattle.host_promises.specs.Sessions.{Session, done, other, asks, Never1}
+use Rattle.rules.specs.declared.No.TheVariants.{NoRoom}
 
 -- what is set up stays
 setup_stays : (c : HostCall) (s : List ℕ) → tested s ≡ true → (s' : List ℕ) (a : Said) → Met (contract_of c) s s' a → (view s').setup ≡ (view s).setup

@@ -76,7 +76,7 @@ pub computed :
     × (answer (call_of expires) (run (call_of opens ∷ call_of hears ∷ []) start) ≡ Gone 0)
     × (answer (call_of reads) (run (call_of opens ∷ call_of hears ∷ call_of expires ∷ []) start) ≡ Wrote (1 ∷ 0xAA ∷ 0xBB ∷ []))
 unfolding fresh le le_of le_bytes bytes_be start_of step_at items_from items_of io_of io_frame port_at logical_at key_of key_at data_at seg_at Segments.between Segments.step_at
-    segs_from segs_of gather ConnectionPath.some last connection_path path_of params_at triad_at way_at place_at fields_of open_with width_of open_of
+    segs_from segs_of gather ConnectionPath.some last ConnectionPath.final connection_path path_of params_at triad_at way_at place_at fields_of open_with width_of open_of
     info_of info_record event_record oldest_gone appended pushed pushed_all open_reply enc_fields
     must and_then transport_check path_check revision_ok key_stop key_check kind_of place_of points_check roles_of config_check rpi_check type_check
     ot_size_check to_size_check triad_check owner_check stream_of stream_check room_check plan_of verdict

@@ -7,7 +7,7 @@ use Rattle.std.proofs.lemmas.Bool.{lt-leb}
 use Rattle.base_cells.specs.Records.{of_bool}
 use Rattle.rules_laws.specs.ListLaws.{clash}
 use Rattle.rules.specs.State.{Setup, shape_at}
-use Rattle.rules.specs.Answers.{Answer, Wrote, Refused, NoRoom, fitting, answer_number, answer_bytes}
+use Rattle.rules.specs.Answers.{Answer, Wrote, Refused, fitting, answer_number, answer_bytes}
 use Rattle.rules_steps.specs.Steps.{history}
 use Rattle.rules_lastword.specs.Words.{Word, word_of, no_word, in_run, holds, opens}
 use Rattle.app_starting.specs.Block.{setup_call}
@@ -15,6 +15,7 @@ use Rattle.host_runs.specs.CallContracts.{Said, Met, Told}
 use Rattle.host_runs.specs.HostCalls.{CCall, contract}
 use Rattle.host_runs.specs.Runs.{Turn, Ran, none, one}
 use Rattle.host_promises.specs.Logs.{log_of, anew, OneSetup}
+use Rattle.rules.specs.declared.No.TheVariants.{NoRoom}
 
 -- ---- what the calls made and the answers given tell
 

@@ -2,13 +2,14 @@
 -- output. A history learns from it what it learns from the rules' own log.
 use Rattle.std.specs.Prelude.{ℕ, ◌%◌, Bool, false, cond, List, [], ◌∷◌, ◌≡◌, eqb}
 use Rattle.base_cells.specs.Numbers.{le}
-use Rattle.rules.specs.Answers.{Answer, Wrote, Refused, NotParsed, answer_bytes}
+use Rattle.rules.specs.Answers.{Answer, Wrote, Refused, answer_bytes}
 use Rattle.rules.specs.Calls.{Call}
 use Rattle.rules_steps.specs.Names.{ForwardOpen, Origin}
 use Rattle.rules_steps.specs.Steps.{Reading}
 use Rattle.host_runs.specs.CallContracts.{Said}
 use Rattle.host_runs.specs.HostCalls.{call_of, CCall}
 use Rattle.host_runs.specs.Runs.{Turn}
+use Rattle.rules.specs.declared.No.TheVariants.{NotParsed}
 
 -- a yes has the low byte 0: then what stands in the output; else a no
 abbrev pub seen : Said → Answer

@@ -1,13 +1,12 @@
 -- The run bit of the bytes that a host holds has a live owner: a row of the table.
-use Rattle.std.specs.Prelude.{ℕ, zero, suc, ◌+◌, ◌%◌, ◌≤◌, ◌<◌, Bool, true, false, cond, not, ◌&&◌, List, [], ◌∷◌, ◌≡◌, refl, leb, length, get_or, drop}
-use Rattle.std.proofs.Math.Option.{Option, none, some}
+use Rattle.std.specs.Prelude.{ℕ, zero, suc, ◌+◌, ◌%◌, ◌≤◌, ◌<◌, Bool, true, false, cond, not, ◌&&◌, List, [], ◌∷◌, ◌≡◌, refl, leb, length, get_or, drop, Option, Some, None}
 use Rattle.std.proofs.Common.{ap, sym, subst, ◌∙◌, arith, get_or-drop, get_or-take, leb-true}
 use Rattle.std.proofs.lemmas.List.Edits.{sets, sets-eq}
 use Rattle.base_cells.specs.Numbers.{le, le_1}
 use Rattle.base_cells.specs.Records.{to_bool, of_bool, to_of}
 use Rattle.rules_laws.specs.ListLaws.{by_cases}
 use Rattle.rules.specs.State.{Shape, Content, no_content, State, content_at, shape_at, is_output}
-use Rattle.rules.specs.Answers.{Wrote, Refused, NoRoom, timely, answer_number, answer_bytes}
+use Rattle.rules.specs.Answers.{Wrote, Refused, timely, answer_number, answer_bytes}
 use Rattle.rules.specs.Lists.{any}
 use Rattle.rules.specs.Setup.{fresh}
 use Rattle.rules.specs.Checks.{place_of, owns}
@@ -29,6 +28,7 @@ use Rattle.host_runs.proofs.Steps.{agrees}
 use Rattle.host_runs.specs.Runs.{Held}
 use Rattle.host_runs.proofs.Held.{held_passes, held_reached}
 use Rattle.host_promises.specs.Rows.{row_of, conns_view, row_found}
+use Rattle.rules.specs.declared.No.TheVariants.{NoRoom}
 
 pub held_owned : {s : List ℕ} → Held s → Owned (view s)
 held_owned h = let r = held_reached h in subst Owned (sym r.3) (run_has_owner r.0 r.1 r.2)
@@ -86,10 +86,10 @@ first_byte c out h = ap (λ (x : List ℕ). get_or x 0 0) (sets-eq (output_bytes
 
 -- a yes that begins with 1 is of an output in run
 read_run : (st : State) (out : List ℕ) (a : Said) (o : Option ℕ) → Told (output_at (length out) st o) out a → a.number % 256 ≡ 0 → get_or a.output 0 0 ≡ 1
-    → (i : ℕ) × (o ≡ some i) × ((content_at st i).run ≡ true)
+    → (i : ℕ) × (o ≡ Some i) × ((content_at st i).run ≡ true)
 unfolding answer_number
-read_run st out a none t e f = absurd (let n = t.0 in omega arith)
-read_run st out a (some i) t e f =
+read_run st out a None t e f = absurd (let n = t.0 in omega arith)
+read_run st out a (Some i) t e f =
     let c : Content = content_at st i in
     by_cases (leb (length (output_bytes c)) (length out))
     (λ y.
@@ -102,7 +102,7 @@ read_run st out a (some i) t e f =
 
 -- if `threshtide_output` says yes and gives the run byte 1, then the instance is an output, and a row of the table owns it
 pub run_read : {s : List ℕ} → Held s → (instance : ℕ) (out s' : List ℕ) (a : Said) → Met (contract_of (HostCall.Output instance out)) s s' a
-    → a.number % 256 ≡ 0 → get_or a.output 0 0 ≡ 1 → (i : ℕ) × (place_of is_output (view s).setup instance ≡ some i) × Owner s i
+    → a.number % 256 ≡ 0 → get_or a.output 0 0 ≡ 1 → (i : ℕ) × (place_of is_output (view s).setup instance ≡ Some i) × Owner s i
 unfolding output_call output_answer view
 run_read {s} own instance out s' a m e f =
     let g = agrees (CCall.On (HostCall.Output instance out)) s (held_passes own) s' a m in

@@ -3,7 +3,7 @@
 use Rattle.std.specs.Prelude.{ℕ, true, false, cond, List, ◌≡◌, length}
 use Rattle.std.proofs.lemmas.List.Edits.{sets}
 use Rattle.rules.specs.State.{State}
-use Rattle.rules.specs.Answers.{Answer, Done, Refused, BadSetup, answer_number, answer_bytes}
+use Rattle.rules.specs.Answers.{Answer, Done, Refused, answer_number, answer_bytes}
 use Rattle.rules.specs.Setup.{fresh}
 use Rattle.rules.specs.Message.{message_call}
 use Rattle.msg_routing.specs.Answered.{answered}
@@ -12,6 +12,7 @@ use Rattle.app_starting.specs.Block.{setup_given, accepted, setup_call}
 use Rattle.msg_positions.specs.Positions.{dec_upload, enc_upload}
 use Rattle.msg_answering.specs.Positions.{position_tested}
 use Rattle.msg_answering.specs.Lifted.{lifted_message}
+use Rattle.rules.specs.declared.No.TheVariants.{BadSetup}
 
 -- what a host is answered: the number, and what stands afterwards in the output and in the upload position that it lent
 pub record Said : Type 0 where

@@ -1,5 +1,5 @@
 -- The pass that counts: one row, the rows in turn, and what the rules count.
-use Rattle.std.specs.Prelude.{◌≡◌, ℕ, ◌+◌, ◌-◌, ◌*◌, ◌<◌, ◌≤◌, max, Bool, true, false, cond, leb, List, [], ◌∷◌, ◌++◌, length, drop, ◌≢◌, nat_le, slice_index_or}
+use Rattle.std.specs.Prelude.{◌≡◌, ℕ, ◌+◌, ◌-◌, ◌*◌, ◌<◌, ◌≤◌, max, Bool, true, false, cond, leb, List, [], ◌∷◌, ◌++◌, length, drop, ◌≢◌, nat_le, slice_index_or, Option, Some, None}
 use Rattle.std.proofs.Math.Path.{ap, ap₂, sym}
 use Rattle.std.proofs.Common.{◌∙◌, add-one, drop_of_length-le, drop-cons, length-take-le}
 use native.Mathlib.Omega.{arith}
@@ -12,8 +12,6 @@ use Rattle.rules.specs.Lists.{keep}
 use Rattle.rules.specs.State.{Setup, Content, State, no_content}
 use Rattle.rules.specs.Producing.{due_by, due, late_by, late_limit, delays, greatest, input_bytes, packet, packets}
 use Rattle.rules.specs.declared.Conn.{Conn}
-use Rattle.rules.specs.declared.Due.{Due}
-use Rattle.rules.specs.declared.Due.TheVariants.{Never, At}
 use Rattle.state_rules.specs.Places.{table_in, state_size, connections_of, max_late_of}
 use Rattle.state_rules.specs.Setups.{setup_of}
 use Rattle.state_rules.specs.Rows.{dec_fixed, dec_sent, row_at}
@@ -39,7 +37,7 @@ added_is n d limit late worst k el ew = λ j. record { need = k.need + n; count 
 
 -- ---- row i
 
-module _ (t limit i : ℕ) (s : List ℕ) (p : i < connections_of s) (d : Due) (ed : d ≡ (dec_sent (row_at (table_in s) i)).due) (k : Tally) where
+module _ (t limit i : ℕ) (s : List ℕ) (p : i < connections_of s) (d : Option ℕ) (ed : d ≡ (dec_sent (row_at (table_in s) i)).due) (k : Tally) where
   due_is : (st : State) (l : List ℕ) → Holds s st l → (slice_index_or st.table i no_conn).sent.due ≡ d
   due_is st l h = sym (ed ∙ ap (λ (c : Conn). c.sent.due) (row_held i s p st l h))
 
@@ -49,13 +47,13 @@ module _ (t limit i : ℕ) (s : List ℕ) (p : i < connections_of s) (d : Due) (
       let c : Conn = slice_index_or st.table i no_conn in
       sym (ap (λ (b : Bool). cond b (added (33 + length (input_bytes st.contents c.fixed)) (late_by t c.sent.due) limit k) k) (ap (due_by t) (due_is st l h) ∙ e))
 
-  pub count_never : d ≡ Never → Tallies t limit i s k k
+  pub count_never : d ≡ None → Tallies t limit i s k k
   count_never e = not_counted (ap (due_by t) e)
 
-  pub count_later : (v : ℕ) → d ≡ At v → t < v → Tallies t limit i s k k
+  pub count_later : (v : ℕ) → d ≡ Some v → t < v → Tallies t limit i s k k
   count_later v e q = not_counted (ap (due_by t) e ∙ lt-leb v t q)
 
-  pub count_due : (v : ℕ) → d ≡ At v → v ≤ t → (j : ℕ) → j ≡ (dec_fixed (row_at (table_in s) i)).input
+  pub count_due : (v : ℕ) → d ≡ Some v → v ≤ t → (j : ℕ) → j ≡ (dec_fixed (row_at (table_in s) i)).input
       → (a n : ℕ) → a + n ≤ state_size → length s ≡ state_size → Data j s a n → (r : Tally) → r ≡ added (33 + n) (t - v) limit k → Tallies t limit i s k r
   unfolding tallied
   count_due v e q j ej a n inside long g r er st l h =

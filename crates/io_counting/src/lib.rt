@@ -1,17 +1,14 @@
 // What is due, counted before anything is written: its bytes, its packets, and how late they are.
 #![tactic(auto)]
 
-ghost use Rattle.std.specs.Prelude.{◌≡◌, ◌+◌, ◌<◌, ◌≤◌, min, max, length, nat_le};
+ghost use Rattle.std.specs.Prelude.{◌≡◌, ◌+◌, ◌<◌, ◌≤◌, length};
 ghost use Rattle.base_cells.specs.Numbers.{le};
-ghost use Rattle.base_cells.specs.Records.{of_bool};
 ghost use Rattle.rules.specs.Lists.{any};
 ghost use Rattle.rules.specs.Producing.{due};
 ghost use Rattle.state_rules.specs.Places.{table_size, connections_of};
 ghost use Rattle.state_rules.specs.Rows.{conns_in};
 ghost use Rattle.state_image.specs.Holds.{Ready, Slotted};
 ghost use Rattle.io_counting.specs.Tallies.{limit_of, added, Tallies, Totals};
-
-use rules::Due;
 
 // What is due: how many bytes and packets, how many of them late, and the greatest lateness that ever was.
 #[derive(Clone, Copy)]
@@ -20,25 +17,6 @@ pub struct Tally {
     pub count: u64,
     pub late: u64,
     pub worst: u64,
-}
-
-fn greater(a: u64, b: u64) -> u64
-    ensures { result ≡ max a b }
-{
-    if a < b {
-        return b;
-    }
-    a
-}
-
-// Late means the late limit or more.
-fn one_if_late(d: u64, limit: u64) -> u64
-    ensures { (result ≡ of_bool (nat_le limit d)) × (result ≤ 1) }
-{
-    if limit <= d {
-        return 1;
-    }
-    0
 }
 
 // A late limit of 0 means 1,000.
@@ -53,7 +31,7 @@ fn late_limit(s: &[u8]) -> u64
     n
 }
 
-// A packet of n bytes more, late by d.
+// A packet of n bytes more, late by d; late means the late limit or more.
 fn add_packet(k: Tally, n: usize, d: u64, limit: u64) -> Tally
     requires { (k.need ≤ 17440) × (n ≤ 545) × (k.count ≤ 32) × (k.late ≤ 32) }
     ensures { (result.need ≤ k.need + 545) × (result.count ≤ k.count + 1) × (result.late ≤ k.late + 1) × (result ≡ added n d limit k) }
@@ -61,8 +39,8 @@ fn add_packet(k: Tally, n: usize, d: u64, limit: u64) -> Tally
     Tally {
         need: k.need + n,
         count: k.count + 1,
-        late: k.late + one_if_late(d, limit),
-        worst: greater(k.worst, d),
+        late: k.late + (limit <= d) as u64,
+        worst: k.worst.max(d),
     }
 }
 
@@ -72,8 +50,8 @@ fn count_row(s: &[u8], i: usize, time: u64, limit: u64, k: Tally) -> Tally
 {
     let d = state_fields::due_at(&s[state_layout::TABLE..state_layout::EVENTS], i);
     match d {
-        Due::Never => k,
-        Due::At(t) => {
+        None => k,
+        Some(t) => {
             if time < t {
                 return k;
             }
@@ -86,30 +64,15 @@ fn count_row(s: &[u8], i: usize, time: u64, limit: u64, k: Tally) -> Tally
     }
 }
 
-// Without a jump.
-fn lesser(a: u64, b: u64) -> u64
-    ensures { result ≡ min a b }
-{
-    if a < b {
-        return a;
-    }
-    b
-}
-
 // Whether any is due, by the least due time of all rows. The due number is 0 for never: one less wraps to the largest number, which
 // no time reaches.
 pub fn any_due(r: &[u8], n: usize, time: u64) -> bool
     requires { (n ≤ 32) × (table_size ≤ length r.now) × (time < 9223372036854775808) }
     ensures { result ≡ any (due time) (conns_in n r.now) }
 {
-    let mut m: u64 = 18446744073709551615;
-    let mut i = 0;
-    while i < n {
-        m = lesser(
-            m,
-            std::num::wrapping_sub_u64(state_fields::due_number_at(r, i), 1),
-        );
-        i += 1;
+    let mut m = u64::MAX;
+    for i in 0..n {
+        m = m.min(state_fields::due_number_at(r, i).wrapping_sub(1));
     }
     m <= time
 }
@@ -126,10 +89,8 @@ pub fn count_all(s: &[u8], time: u64) -> Tally
         late: 0,
         worst: base_cells::u64_at(s, state_layout::MAX_LATE),
     };
-    let mut i = 0;
-    while i < n {
+    for i in 0..n {
         k = count_row(s, i, time, limit, k);
-        i += 1;
     }
     k
 }

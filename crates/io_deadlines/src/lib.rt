@@ -1,22 +1,15 @@
 // The next deadline: the least of producing due times and receive time plus timeout.
 #![tactic(auto)]
 
-ghost use Rattle.std.specs.Prelude.{◌≡◌, ℕ, ◌+◌, ◌*◌, ◌<◌, ◌≤◌, min, length};
-ghost use Rattle.std.proofs.Math.Option.{some};
+ghost use Rattle.std.specs.Prelude.{◌≡◌, ℕ, ◌+◌, ◌*◌, ◌<◌, ◌≤◌, length, Some};
+ghost use Rattle.rules.specs.Answers.{outcome_number};
 ghost use Rattle.rules.specs.Removal.{deadline_of, deadline, deadline_answer};
 ghost use Rattle.state_rules.specs.Rows.{conn_at, conns_in};
 ghost use Rattle.state_rules.specs.Places.{table_size};
 ghost use Rattle.state_image.specs.Holds.{Ready};
 ghost use Rattle.io_deadlines.specs.Reading.{Answers};
 
-fn lesser(a: u64, b: u64) -> u64
-    ensures { result ≡ min a b }
-{
-    if a < b {
-        return a;
-    }
-    b
-}
+use rules::No;
 
 // The due number is 0 for never: one less wraps to the largest number, and no jump is needed.
 fn row_deadline(r: &[u8], i: usize) -> u64
@@ -25,39 +18,36 @@ fn row_deadline(r: &[u8], i: usize) -> u64
 {
     let until = state_fields::until_at(r, i);
     let due = state_fields::due_number_at(r, i);
-    lesser(until, std::num::wrapping_sub_u64(due, 1))
+    until.min(due.wrapping_sub(1))
 }
 
 fn least(r: &[u8], n: usize) -> u64
     requires { (0 < n) × (n ≤ 32) × (table_size ≤ length r.now) }
-    ensures { deadline (conns_in n r.now) ≡ some result }
+    ensures { deadline (conns_in n r.now) ≡ Some result }
 {
-    let first = row_deadline(r, 0);
-    let mut m = first;
-    let mut i = 1;
-    while i < n {
-        m = lesser(m, row_deadline(r, i));
-        i += 1;
+    let mut m = row_deadline(r, 0);
+    for i in 1..n {
+        m = m.min(row_deadline(r, i));
     }
     m
 }
 
 // The answer of a state that passed its test, with the time in the output's first 8 bytes.
-pub fn next_deadline(s: &[u8], out: &mut [u8]) -> u64
+pub fn next_deadline(s: &[u8], out: &mut [u8]) -> Result<u16, No>
     requires { Ready s.now }
-    ensures { Answers deadline_answer s.now out.old result out.new }
+    ensures { Answers deadline_answer s.now out.old (outcome_number result) out.new }
 {
     let n = base_cells::u16_at(s, state_layout::CONNECTIONS) as usize;
     if n == 0 {
-        return 9;
+        return Err(No::NothingThere);
     }
     if out.len() < 8 {
-        return 8;
+        return Err(No::NoRoom);
     }
     base_cells::put_u64(
         out,
         0,
         least(&s[state_layout::TABLE..state_layout::EVENTS], n),
     );
-    2048
+    Ok(8)
 }

@@ -1,40 +1,21 @@
 -- One law for each way out of the functions that decide.
-use Rattle.std.specs.Prelude.{ℕ, ◌+◌, ◌≤◌, ◌<◌, Bool, true, false, ◌&&◌, ◌||◌, List, ◌≡◌, refl, eqb, leb, length}
-use Rattle.std.proofs.Common.{ap, sym, ◌∙◌, arith}
-use borrow.Author.Tests.{le-leb, lt-leb, eq-eqb, ne_eqb}
+use Rattle.std.specs.Prelude.{ℕ, ◌+◌, ◌≤◌, ◌<◌, Bool, true, false, not, ◌&&◌, ◌||◌, List, ◌≡◌, refl, eqb, leb}
+use Rattle.std.proofs.Common.{ap, ◌∙◌, arith}
+use borrow.Author.Tests.{le-leb, lt-leb}
 use Rattle.base_ids.specs.declared.OtId.{OtId}
-use Rattle.rules.specs.State.{is_owner}
 use Rattle.rules.specs.Receiving.{ahead, newer}
-use Rattle.rules.specs.declared.Kind.{Kind}
 use Rattle.rules.specs.declared.Heard.{Heard}
-use Rattle.state_rules.specs.Rows.{dec_fixed, dec_conn, conn_at}
+use Rattle.state_rules.specs.Rows.{dec_conn, conn_at}
 use Rattle.state_rules.specs.Places.{row_size}
 use Rattle.state_searches.specs.Searches.{search_miss}
 use Rattle.io_hearing.specs.Decisions.{has_id, hears, id_in_four, place_from}
 
--- ---- the connection that is meant
-
-module _ (b : List ℕ) (x id : OtId) (from : ℕ) (ex : x ≡ (dec_fixed b).otid) where
-  pub other_id : (x.0 ≡ id.0 → ⊥) → false ≡ hears id from (dec_conn b)
-  other_id n =
-      let e : (dec_fixed b).otid.0 ≡ x.0 = ap (λ (z : OtId). z.0) (sym ex) in
-      sym (ap (λ (v : Bool). v && eqb (dec_fixed b).originator from) (ne_eqb (dec_fixed b).otid.0 id.0 (λ q. n (sym e ∙ q))))
-
-  pub same_id : x.0 ≡ id.0 → (y : ℕ) → y ≡ (dec_fixed b).originator → eqb y from ≡ hears id from (dec_conn b)
-  same_id q y ey =
-      let e : (dec_fixed b).otid.0 ≡ x.0 = ap (λ (z : OtId). z.0) (sym ex) in
-      ap (λ (z : ℕ). eqb z from) ey
-      ∙ sym (ap (λ (v : Bool). v && eqb (dec_fixed b).originator from) (eq-eqb (dec_fixed b).otid.0 id.0 (e ∙ q)))
-
 -- ---- four rows at once
 
 pub four_is : (id : OtId) (r : List ℕ) (i : ℕ) (a b c d : OtId) → a ≡ (conn_at r i).fixed.otid → b ≡ (conn_at r (i + 1)).fixed.otid
-    → c ≡ (conn_at r (i + 2)).fixed.otid → d ≡ (conn_at r (i + 3)).fixed.otid → (x y z : Bool) → x ≡ eqb a.0 id.0 || eqb b.0 id.0
-    → y ≡ eqb c.0 id.0 || eqb d.0 id.0 → z ≡ x || y → z ≡ id_in_four id r i
-four_is id r i a b c d ea eb ec ed x y z ex ey ez =
-    ez
-    ∙ (λ j. ex j || ey j)
-    ∙ (λ j. (eqb (ea j).0 id.0 || eqb (eb j).0 id.0) || (eqb (ec j).0 id.0 || eqb (ed j).0 id.0))
+    → c ≡ (conn_at r (i + 2)).fixed.otid → d ≡ (conn_at r (i + 3)).fixed.otid
+    → (eqb a.0 id.0 || eqb b.0 id.0) || (eqb c.0 id.0 || eqb d.0 id.0) ≡ id_in_four id r i
+four_is id r i a b c d ea eb ec ed = λ j. (eqb (ea j).0 id.0 || eqb (eb j).0 id.0) || (eqb (ec j).0 id.0 || eqb (ed j).0 id.0)
 
 true_false : {P : Type 0} → ◌≡◌ {A = Bool} true false → P
 true_false e = absurd (let z : ◌≡◌ {A = ℕ} 0 1 = cc in omega arith)
@@ -68,27 +49,16 @@ module _ (id : OtId) (from n : ℕ) (r : List ℕ) where
 -- ---- sequences
 
 module _ (h : Heard) (q : ℕ) where
-  pub newer_first : h.any ≡ false → true ≡ newer h q
+  pub newer_first : h.any ≡ false → not h.any ≡ newer h q
   unfolding newer
   newer_first e = simp e
 
-  pub newer_low : h.any ≡ true → ahead h.sequence q < 1 → false ≡ newer h q
-  unfolding newer
-  newer_low e p = simp (e, lt-leb 1 (ahead h.sequence q) p)
+  -- how far ahead it is, as code takes it
+  module _ (e : h.any ≡ true) (a : ℕ) (f : ahead h.sequence q ≡ a) where
+    pub newer_low : a < 1 → leb 1 a ≡ newer h q
+    unfolding newer
+    newer_low p = simp (e, f, lt-leb 1 a p)
 
-  pub newer_rest : h.any ≡ true → 1 ≤ ahead h.sequence q → leb (ahead h.sequence q) 2147483647 ≡ newer h q
-  unfolding newer
-  newer_rest e p = simp (e, le-leb 1 (ahead h.sequence q) p)
-
-  pub repeats_not : h.anycip ≡ false → false ≡ h.anycip && eqb h.cip q
-  repeats_not e = simp e
-
-  pub repeats_rest : h.anycip ≡ true → eqb h.cip q ≡ h.anycip && eqb h.cip q
-  repeats_rest e = simp e
-
-module _ (k : Kind) (o : Bool) (eo : o ≡ is_owner k) (d : List ℕ) where
-  pub cip_not : o ≡ false → false ≡ is_owner k && leb 2 (length d)
-  cip_not e = simp (sym eo ∙ e)
-
-  pub cip_rest : o ≡ true → leb 2 (length d) ≡ is_owner k && leb 2 (length d)
-  cip_rest e = simp (sym eo ∙ e)
+    pub newer_rest : 1 ≤ a → leb a 2147483647 ≡ newer h q
+    unfolding newer
+    newer_rest p = simp (e, f, le-leb 1 a p)

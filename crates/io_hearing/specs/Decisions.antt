@@ -1,6 +1,5 @@
 -- Whom a frame is for.
-use Rattle.std.specs.Prelude.{ℕ, ◌+◌, Bool, ◌&&◌, ◌||◌, List, eqb, drop}
-use Rattle.std.proofs.Math.Option.{Option}
+use Rattle.std.specs.Prelude.{ℕ, ◌+◌, Bool, ◌&&◌, ◌||◌, List, eqb, drop, Option}
 use Rattle.base_ids.specs.declared.OtId.{OtId}
 use Rattle.rules.specs.Lists.{place}
 use Rattle.rules.specs.declared.Conn.{Conn}

@@ -7,35 +7,19 @@ ghost use Rattle.rules.specs.State.{is_owner};
 ghost use Rattle.rules.specs.Receiving.{newer};
 ghost use Rattle.state_rules.specs.Rows.{conn_at, conns_in};
 ghost use Rattle.io_hearing.specs.Decisions.{hears, id_in_four, place_from};
-ghost use Rattle.state_layout.specs.Searched.{place_in};
 ghost use Rattle.state_rules.specs.Places.{table_size};
 
 use base_ids::OtId;
 use rules::{Heard, Kind};
-use state_layout::Found;
 
 fn is_for(r: &[u8], i: usize, id: OtId, from: u32) -> bool
     requires { (i < 32) × (table_size ≤ length r.now) }
     ensures { result ≡ hears id from (conn_at r.now i) }
 {
-    let x = state_fields::otid_at(r, i);
-    if x.0 != id.0 {
-        return false;
-    }
-    state_fields::originator_at(r, i) == from
+    state_fields::otid_at(r, i) == id && state_fields::originator_at(r, i) == from
 }
 
-// Without a jump.
-fn either(a: bool, b: bool) -> bool
-    ensures { result ≡ a || b }
-{
-    if a {
-        return true;
-    }
-    b
-}
-
-// Whether one of the four rows from i on has the O→T id: all four are looked at.
+// Whether one of the four rows from i on has the O→T id: all four are looked at, and `|` has no jump.
 fn any_of_four(r: &[u8], i: usize, id: OtId) -> bool
     requires { (i + 4 ≤ 32) × (table_size ≤ length r.now) }
     ensures { result ≡ id_in_four id r.now i }
@@ -44,31 +28,21 @@ fn any_of_four(r: &[u8], i: usize, id: OtId) -> bool
     let b = state_fields::otid_at(r, i + 1);
     let c = state_fields::otid_at(r, i + 2);
     let d = state_fields::otid_at(r, i + 3);
-    either(
-        either(a.0 == id.0, b.0 == id.0),
-        either(c.0 == id.0, d.0 == id.0),
-    )
+    ((a.0 == id.0) | (b.0 == id.0)) | ((c.0 == id.0) | (d.0 == id.0))
 }
 
 // The first row from a start on that the frame is for.
-fn find_from(r: &[u8], start: usize, n: usize, id: OtId, from: u32) -> Found
+fn find_from(r: &[u8], start: usize, n: usize, id: OtId, from: u32) -> Option<usize>
     requires { (start ≤ n) × (n ≤ 32) × (table_size ≤ length r.now) }
-    ensures { place_in result ≡ place_from id from n r.now start }
+    ensures { result ≡ place_from id from n r.now start }
 {
-    let mut i = start;
-    while i < n {
-        if is_for(r, i, id, from) {
-            return Found::At(i);
-        }
-        i += 1;
-    }
-    Found::Nowhere
+    (start..n).find(|&i| is_for(r, i, id, from))
 }
 
-// Four rows at once are passed over, up to the first four of which one has the id.
-pub fn find(r: &[u8], n: usize, id: OtId, from: u32) -> Found
+// Four rows at once are passed over, up to the first four of which one has the id: for speed, a jump for four rows.
+pub fn find(r: &[u8], n: usize, id: OtId, from: u32) -> Option<usize>
     requires { (n ≤ 32) × (table_size ≤ length r.now) }
-    ensures { place_in result ≡ place (hears id from) (conns_in n r.now) }
+    ensures { result ≡ place (hears id from) (conns_in n r.now) }
 {
     let mut i = 0;
     while i + 4 <= n {
@@ -84,32 +58,20 @@ pub fn find(r: &[u8], n: usize, id: OtId, from: u32) -> Found
 pub fn is_newer(h: Heard, q: u32) -> bool
     ensures { result ≡ newer h q }
 {
-    if !h.any {
-        return true;
-    }
-    let a = ((q as u64) + 4294967296 - (h.sequence as u64)) % 4294967296;
-    if a < 1 {
-        return false;
-    }
-    a <= 2147483647
+    let a = q.wrapping_sub(h.sequence);
+    !h.any || (1 <= a && a <= 2147483647)
 }
 
 // Whether a CIP sequence is there: an owner alone has one.
 pub fn has_cip(k: Kind, d: &[u8]) -> bool
     ensures { result ≡ is_owner k && leb 2 (length d.now) }
 {
-    if !state_layout::is_owner(k) {
-        return false;
-    }
-    2 <= d.len()
+    state_layout::is_owner(k) && 2 <= d.len()
 }
 
 // Whether the last frame had the same CIP sequence.
 pub fn repeats(h: Heard, cip: u16) -> bool
     ensures { result ≡ h.anycip && eqb h.cip cip }
 {
-    if !h.anycip {
-        return false;
-    }
-    h.cip == cip
+    h.anycip && h.cip == cip
 }

@@ -2,7 +2,7 @@
 use Prim.Native.Nat.{ℕ, ◌+◌, ◌*◌, ◌-◌, ◌%◌, ◌≤◌, ◌<◌}
 use Rattle.std.proofs.Math.Bool.{true}
 use mathlib.Core.List.{List, [], ◌∷◌, ◌++◌}
-use Rattle.std.specs.Prelude.{◌≡◌}
+use Rattle.std.specs.Prelude.{◌≡◌, Option, Some, None}
 use Rattle.std.proofs.Math.Path.{ap, sym}
 use Rattle.std.proofs.Common.{◌∙◌, take-append-drop}
 use native.Mathlib.Omega.{arith}
@@ -15,15 +15,11 @@ use Rattle.base_cells.specs.Numbers.{le, put, le_bytes, sets_append}
 use Rattle.base_cells.specs.BigEndian.{bytes_be, put_be, length_bytes_be}
 use Rattle.base_cells.specs.Writes.{written, written_all}
 use Rattle.base_cells.specs.Records.{of_bool}
-use Rattle.base_cells.specs.declared.Written.{Written}
-use Rattle.base_cells.specs.declared.Written.TheVariants.{Bytes, NoRoom}
 use Rattle.base_tables.specs.Store.{sets_right}
 use Rattle.wire_rules.specs.Writing.{frame_written, behind, frame_appended}
 use Rattle.wire_frames.proofs.WriteLaws.{frame_length}
 use Rattle.rules.specs.State.{Content, content_at, no_content, Shape}
 use Rattle.rules.specs.Producing.{due_by, next_time, next_due}
-use Rattle.rules.specs.declared.Due.{Due}
-use Rattle.rules.specs.declared.Due.TheVariants.{At}
 use Rattle.rules.specs.declared.Fixed.{Fixed}
 use Rattle.rules.specs.declared.Sent.{Sent}
 use Rattle.state_rules.specs.Setups.{shape_in}
@@ -41,10 +37,10 @@ module _ (t rpi v : ℕ) where
   pub next_old : t < v + rpi → v + rpi ≡ next_time t rpi v
   next_old h = rw (lt-leb (v + rpi) t h)
 
-pub due_before : (t v : ℕ) (d : Due) → d ≡ At v → due_by t d ≡ true → v ≤ t
+pub due_before : (t v : ℕ) (d : Option ℕ) → d ≡ Some v → due_by t d ≡ true → v ≤ t
 due_before t v d e h = leb-true v t (ap (due_by t) (sym e) ∙ h)
 
-pub at_due : (t v : ℕ) (d : Due) → d ≡ At v → leb v t ≡ due_by t d
+pub at_due : (t v : ℕ) (d : Option ℕ) → d ≡ Some v → leb v t ≡ due_by t d
 at_due t v d e = sym (ap (due_by t) e)
 
 -- ---- the head and the frame behind it
@@ -90,13 +86,13 @@ module _ (f : Fixed) (x : Sent) (d : List ℕ) where
       let t : length (take 13 o) ≡ 13 = length-take-le 13 o (omega arith) in
       let a : leb 13 (length o) ≡ true = le-leb 13 (length o) (omega arith) in
       let b : leb (2 + length d) 65535 ≡ true = le-leb (2 + length d) 65535 (omega arith) in
-      let w : written (drop 13 o) fr ≡ (Bytes (length fr), sets (drop 13 o) 0 fr) = written_all (drop 13 o) fr (omega arith) in
-      (λ j. (pick (a j) (behind (take 13 o) (pick (b j) (written (drop 13 o) fr) (NoRoom, drop 13 o))) (NoRoom, o)).1)
-      ∙ ap (λ (z : Written × List ℕ). take 13 o ++ z.1) w
+      let w : written (drop 13 o) fr ≡ (Some (length fr), sets (drop 13 o) 0 fr) = written_all (drop 13 o) fr (omega arith) in
+      (λ j. (pick (a j) (behind (take 13 o) (pick (b j) (written (drop 13 o) fr) (None, drop 13 o))) (None, o)).1)
+      ∙ ap (λ (z : Option ℕ × List ℕ). take 13 o ++ z.1) w
       ∙ sym (sets_right (take 13 o) (drop 13 o) 13 t 0 fr)
       ∙ ap (λ (z : List ℕ). sets z 13 fr) (take-append-drop 13 o)
 
-  pub packet_put : (o o₁ o₂ : List ℕ) (n : ℕ) (r : Written) → length d ≤ 512 → 33 + length d ≤ length o → n ≡ 20 + length d
+  pub packet_put : (o o₁ o₂ : List ℕ) (n : ℕ) (r : Option ℕ) → length d ≤ 512 → 33 + length d ≤ length o → n ≡ 20 + length d
       → o₁ ≡ sets o 0 (head f.dest.address f.dest.port (of_bool f.multicast) f.local n)
       → (r, o₂) ≡ frame_appended o₁ 13 f.toid.0 x.sequence x.cip d → o₂ ≡ sets o 0 (packet_of f x d)
   unfolding packet_of
@@ -107,7 +103,7 @@ module _ (f : Fixed) (x : Sent) (d : List ℕ) where
       let k : o₁ ≡ sets o 0 h = e₁ ∙ ap (λ (m : ℕ). sets o 0 (head f.dest.address f.dest.port (of_bool f.multicast) f.local m)) w in
       let lo : length o₁ ≡ length o = ap length k ∙ length-sets o 0 h in
       let lh : 13 ≡ 0 + length h = let z = length_head f.dest.address f.dest.port (of_bool f.multicast) f.local (length fr) in omega arith in
-      ap (λ (z : Written × List ℕ). z.1) e₂
+      ap (λ (z : Option ℕ × List ℕ). z.1) e₂
       ∙ appended_is o₁ p (omega arith)
       ∙ ap (λ (z : List ℕ). sets z 13 fr) k
       ∙ ap (λ (m : ℕ). sets (sets o 0 h) m fr) lh
@@ -129,11 +125,11 @@ module _ (s : List ℕ) (i n : ℕ) (en : n ≡ assemblies_of s) where
 
 -- ---- a step
 
-pub next_at : (t rpi v : ℕ) (d : Due) (n : ℕ) → d ≡ At v → n ≡ next_time t rpi v → n < 18446744073709551615
-    → (At n ≡ next_due t rpi d) × (of_due (At n) < 18446744073709551616)
-next_at t rpi v d n e q b = (ap At q ∙ sym (ap (next_due t rpi) e), omega arith)
+pub next_at : (t rpi v : ℕ) (d : Option ℕ) (n : ℕ) → d ≡ Some v → n ≡ next_time t rpi v → n < 18446744073709551615
+    → (Some n ≡ next_due t rpi d) × (of_due (Some n) < 18446744073709551616)
+next_at t rpi v d n e q b = (ap Some q ∙ sym (ap (next_due t rpi) e), omega arith)
 
-pub step_is : (t rpi : ℕ) (x : Sent) (d : Due) → d ≡ next_due t rpi x.due
+pub step_is : (t rpi : ℕ) (x : Sent) (d : Option ℕ) → d ≡ next_due t rpi x.due
     → record { sequence = (x.sequence + 1) % 4294967296; cip = (x.cip + 1) % 65536; due = d } ≡ stepped t rpi x
 unfolding stepped
 step_is t rpi x d e = λ j. record { sequence = (x.sequence + 1) % 4294967296; cip = (x.cip + 1) % 65536; due = e j }

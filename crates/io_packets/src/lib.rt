@@ -10,7 +10,7 @@ ghost use Rattle.state_rules.specs.Places.{state_size};
 ghost use Rattle.state_image.specs.Holds.{Ready, Slotted};
 ghost use Rattle.io_packets.specs.Steps.{stepped, head, packet_of, Data};
 
-use rules::{Due, Fixed, Sent};
+use rules::{Fixed, Sent};
 
 // Where an assembly's bytes are.
 #[derive(Clone, Copy)]
@@ -21,12 +21,12 @@ pub struct Part {
 
 // ---- one connection
 
-pub fn is_due(d: Due, time: u64) -> bool
+pub fn is_due(d: Option<u64>, time: u64) -> bool
     ensures { result ≡ due_by time d }
 {
     match d {
-        Due::Never => false,
-        Due::At(t) => t <= time,
+        None => false,
+        Some(t) => t <= time,
     }
 }
 
@@ -36,21 +36,18 @@ fn next_time(t: u64, rpi: u32, time: u64) -> u64
     ensures { (result ≡ next_time time rpi t) × (result < 18446744073709551615) }
 {
     let n = t + (rpi as u64);
-    if n <= time {
-        return time + (rpi as u64);
-    }
-    n
+    if n <= time { time + (rpi as u64) } else { n }
 }
 
-fn next_due(d: Due, rpi: u32, time: u64) -> Due
+fn next_due(d: Option<u64>, rpi: u32, time: u64) -> Option<u64>
     requires { (due_by time d ≡ true) × (time < 9223372036854775808) }
     ensures { (result ≡ next_due time rpi d) × (of_due result < 18446744073709551616) }
 {
     match d {
-        Due::Never => Due::Never,
-        Due::At(t) => {
+        None => None,
+        Some(t) => {
             let n = next_time(t, rpi, time);
-            Due::At(n)
+            Some(n)
         }
     }
 }
@@ -63,8 +60,8 @@ pub fn step(x: Sent, rpi: u32, time: u64) -> Sent
     let d = x.due;
     let due = next_due(d, rpi, time);
     Sent {
-        sequence: (((x.sequence as u64) + 1) % 4294967296) as u32,
-        cip: (((x.cip as u32) + 1) % 65536) as u16,
+        sequence: x.sequence.wrapping_add(1),
+        cip: x.cip.wrapping_add(1),
         due: due,
     }
 }

@@ -1,5 +1,5 @@
 -- The call's ways out: nothing due, too little room, sent; and No. 3.
-use Rattle.std.specs.Prelude.{ℕ, ◌+◌, ◌*◌, ◌≤◌, ◌<◌, Bool, true, false, ◌||◌, ◌≡◌, refl}
+use Rattle.std.specs.Prelude.{ℕ, ◌+◌, ◌*◌, ◌^◌, ◌≤◌, ◌<◌, Bool, true, false, ◌||◌, ◌≡◌, refl}
 use mathlib.Core.List.{List, [], ◌∷◌, map}
 use Rattle.std.proofs.Math.Path.{ap, ap₂, sym}
 use Rattle.std.proofs.Common.{◌∙◌}
@@ -12,7 +12,7 @@ use Rattle.base_cells.specs.Back.{Bytes}
 use Rattle.base_tables.specs.Ring.{by_cases}
 use Rattle.rules.specs.Lists.{keep, any}
 use Rattle.rules.specs.State.{State}
-use Rattle.rules.specs.Answers.{Answer, Wrote, Refused, BadTime, NoRoom, answer_number, answer_bytes}
+use Rattle.rules.specs.Answers.{Answer, Wrote, Refused, answer_number, answer_bytes}
 use Rattle.rules.specs.Producing.{due, sends, delays, counted, counters, packets, produce_answer, produce_effect, produce_call}
 use Rattle.rules.specs.declared.Conn.{Conn}
 use Rattle.rules_laws.specs.ListLaws.{clash}
@@ -24,6 +24,7 @@ use Rattle.state_image.specs.Changes.{counters_as}
 use Rattle.io_counting.specs.declared.Tally.{Tally}
 use Rattle.io_counting.specs.Tallies.{totals, Totals}
 use Rattle.io_producing.specs.Passes.{tally_kept, sent_all, SendsAll, Produces}
+use Rattle.rules.specs.declared.No.TheVariants.{BadTime, NoRoom}
 
 -- ---- the answers
 
@@ -132,14 +133,14 @@ module _ (t : ℕ) (s o : List ℕ) (k : Tally) (e : Totals t s k) (early : t < 
       }
 
   -- all of it
-  pub all_out : k.need ≤ length o → (s₁ s₂ o' : List ℕ) → SendsAll t s s₁ o o' → Becomes s₁ s₂ (tally_kept k) → Produces t s s₂ o o' (k.need * 256)
+  pub all_out : k.need ≤ length o → (s₁ s₂ o' : List ℕ) → SendsAll t s s₁ o o' → Becomes s₁ s₂ (tally_kept k) → Produces t s s₂ o o' (2 ^ 8 * k.need)
   unfolding answer_number
   all_out q s₁ s₂ o' d b st l h =
       let n : k.need ≡ length (packets t st.contents st.table) = ap (λ (y : Tally). y.need) (e st l h) in
       let c = done t (length o) st (omega arith) (omega arith) in
       let y = d st l h (omega arith) in
       record {
-        number = (let z : k.need * 256 ≡ 256 * length (packets t st.contents st.table) = omega arith in z) ∙ sym (ap (λ (y : Answer × State). answer_number y.0) c);
+        number = ap (λ (m : ℕ). 2 ^ 8 * m) n ∙ sym (ap (λ (y : Answer × State). answer_number y.0) c);
         is = b (sent_all t st) l y.holds ∙ ap (λ (z : State). store z l) (effect_is t k st (e st l h)) ∙ ap (λ (y : Answer × State). store y.1 l) (sym c);
         out = y.out ∙ ap (λ (y : Answer × State). sets o 0 (answer_bytes y.0)) (sym c);
       }

@@ -1,10 +1,10 @@
 -- Row i: not due, no room, sent.
-use Rattle.std.specs.Prelude.{ℕ, ◌+◌, ◌*◌, ◌-◌, ◌≤◌, ◌<◌, Bool, true, false, cond, List, [], ◌≡◌, length, get_or, take, drop, set}
+use Rattle.std.specs.Prelude.{ℕ, ◌+◌, ◌-◌, ◌≤◌, ◌<◌, Bool, true, false, cond, List, [], ◌≡◌, length, get_or, take, drop, set}
 use Rattle.std.proofs.Common.{ap, sym, ◌∙◌, arith, length-drop, length-take-le}
 use Rattle.std.proofs.lemmas.List.Edits.{sets}
 use Rattle.std.proofs.lemmas.List.{set-get_or}
 use borrow.Rule.Slice.PartMut.{put_mid}
-use Rattle.base_cells.specs.Numbers.{le, lent}
+use Rattle.base_cells.specs.Numbers.{lent}
 use Rattle.rules.specs.State.{State, with_table, with_sent}
 use Rattle.rules.specs.Producing.{due_by, due, sent, sends, input_bytes}
 use Rattle.rules.specs.declared.Conn.{Conn}

@@ -4,7 +4,7 @@ use Rattle.std.proofs.Common.{append_assoc, append-nil, ap, ap₂, sym, ◌∙�
 use Rattle.std.proofs.lemmas.List.{map-append, length-map, set_at, get_or_at}
 use Rattle.std.proofs.lemmas.List.Edits.{sets}
 use Rattle.std.proofs.Math.Seq.{length-sets, append_snoc}
-use Rattle.base_cells.specs.Numbers.{le, sets_append}
+use Rattle.base_cells.specs.Numbers.{sets_append}
 use Rattle.base_tables.specs.Ring.{by_cases}
 use Rattle.rules.specs.Lists.{joined}
 use Rattle.rules.specs.State.{Content, State, with_table}

@@ -3,13 +3,14 @@
 #![tactic(auto)]
 
 ghost use Rattle.std.specs.Prelude.{◌≡◌, ◌+◌, ◌*◌, ◌≤◌, ◌<◌, length};
-ghost use Rattle.rules.specs.Producing.{counted};
+ghost use Rattle.rules.specs.Answers.{outcome_number};
 ghost use Rattle.state_rules.specs.Places.{connections_of};
 ghost use Rattle.state_image.specs.Holds.{Ready, Slotted, Becomes};
 ghost use Rattle.state_image.specs.Kept.{Kept};
 ghost use Rattle.io_producing.specs.Passes.{Sends, SendsAll, tally_kept, Produces};
 
 use io_counting::Tally;
+use rules::No;
 
 // Row i steps, and its packet is written at its place; how many bytes it has. Where there was room for all, there is room for it.
 fn send_row(s: &mut [u8], out: &mut [u8], at: usize, i: usize, time: u64) -> usize
@@ -17,8 +18,7 @@ fn send_row(s: &mut [u8], out: &mut [u8], at: usize, i: usize, time: u64) -> usi
     ensures { (at + result ≤ length out.old) × Kept (connections_of s.old) s.old s.new × Sends time i at s.old s.new out.old out.new result }
 {
     let x = state_rows::sent_at(&s[state_layout::TABLE..state_layout::EVENTS], i);
-    let d = x.due;
-    if !io_packets::is_due(d, time) {
+    if !io_packets::is_due(x.due, time) {
         return 0;
     }
     let f = state_rows::fixed_at(&s[state_layout::TABLE..state_layout::EVENTS], i);
@@ -39,59 +39,48 @@ fn send_all(s: &mut [u8], out: &mut [u8], time: u64)
     ensures { Ready s.new × SendsAll time s.old s.new out.old out.new }
 {
     let n = base_cells::u16_at(s, state_layout::CONNECTIONS) as usize;
-    let mut i = 0;
     let mut at: usize = 0;
-    while i < n {
-        at = at + send_row(s, out, at, i, time);
-        i += 1;
+    for i in 0..n {
+        at += send_row(s, out, at, i, time);
     }
 }
 
 // ---- the counters
 
-// n and more; a counter stops at its largest value.
-fn count_on(n: u64, more: u64) -> u64
-    ensures { result ≡ counted n more }
-{
-    if 18446744073709551615 - n < more {
-        return 18446744073709551615;
-    }
-    n + more
-}
-
+// A counter stops at its largest value.
 fn keep_tally(s: &mut [u8], k: Tally)
     requires { Ready s.old }
     ensures { Becomes s.old s.new (tally_kept k) }
 {
-    let produced = count_on(base_cells::u64_at(s, state_layout::PRODUCED), k.count);
-    let late = count_on(base_cells::u64_at(s, state_layout::LATE), k.late);
+    let produced = base_cells::u64_at(s, state_layout::PRODUCED).saturating_add(k.count);
+    let late = base_cells::u64_at(s, state_layout::LATE).saturating_add(k.late);
     state_changes::set_counters(s, produced, late, k.worst);
 }
 
 // ---- the call
 
-// What is due counted and sent: 8 where the output is too short, and then nothing steps; else the bytes written, times 256.
-fn produce_due(s: &mut [u8], time: u64, out: &mut [u8]) -> u64
+// What is due counted and sent; where the output is too short nothing steps.
+fn produce_due(s: &mut [u8], time: u64, out: &mut [u8]) -> Result<u16, No>
     requires { Ready s.old × Slotted s.old × (time < 9223372036854775808) }
-    ensures { Produces time s.old s.new out.old out.new result }
+    ensures { Produces time s.old s.new out.old out.new (outcome_number result) }
 {
     let k = io_counting::count_all(s, time);
     if out.len() < k.need {
-        return 8;
+        return Err(No::NoRoom);
     }
     send_all(s, out, time);
     keep_tally(s, k);
-    (k.need as u64) * 256
+    Ok(k.need as u16)
 }
 
 // The answer of a state that passed its test. Whether anything is due is asked first: most calls end there.
-pub fn produce(s: &mut [u8], time: u64, out: &mut [u8]) -> u64
+pub fn produce(s: &mut [u8], time: u64, out: &mut [u8]) -> Result<u16, No>
     requires { Ready s.old × Slotted s.old × (time < 9223372036854775808) }
-    ensures { Produces time s.old s.new out.old out.new result }
+    ensures { Produces time s.old s.new out.old out.new (outcome_number result) }
 {
     let n = base_cells::u16_at(s, state_layout::CONNECTIONS) as usize;
     if !io_counting::any_due(&s[state_layout::TABLE..state_layout::EVENTS], n, time) {
-        return 0;
+        return Ok(0);
     }
     produce_due(s, time, out)
 }

@@ -1,8 +1,7 @@
 -- The state test accepts what receive leaves.
 use Prim.Native.Nat.{ℕ, ◌+◌}
-use Rattle.std.specs.Prelude.{true, not, ◌&&◌, ◌≡◌, refl, eqb, ltb}
+use Rattle.std.specs.Prelude.{true, not, ◌&&◌, ◌≡◌, refl, eqb, ltb, Option, Some, None}
 use mathlib.Core.List.{List, [], ◌∷◌}
-use Rattle.std.proofs.Math.Option.{Option, none, some}
 use Rattle.std.proofs.Common.{◌∙◌, arith, length-drop}
 use Rattle.std.proofs.Math.ListN.{length}
 use Rattle.rules.specs.Lists.{maybe, find, change_first}
@@ -65,16 +64,16 @@ module _ (l : List ℕ) where
       suits_table _ l parts cs (omega arith) (fits_change (meant_for from f) (hear t f) (hear_fixed t f) st.table w.fits.rows)
     where
       go : (to : Option Conn) → Suits (with_events (pushed_all (maybe [] (λ c. output_events st.setup f c st.contents) to) st.events) (with_contents (maybe st.contents (λ c. delivered st.setup f c st.contents) to) st)) l
-      go none = suits_one [] st w
-      go (some c) = suits_one (output_events st.setup f c st.contents) (with_contents (delivered st.setup f c st.contents) st) (suits_delivered f c st w)
+      go None = suits_one [] st w
+      go (Some c) = suits_one (output_events st.setup f c st.contents) (with_contents (delivered st.setup f c st.contents) st) (suits_delivered f c st w)
 
   suits_effect : (t from : ℕ) (bytes : List ℕ) (st : State) → Suits st l → Suits (receive_effect t from bytes st) l
   unfolding receive_effect
   suits_effect t from bytes st w = go (frame_of bytes (io_of bytes))
     where
       go : (o : Option Frame) → Suits (maybe st (λ f. received t from f st) o) l
-      go none = w
-      go (some f) = suits_received t from f st w
+      go None = w
+      go (Some f) = suits_received t from f st w
 
   pub receive_suits : tested l ≡ true → (t from : ℕ) (bytes : List ℕ) → Suits (receive_call t from bytes (view l)).1 l
   unfolding receive_call

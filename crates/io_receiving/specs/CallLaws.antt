@@ -4,8 +4,9 @@ use Rattle.std.proofs.Common.{ap, ◌∙◌, le-leb}
 use Rattle.std.proofs.Math.Path.{sym}
 use Rattle.std.proofs.lemmas.Bool.{lt-leb}
 use Rattle.rules.specs.State.{State}
-use Rattle.rules.specs.Answers.{Answer, Done, Refused, BadTime, answer_number}
+use Rattle.rules.specs.Answers.{Answer, Done, Refused, answer_number}
 use Rattle.rules.specs.Receiving.{receive_answer, receive_effect, receive_call}
+use Rattle.rules.specs.declared.No.TheVariants.{BadTime}
 
 module _ (t from : ℕ) (bytes : List ℕ) (st : State) where
   late : 9223372036854775807 < t → receive_call t from bytes st ≡ (Refused BadTime, st)

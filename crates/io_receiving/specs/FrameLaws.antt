@@ -1,7 +1,6 @@
 -- A frame's payload lies inside it, and what each kind of frame does.
-use Rattle.std.specs.Prelude.{ℕ, zero, suc, ◌+◌, ◌-◌, ◌≤◌, ◌<◌, Bool, true, false, ◌≡◌, refl, eqb, leb, length, drop}
+use Rattle.std.specs.Prelude.{ℕ, zero, suc, ◌+◌, ◌-◌, ◌≤◌, ◌<◌, Bool, true, false, ◌≡◌, refl, eqb, leb, length, drop, Option, None, Result, Ok, Err}
 use mathlib.Core.List.{List, [], ◌∷◌}
-use Rattle.std.proofs.Math.Option.{Option, none, some}
 use Rattle.std.proofs.Math.Path.{ap}
 use Rattle.std.proofs.Common.{sym, ◌∙◌, leb-true}
 use native.Mathlib.Omega.{arith}
@@ -11,8 +10,6 @@ use Rattle.base_cells.specs.Numbers.{le}
 use Rattle.base_tables.specs.Ring.{by_cases}
 use Rattle.base_ids.specs.declared.OtId.{OtId}
 use Rattle.wire_rules.specs.declared.Cursor.{Cursor}
-use Rattle.wire_rules.specs.declared.Start.{Start}
-use Rattle.wire_rules.specs.declared.Start.TheVariants.{At, NoCount}
 use Rattle.wire_rules.specs.declared.Step.{Step}
 use Rattle.wire_rules.specs.declared.Step.TheVariants.{Item, End, Broken as BrokenStep}
 use Rattle.wire_rules.specs.declared.IoFrame.{IoFrame}
@@ -53,9 +50,9 @@ inside_from (suc n) s at =
     rw t (inside_cons (length s) (record { kind = le 2 s at; start = at + 4; len = le 2 s (at + 2) }) h (items_from n s (item_end s at)) (inside_from n s (item_end s at))))
     (λ t. rw t tt)
 
-inside_begun : (s : List ℕ) (b : Start) → AllInside (length s) (begun b (λ c. items_from c.left s c.at))
-inside_begun s (At c) = inside_from c.left s c.at
-inside_begun s (NoCount o) = tt
+inside_begun : (s : List ℕ) (b : Result Cursor ℕ) → AllInside (length s) (begun b (λ c. items_from c.left s c.at))
+inside_begun s (Ok c) = inside_from c.left s c.at
+inside_begun s (Err o) = tt
 
 inside_all : (s : List ℕ) → AllInside (length s) (items_of s)
 unfolding items_of
@@ -95,7 +92,7 @@ payload_inside s x id q start len ex e = inside_items s (items_of s) (inside_all
 -- ---- what a frame does
 
 module _ (s frame : List ℕ) (t from : ℕ) (x : IoFrame) (ex : x ≡ io_of frame) where
-  pub receive_none : frame_of frame x ≡ none → Becomes s s (receive_effect t from frame)
+  pub receive_none : frame_of frame x ≡ None → Becomes s s (receive_effect t from frame)
   unfolding receive_effect
   receive_none e st l h =
       h.is ∙ ap (λ (z : Option Frame). store (maybe st (λ (f : Frame). received t from f st) z) l) (sym (ap (frame_of frame) (sym ex) ∙ e))

@@ -1,9 +1,8 @@
 -- A frame at its connection: what code leaves is the store of what the rule says.
 use Prim.Native.Nat.{ℕ, zero, suc, ◌+◌, ◌*◌, ◌≤◌, ◌<◌}
-use Rattle.std.specs.Prelude.{Bool, ◌&&◌, ◌||◌, ◌≡◌, refl, eqb, leb, ltb, length}
+use Rattle.std.specs.Prelude.{Bool, ◌&&◌, ◌||◌, ◌≡◌, refl, eqb, leb, ltb, length, Option, Some, None}
 use Rattle.std.proofs.Math.Bool.{true, false, cond, not}
 use mathlib.Core.List.{List, [], ◌∷◌}
-use Rattle.std.proofs.Math.Option.{Option, none, some}
 use Rattle.std.proofs.Math.Path.{ap, sym}
 use Rattle.std.proofs.Common.{ap₂, ◌∙◌, arith}
 use Rattle.std.proofs.Math.ListN.{get_or, set}
@@ -31,9 +30,6 @@ use Rattle.state_image.specs.Holds.{Holds, Becomes, conns_held, conn_held, table
 use Rattle.state_image.specs.Kept.{suits_row}
 use Rattle.state_image.specs.Changes.{heard_as}
 use Rattle.state_searches.specs.Searches.{place_in_lem, find_at, change_at_lem, change_at_place}
-use Rattle.state_layout.specs.Searched.{place_in}
-use Rattle.state_layout.specs.declared.Found.{Found}
-use Rattle.state_layout.specs.declared.Found.TheVariants.{At, Nowhere}
 use Rattle.io_receiving.specs.Steps.{hears, heard_at, accepted, offered, Offers, Hears, HearsFrom}
 
 -- ---- states
@@ -172,29 +168,29 @@ module _ (s : List ℕ) (st : State) (l : List ℕ) (h : Holds s st l) (i : ℕ)
 
 -- ---- hear_from
 
-none_of : (o : Option ℕ) → maybe none (λ (i : ℕ). some (suc i)) o ≡ none → o ≡ none
-none_of none e = refl
-none_of (some i) e = absurd (let z : ◌≡◌ {A = ℕ} 0 1 = cc in omega arith)
+none_of : (o : Option ℕ) → maybe None (λ (i : ℕ). Some (suc i)) o ≡ None → o ≡ None
+none_of None e = refl
+none_of (Some i) e = absurd (let z : ◌≡◌ {A = ℕ} 0 1 = cc in omega arith)
 
 module _ (pr : Conn → Bool) where
-  none_here : (x : Conn) (xs : List Conn) → place pr (x ∷ xs) ≡ none → (pr x ≡ false) × (place pr xs ≡ none)
+  none_here : (x : Conn) (xs : List Conn) → place pr (x ∷ xs) ≡ None → (pr x ≡ false) × (place pr xs ≡ None)
   none_here x xs e =
       by_cases (pr x)
-      (λ w. absurd (let k : some 0 ≡ none = ap (λ (b : Bool). cond b (some 0) (maybe none (λ (i : ℕ). some (suc i)) (place pr xs))) (sym w) ∙ e in let z : ◌≡◌ {A = ℕ} 0 1 = cc in omega arith))
-      (λ w. (w, none_of (place pr xs) (ap (λ (b : Bool). cond b (some 0) (maybe none (λ (i : ℕ). some (suc i)) (place pr xs))) (sym w) ∙ e)))
+      (λ w. absurd (let k : Some 0 ≡ None = ap (λ (b : Bool). cond b (Some 0) (maybe None (λ (i : ℕ). Some (suc i)) (place pr xs))) (sym w) ∙ e in let z : ◌≡◌ {A = ℕ} 0 1 = cc in omega arith))
+      (λ w. (w, none_of (place pr xs) (ap (λ (b : Bool). cond b (Some 0) (maybe None (λ (i : ℕ). Some (suc i)) (place pr xs))) (sym w) ∙ e)))
 
-  pub find_none : (xs : List Conn) → place pr xs ≡ none → find pr xs ≡ none
+  pub find_none : (xs : List Conn) → place pr xs ≡ None → find pr xs ≡ None
   find_none [] e = refl
-  find_none (x ∷ xs) e = let k = none_here x xs e in ap (λ (b : Bool). cond b (some x) (find pr xs)) k.0 ∙ find_none xs k.1
+  find_none (x ∷ xs) e = let k = none_here x xs e in ap (λ (b : Bool). cond b (Some x) (find pr xs)) k.0 ∙ find_none xs k.1
 
-  pub change_none : (u : Conn → Conn) (xs : List Conn) → place pr xs ≡ none → change_first pr u xs ≡ xs
+  pub change_none : (u : Conn → Conn) (xs : List Conn) → place pr xs ≡ None → change_first pr u xs ≡ xs
   change_none u [] e = refl
   change_none u (x ∷ xs) e =
       let k = none_here x xs e in
       ap (λ (b : Bool). cond b (u x ∷ xs) (x ∷ change_first pr u xs)) k.0 ∙ ap (λ (z : List Conn). x ∷ z) (change_none u xs k.1)
 
 module _ (t from : ℕ) (f : Frame) (st : State) where
-  there_state : (i : ℕ) → place (meant_for from f) st.table ≡ some i → received t from f st ≡ heard_at t f i st
+  there_state : (i : ℕ) → place (meant_for from f) st.table ≡ Some i → received t from f st ≡ heard_at t f i st
   unfolding received heard_at pushed_all
   there_state i e =
       let fd = find_at (meant_for from f) no_conn st.table i e in
@@ -209,7 +205,7 @@ module _ (t from : ℕ) (f : Frame) (st : State) where
         counters = st.counters;
       }
 
-  nowhere_state : place (meant_for from f) st.table ≡ none → received t from f st ≡ st
+  nowhere_state : place (meant_for from f) st.table ≡ None → received t from f st ≡ st
   unfolding received pushed_all
   nowhere_state e =
       let fd = find_none (meant_for from f) st.table e in
@@ -225,21 +221,21 @@ module _ (t from : ℕ) (f : Frame) (st : State) where
       }
 
 module _ (s : List ℕ) (t from : ℕ) (id : OtId) (q : ℕ) (d : List ℕ) (n : ℕ) (en : n ≡ connections_of s)
-    (r : Found) (er : place_in r ≡ place (hears id from) (conns_in n (table_in s))) where
+    (r : Option ℕ) (er : r ≡ place (hears id from) (conns_in n (table_in s))) where
   abbrev frame : Frame
   frame = record { id = id; sequence = q; payload = d }
 
-  place_is : (st : State) (l : List ℕ) → Holds s st l → place (hears id from) st.table ≡ place_in r
+  place_is : (st : State) (l : List ℕ) → Holds s st l → place (hears id from) st.table ≡ r
   place_is st l h = ap (place (hears id from)) (sym (ap (λ (k : ℕ). conns_in k (table_in s)) en ∙ table_held s st l h)) ∙ sym er
 
-  pub found_inside : (i : ℕ) → r ≡ At i → i < connections_of s
+  pub found_inside : (i : ℕ) → r ≡ Some i → i < connections_of s
   found_inside i e =
-      let z = place_in_lem (hears id from) no_conn (conns_in n (table_in s)) i (sym er ∙ ap place_in e) in
+      let z = place_in_lem (hears id from) no_conn (conns_in n (table_in s)) i (sym er ∙ e) in
       let k = length_rows row_size dec_conn n (table_in s) in omega arith
 
-  pub from_found : (i : ℕ) → r ≡ At i → (s₂ : List ℕ) → Hears i t q d s s₂ → HearsFrom t from id q d s s₂
+  pub from_found : (i : ℕ) → r ≡ Some i → (s₂ : List ℕ) → Hears i t q d s s₂ → HearsFrom t from id q d s s₂
   from_found i e s₂ b st l h =
-      b frame refl refl st l h ∙ ap (λ (z : State). store z l) (sym (there_state t from frame st i (place_is st l h ∙ ap place_in e)))
+      b frame refl refl st l h ∙ ap (λ (z : State). store z l) (sym (there_state t from frame st i (place_is st l h ∙ e)))
 
-  pub from_nowhere : r ≡ Nowhere → HearsFrom t from id q d s s
-  from_nowhere e st l h = h.is ∙ ap (λ (z : State). store z l) (sym (nowhere_state t from frame st (place_is st l h ∙ ap place_in e)))
+  pub from_nowhere : r ≡ None → HearsFrom t from id q d s s
+  from_nowhere e st l h = h.is ∙ ap (λ (z : State). store z l) (sym (nowhere_state t from frame st (place_is st l h ∙ e)))

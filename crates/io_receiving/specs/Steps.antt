@@ -1,7 +1,6 @@
 -- A frame taken in step by step, as code does it: at the connection of a place, at the output of a place. Laws.antt shows that the
 -- steps come to the rule.
 use Rattle.std.specs.Prelude.{ℕ, ◌+◌, ◌≤◌, ◌<◌, Bool, cond, not, ◌&&◌, List, [], ◌∷◌, ◌≡◌, eqb, ltb, length, get_or, set, drop}
-use Rattle.std.proofs.Math.Option.{Option, none, some}
 use Rattle.base_ids.specs.declared.OtId.{OtId}
 use Rattle.rules.specs.Lists.{same}
 use Rattle.rules.specs.State.{State, content_at, shape_at, with_contents}

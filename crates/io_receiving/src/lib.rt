@@ -13,7 +13,7 @@ ghost use Rattle.io_receiving.specs.Steps.{Replaces, TakesIn, Offers, Hears, Hea
 
 use base_ids::OtId;
 use rules::Heard;
-use state_layout::Found;
+use state_events::AssemblyChange;
 use wire_rules::IoFrame;
 
 // How long a connection lives that was heard at a time.
@@ -67,7 +67,7 @@ fn take_in(s: &mut [u8], i: usize, d: &[u8])
     if told {
         return;
     }
-    state_events::tell_assembly(s, 5, instance, 0);
+    state_events::tell_assembly(s, AssemblyChange::OutputChanged, instance, 0);
 }
 
 // The data behind CIP sequence and header must be of the output's size.
@@ -132,10 +132,10 @@ fn hear_from(s: &mut [u8], time: u64, from: u32, id: OtId, q: u32, d: &[u8])
 {
     let n = base_cells::u16_at(s, state_layout::CONNECTIONS) as usize;
     match io_hearing::find(&s[state_layout::TABLE..state_layout::EVENTS], n, id, from) {
-        Found::At(i) => {
+        Some(i) => {
             hear(s, i, time, q, d);
         }
-        Found::Nowhere => {}
+        None => {}
     }
 }
 

@@ -1,23 +1,22 @@
 -- MESSAGE on lent bytes: No. 1 where the state test or the position's own test fails, else the rules' answer as its number,
 -- the position that it leaves, and its reply at the start of the output.
-use Rattle.std.specs.Prelude.{ℕ, ◌*◌, ◌^◌, ◌≤◌, ◌<◌, Bool, true, false, ◌&&◌, List, [], ◌≡◌, refl, length}
+use Rattle.std.specs.Prelude.{ℕ, ◌*◌, ◌^◌, ◌≤◌, ◌<◌, true, false, ◌&&◌, List, ◌≡◌, length, Option}
+use Rattle.rules.specs.declared.objects.Position.{Position}
 use Rattle.std.proofs.Common.{ap, ◌∙◌}
 use Rattle.std.proofs.Math.Path.{sym}
 use Rattle.std.proofs.lemmas.List.Edits.{sets}
 use Rattle.base_cells.specs.Pick.{pick}
 use Rattle.wire_rules.specs.Requests.{request_of}
-use Rattle.rules.specs.declared.objects.Upload.{Upload}
-use Rattle.rules.specs.State.{State}
-use Rattle.rules.specs.Attributes.{Outcome}
-use Rattle.rules.specs.Answers.{Answer, answer_number, answer_bytes, Wrote, Refused, NoRoom}
-use Rattle.rules.specs.Message.{service_of, message_outcome, message_reply, reply_room, message_call}
+use Rattle.rules.specs.Answers.{Answer, answer_number, answer_bytes, Wrote, Refused}
+use Rattle.rules.specs.Message.{service_of, message_outcome, message_reply, message_call}
 use Rattle.rules_laws.specs.ReplyLaws.{no_room, always_replied}
 use Rattle.state_rules.specs.Image.{view, tested}
 use Rattle.msg_positions.specs.Positions.{dec_upload, enc_upload}
 use Rattle.msg_answering.specs.Positions.{position_tested}
 use Rattle.msg_answering.specs.Replies.{replied}
+use Rattle.rules.specs.declared.No.TheVariants.{NoRoom}
 
-abbrev pub message_on : ℕ → ℕ → List ℕ → List ℕ → List ℕ → List ℕ → Answer × Upload
+abbrev pub message_on : ℕ → ℕ → List ℕ → List ℕ → List ℕ → List ℕ → Answer × Option Position
 message_on local mask message l upload out = message_call local mask message (length out) (view l) (dec_upload upload)
 
 unfoldable pub lifted_message : ℕ → ℕ → List ℕ → List ℕ → List ℕ → List ℕ → ℕ × (List ℕ × List ℕ)
@@ -43,9 +42,9 @@ module _ (local mask : ℕ) (message l upload out : List ℕ) where
       unfolding lifted_message
       passes = rw (t, p)
 
-      answered : (a : Answer) (up : Upload) → message_on local mask message l upload out ≡ (a, up)
+      answered : (a : Answer) (up : Option Position) → message_on local mask message l upload out ≡ (a, up)
           → lifted_message local mask message l upload out ≡ (answer_number a, (enc_upload up, sets out 0 (answer_bytes a)))
-      answered a up e = passes ∙ ap (λ (z : Answer × Upload). (answer_number z.0, (enc_upload z.1, sets out 0 (answer_bytes z.0)))) e
+      answered a up e = passes ∙ ap (λ (z : Answer × Option Position). (answer_number z.0, (enc_upload z.1, sets out 0 (answer_bytes z.0)))) e
 
       -- No. 8
       pub message_short : length out < 516 → enc_upload (dec_upload upload) ≡ upload → (8, (upload, out)) ≡ lifted_message local mask message l upload out

@@ -1,7 +1,8 @@
 -- The reply: its head in front of the object's data.
 use Prim.Native.Nat.{ℕ, ◌+◌, ◌-◌, ◌%◌, ◌≤◌}
+use Rattle.rules.specs.declared.objects.Position.{Position}
 use mathlib.Core.List.{List, [], ◌∷◌, ◌++◌, append-nil}
-use Rattle.std.specs.Prelude.{◌≡◌, refl, drop}
+use Rattle.std.specs.Prelude.{◌≡◌, refl, drop, Option, Result, Ok, Err}
 use Rattle.std.proofs.Math.Path.{ap}
 use Rattle.std.proofs.Common.{sym, ◌∙◌, length-drop, length-append, drop_of_length-le, take-append-drop, drop_at, take_all, length-take-le}
 use native.Mathlib.Omega.{arith}
@@ -12,48 +13,35 @@ use Rattle.std.proofs.lemmas.List.Edits.{sets-eq}
 use Rattle.base_cells.specs.Numbers.{le_bytes, sets_append, take_sets, drop_sets_add}
 use Rattle.base_cells.specs.Records.{enc_fields}
 use Rattle.base_cells.specs.Writes.{written, written_all}
-use Rattle.base_cells.specs.declared.Written.{Written}
 use Rattle.wire_rules.specs.Replies as wire
 use Rattle.wire_replies.specs.ReplyLaws.{reply_head_long}
 use Rattle.rules.specs.declared.objects.Fault.{Fault}
-use Rattle.rules.specs.declared.objects.Upload.{Upload}
 use Rattle.rules.specs.Attributes.{Outcome, Gives, Fails, status_number}
 use Rattle.rules.specs.Message.{reply_head, reply_to}
-use Rattle.msg_attributes.specs.declared.Given as given
-use Rattle.msg_attributes.specs.declared.Given.{Given}
 use Rattle.msg_attributes.specs.Told.{told}
 use Rattle.msg_positions.specs.Positions.{enc_upload}
 use Rattle.msg_uploads.specs.Lent.{stepped}
 
 -- how many bytes of data there are
-abbrev pub count : Given → ℕ
-count (given.TheVariants.Gives n) = n
-count (given.TheVariants.Fails f) = 0
+abbrev pub count : Result ℕ Fault → ℕ
+count (Ok n) = n
+count (Err f) = 0
 
 -- the head put in front of the data, and the length of both
-abbrev pub headed : ℕ → Given → List ℕ → ℕ × List ℕ
-headed service (given.TheVariants.Gives n) out = (4 + n, sets out 0 (reply_head service 0))
-headed service (given.TheVariants.Fails f) out = (4, sets out 0 (reply_head service (status_number f)))
+abbrev pub headed : ℕ → Result ℕ Fault → List ℕ → ℕ × List ℕ
+headed service (Ok n) out = (4 + n, sets out 0 (reply_head service 0))
+headed service (Err f) out = (4, sets out 0 (reply_head service (status_number f)))
 
 -- a reply: its length, the position left, and the output
-abbrev pub replied : ℕ → Outcome × Upload → List ℕ → ℕ × (List ℕ × List ℕ)
+abbrev pub replied : ℕ → Outcome × Option Position → List ℕ → ℕ × (List ℕ × List ℕ)
 replied service x out = (length (reply_to service x.0), (enc_upload x.1, sets out 0 (reply_to service x.0)))
 
 -- the head as the replies' writer puts it
-pub head_put : (out : List ℕ) (service status : ℕ) (r : Written) (o : List ℕ) → 516 ≤ length out → (r, o) ≡ written out (wire.reply_head service status 0 0 0)
+pub head_put : (out : List ℕ) (service status : ℕ) (r : Option ℕ) (o : List ℕ) → 516 ≤ length out → (r, o) ≡ written out (wire.reply_head service status 0 0 0)
     → o ≡ sets out 0 (reply_head service status)
 unfolding wire.reply_head reply_head enc_fields le_bytes
 head_put out service status r o h e =
-    ap (λ (z : Written × List ℕ). z.1) (e ∙ written_all out (wire.reply_head service status 0 0 0) (let n = reply_head_long service status 0 0 0 in omega arith))
-
--- the head by what was given
-pub head_gives : (service : ℕ) (g : Given) (n : ℕ) (out o : List ℕ) → g ≡ given.TheVariants.Gives n → o ≡ sets out 0 (reply_head service 0) → (4 + n, o) ≡ headed service g out
-head_gives service g n out o e f = (λ i. (4 + n, f i)) ∙ ap (λ (y : Given). headed service y out) (sym e)
-
-pub head_fails : (service : ℕ) (g : Given) (f : Fault) (status : ℕ) (out o : List ℕ) → g ≡ given.TheVariants.Fails f → status ≡ status_number f
-    → o ≡ sets out 0 (reply_head service status) → (4, o) ≡ headed service g out
-head_fails service g f status out o e s h =
-    (λ i. (4, h i)) ∙ (λ i. (4, sets out 0 (reply_head service (s i)))) ∙ ap (λ (y : Given). headed service y out) (sym e)
+    ap (λ (z : Option ℕ × List ℕ). z.1) (e ∙ written_all out (wire.reply_head service status 0 0 0) (let n = reply_head_long service status 0 0 0 in omega arith))
 
 -- data behind a head of four bytes
 module _ (out bs : List ℕ) (h : 4 ≤ length out) (a b c d : ℕ) where
@@ -98,7 +86,7 @@ module _ (service : ℕ) (out : List ℕ) (h : 516 ≤ length out) where
   finished (Fails f) = ap (λ (z : List ℕ). (4, sets z 0 (reply_head service (status_number f)))) (put_same 4 (length out - 4) out)
 
   -- an object's step behind, and the head in front, are the reply
-  pub reply_done : (x : Outcome × Upload) (g : Given) (p o : List ℕ) (n : ℕ) (z : List ℕ) → (g, (p, o)) ≡ stepped x (mid_of 4 (length out - 4) out)
+  pub reply_done : (x : Outcome × Option Position) (g : Result ℕ Fault) (p o : List ℕ) (n : ℕ) (z : List ℕ) → (g, (p, o)) ≡ stepped x (mid_of 4 (length out - 4) out)
       → (n, z) ≡ headed service g (put_mid 4 (length out - 4) out o) → (n, (p, z)) ≡ replied service x out
   reply_done x g p o n z e f =
       let q : ◌≡◌ {A = ℕ × List ℕ} (n, z) (length (reply_to service x.0), sets out 0 (reply_to service x.0)) =
@@ -106,15 +94,15 @@ module _ (service : ℕ) (out : List ℕ) (h : 516 ≤ length out) where
       λ i. ((q i).0, ((e i).1.0, (q i).1))
 
   -- no object: the head alone
-  pub reply_alone : (f : Fault) (up : Upload) (p : List ℕ) (n : ℕ) (z : List ℕ) → enc_upload up ≡ p → (n, z) ≡ headed service (given.TheVariants.Fails f) out
+  pub reply_alone : (f : Fault) (up : Option Position) (p : List ℕ) (n : ℕ) (z : List ℕ) → enc_upload up ≡ p → (n, z) ≡ headed service (Err f) out
       → (n, (p, z)) ≡ replied service (Fails f, up) out
   unfolding reply_to reply_head
   reply_alone f up p n z e q = λ i. ((q i).0, (sym e i, (q i).1))
 
   -- what fits a reply is few
-  pub few : (x : Outcome × Upload) (g : Given) (p o : List ℕ) → (g, (p, o)) ≡ stepped x (mid_of 4 (length out - 4) out) → length (reply_to service x.0) ≤ 516 → count g ≤ 512
+  pub few : (x : Outcome × Option Position) (g : Result ℕ Fault) (p o : List ℕ) → (g, (p, o)) ≡ stepped x (mid_of 4 (length out - 4) out) → length (reply_to service x.0) ≤ 516 → count g ≤ 512
   unfolding told reply_to reply_head
-  few x g p o e k = let q : count g ≡ count (told x.0 lent).0 = ap (λ (y : Given × (List ℕ × List ℕ)). count y.0) e in rw q (by x.0 k)
+  few x g p o e k = let q : count g ≡ count (told x.0 lent).0 = ap (λ (y : Result ℕ Fault × (List ℕ × List ℕ)). count y.0) e in rw q (by x.0 k)
     where
       by : (o : Outcome) → length (reply_to service o) ≤ 516 → count (told o lent).0 ≤ 512
       by (Gives bs) k = omega arith

@@ -6,18 +6,28 @@ ghost use Rattle.std.specs.Prelude.{◌≡◌, true, ℕ, ◌≤◌, ◌<◌, le
 ghost use Rattle.std.proofs.lemmas.List.Edits.{sets};
 ghost use Rattle.rules.specs.Attributes.{status_number};
 ghost use Rattle.wire_rules.specs.Requests.{request_of};
-ghost use Rattle.rules.specs.Message.{reply_head, file_in, of_class, of_object, service_of, message_outcome};
+ghost use Rattle.rules.specs.Message.{reply_head, file_in, of_object, service_of, message_outcome};
 ghost use Rattle.state_rules.specs.Image.{view};
 ghost use Rattle.app_answers.specs.Outcomes.{Passed};
 ghost use Rattle.msg_positions.specs.Positions.{dec_upload};
+ghost use Rattle.msg_positions.specs.PositionLaws.{eds_length};
 ghost use Rattle.msg_uploads.specs.Lent.{stepped};
 ghost use Rattle.msg_file.specs.Files.{Whole};
 ghost use Rattle.msg_answering.specs.Replies.{count, headed, replied};
 ghost use Rattle.msg_answering.specs.Positions.{position_tested};
 
-use msg_attributes::Given;
 use rules::objects::Fault;
-use wire_rules::{FirstAttribute, Object, RequestAnswer};
+use wire_rules::{Object, Request};
+
+// The length of the EDS, if there is one: its mark in the setup is 0, or one more.
+fn eds_length(s: &[u8]) -> Option<u16>
+    requires { Passed s.now }
+    ensures { result ≡ eds_length (view s.now).setup.eds }
+{
+    let mark = base_cells::u32_at(&s[0..state_layout::SETUP_SIZE], 4);
+    let n = mark.checked_sub(1)?;
+    Some(n as u16)
+}
 
 // The lent position's own test: 8 bytes that are written one way, and an upload that fits the EDS and the transfer limit.
 pub fn position_tested(s: &[u8], position: &[u8]) -> bool
@@ -25,11 +35,7 @@ pub fn position_tested(s: &[u8], position: &[u8]) -> bool
     ensures { result ≡ position_tested (view s.now).setup position.now }
 {
     let limit = base_cells::u8_at(&s[0..state_layout::SETUP_SIZE], 1);
-    let mark = base_cells::u32_at(&s[0..state_layout::SETUP_SIZE], 4);
-    if mark == 0 {
-        return msg_positions::upload_tested(position, limit, false, 0);
-    }
-    msg_positions::upload_tested(position, limit, true, (mark - 1) as u16)
+    msg_positions::upload_tested(position, limit, eds_length(s))
 }
 
 // Without an EDS there is no File object.
@@ -38,18 +44,15 @@ fn file_in(
     position: &mut [u8],
     service: u8,
     instance: u32,
-    a: FirstAttribute,
+    a: Option<u32>,
     given: &[u8],
     out: &mut [u8],
-) -> Given
+) -> Result<usize, Fault>
     requires { Passed s.now × Whole position.old × (512 ≤ length out.old) }
     ensures { (result, (position.new, out.new)) ≡ stepped (file_in (view s.now).setup service instance a given.now (dec_upload position.old) (view s.now).setup.eds) out.old }
 {
-    let mark = base_cells::u32_at(&s[0..state_layout::SETUP_SIZE], 4) as usize;
-    if mark == 0 {
-        return Given::Fails(Fault::PathUnknown);
-    }
-    let e = state_layout::EDS + (mark - 1);
+    let n = eds_length(s).ok_or(Fault::PathUnknown)?;
+    let e = state_layout::EDS + n as usize;
     msg_file::file(
         &s[0..state_layout::SETUP_SIZE],
         &s[state_layout::EDS..e],
@@ -62,62 +65,33 @@ fn file_in(
     )
 }
 
-// The five objects; class 0x02 has no service; any other class is unknown.
-fn of_class(
-    s: &[u8],
-    position: &mut [u8],
-    local: u32,
-    mask: u32,
-    service: u8,
-    class: u32,
-    instance: u32,
-    a: FirstAttribute,
-    given: &[u8],
-    out: &mut [u8],
-) -> Given
-    requires { Passed s.now × Whole position.old × (512 ≤ length out.old) }
-    ensures { (result, (position.new, out.new)) ≡ stepped (of_class (view s.now) local mask service a given.now (dec_upload position.old) class instance) out.old }
-{
-    if class == 0x01 {
-        return msg_identity::identity(s, service, instance, a, out);
-    }
-    if class == 0x04 {
-        return msg_assembly::assembly(s, service, instance, a, out);
-    }
-    if class == 0xF5 {
-        return msg_network::tcp_ip(local, mask, service, instance, a, out);
-    }
-    if class == 0xF6 {
-        return msg_network::ethernet_link(s, service, instance, a, out);
-    }
-    if class == 0x37 {
-        return file_in(s, position, service, instance, a, given, out);
-    }
-    if class == 0x02 {
-        return Given::Fails(Fault::ServiceUnknown);
-    }
-    Given::Fails(Fault::PathUnknown)
-}
-
+// The five objects; class 0x02 has no service; any other class, or no object, is unknown.
+#[tactic(auto, using(std::proofs::lemmas::Bool::Decides::nat_tests), unfolding(rules::specs::Message::of_class, msg_attributes::specs::Told::told))]
 fn of_object(
     s: &[u8],
     position: &mut [u8],
     local: u32,
     mask: u32,
-    service: u8,
-    object: Object,
-    a: FirstAttribute,
+    request: Request,
     given: &[u8],
     out: &mut [u8],
-) -> Given
+) -> Result<usize, Fault>
     requires { Passed s.now × Whole position.old × (512 ≤ length out.old) }
-    ensures { (result, (position.new, out.new)) ≡ stepped (of_object (view s.now) local mask service a given.now (dec_upload position.old) object) out.old }
+    ensures { (result, (position.new, out.new)) ≡ stepped (of_object (view s.now) local mask request.service request.attribute given.now (dec_upload position.old) request.object) out.old }
 {
-    match object {
-        Object::NoObject => Given::Fails(Fault::PathUnknown),
-        Object::Named { class, instance } => of_class(
-            s, position, local, mask, service, class, instance, a, given, out,
-        ),
+    let Some(Object { class, instance }) = request.object else {
+        return Err(Fault::PathUnknown);
+    };
+    let service = request.service;
+    let a = request.attribute;
+    match class {
+        0x01 => msg_identity::identity(s, service, instance, a, out),
+        0x02 => Err(Fault::ServiceUnknown),
+        0x04 => msg_assembly::assembly(s, service, instance, a, out),
+        0x37 => file_in(s, position, service, instance, a, given, out),
+        0xF5 => msg_network::tcp_ip(local, mask, service, instance, a, out),
+        0xF6 => msg_network::ethernet_link(s, service, instance, a, out),
+        _ => Err(Fault::PathUnknown),
     }
 }
 
@@ -145,18 +119,17 @@ fn put_head(out: &mut [u8], service: u8, status: u8)
 }
 
 // The head in front of the data that stand behind it already; the length of both.
-fn finish(out: &mut [u8], service: u8, given: Given) -> usize
+fn finish(out: &mut [u8], service: u8, given: Result<usize, Fault>) -> usize
     requires { (516 ≤ length out.old) × (count given ≤ 512) }
     ensures { ((result, out.new) ≡ headed service given out.old) × (result ≤ 516) }
 {
     match given {
-        Given::Gives(n) => {
+        Ok(n) => {
             put_head(out, service, 0);
             4 + n
         }
-        Given::Fails(f) => {
-            let status = status_of(f);
-            put_head(out, service, status);
+        Err(f) => {
+            put_head(out, service, status_of(f));
             4
         }
     }
@@ -175,24 +148,11 @@ pub fn message(
     ensures { ((result, (position.new, out.new)) ≡ replied (service_of (request_of message.now)) (message_outcome (view s.now) local mask message.now (dec_upload position.old)) out.old) × (result ≤ 516) }
 {
     match wire_requests::parse_request(message) {
-        RequestAnswer::Unparsed(service) => finish(out, service, Given::Fails(Fault::PathSegment)),
-        RequestAnswer::Parsed(request) => {
-            let service = request.service;
-            let object = request.object;
-            let a = request.attribute;
-            let start = request.datastart;
-            let given = of_object(
-                s,
-                position,
-                local,
-                mask,
-                service,
-                object,
-                a,
-                &message[start..],
-                &mut out[4..],
-            );
-            finish(out, service, given)
+        Err(service) => finish(out, service, Err(Fault::PathSegment)),
+        Ok(request) => {
+            let given = &message[request.datastart..];
+            let told = of_object(s, position, local, mask, request, given, &mut out[4..]);
+            finish(out, request.service, told)
         }
     }
 }

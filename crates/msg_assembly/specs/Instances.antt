@@ -1,21 +1,14 @@
 -- The setup's list of assemblies by instance alone.
-use Rattle.std.specs.Prelude.{ℕ, ◌+◌, ◌≤◌, ◌<◌, max, Bool, cond, List, [], ◌≡◌, refl, eqb, drop}
-use Rattle.std.proofs.Math.Option.{Option}
+use Rattle.std.specs.Prelude.{ℕ, ◌+◌, ◌≤◌, ◌<◌, max, Bool, List, [], ◌≡◌, refl, eqb, drop, Option}
 use Rattle.std.proofs.Math.Path.{ap, sym}
-use Rattle.std.proofs.Common.{◌∙◌, arith, eq-eqb, ne_eqb}
+use Rattle.std.proofs.Common.{◌∙◌, arith}
 use Rattle.rules.specs.Lists.{place}
 use Rattle.rules.specs.State.{Shape}
-use Rattle.wire_rules.specs.declared.FirstAttribute.{FirstAttribute}
-use Rattle.rules.specs.Attributes.{Attributes, single}
-use Rattle.rules.specs.Objects.{largest_instance, assembly_class, assembly_place, assembly_object, assembly}
+use Rattle.rules.specs.Objects.{largest_instance, assembly_class, assembly_place}
 use Rattle.state_rules.specs.Places.{setup_in}
 use Rattle.state_rules.specs.Listed.{listed, listed_rest, listed_end}
 use Rattle.state_rules.specs.Setups.{shape_in, setup_from, setup_of, shapes_of}
 use Rattle.state_rules.specs.Image.{view}
-use Rattle.state_layout.specs.Searched.{place_in}
-use Rattle.state_layout.specs.declared.Found.{Found}
-use Rattle.msg_attributes.specs.declared.Given.{Given}
-use Rattle.msg_attributes.specs.Told.{told}
 
 abbrev pub has_instance : ℕ → Shape → Bool
 has_instance n a = eqb a.instance n
@@ -48,21 +41,7 @@ class_table s = refl
 
 -- ---- the object
 
-module _ (s out : List ℕ) (service instance : ℕ) (a : FirstAttribute) (x : Given × List ℕ) where
-  pub assembly_class_lem : instance ≡ 0 → x ≡ told (single service a (assembly_class (setup_from (setup_in s) []))) out → x ≡ told (assembly (view s) service instance a) out
-  unfolding assembly
-  assembly_class_lem e f =
-      f ∙ ap (λ (t : Attributes). told (single service a t) out) (class_table s)
-      ∙ sym (ap (λ (b : Bool). told (cond b (single service a (assembly_class (view s).setup)) (assembly_object (view s) service a (assembly_place (view s).setup instance))) out) (eq-eqb instance 0 e))
-
-  pub assembly_place_lem : (instance ≡ 0 → ⊥) → (o : Option ℕ) → assembly_place (view s).setup instance ≡ o → x ≡ told (assembly_object (view s) service a o) out
-      → x ≡ told (assembly (view s) service instance a) out
-  unfolding assembly
-  assembly_place_lem h o e f =
-      f ∙ ap (λ (p : Option ℕ). told (assembly_object (view s) service a p) out) (sym e)
-      ∙ sym (ap (λ (b : Bool). told (cond b (single service a (assembly_class (view s).setup)) (assembly_object (view s) service a (assembly_place (view s).setup instance))) out) (ne_eqb instance 0 h))
-
-module _ (s : List ℕ) (n : ℕ) (x : Found) (e : place_in x ≡ place (has_instance n) (shapes_of (setup_in s))) where
-  pub found_is : assembly_place (view s).setup n ≡ place_in x
+module _ (s : List ℕ) (n : ℕ) (x : Option ℕ) (e : x ≡ place (has_instance n) (shapes_of (setup_in s))) where
+  pub found_is : assembly_place (view s).setup n ≡ x
   unfolding assembly_place view setup_of
   found_is = sym e

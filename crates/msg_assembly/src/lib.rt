@@ -1,7 +1,7 @@
 // Assembly, class 0x04: the data of an assembly of any kind, and its size.
 #![tactic(auto)]
 
-ghost use Rattle.std.specs.Prelude.{◌≡◌, ℕ, ◌≤◌, ◌<◌, max, [], length};
+ghost use Rattle.std.specs.Prelude.{◌≡◌, ℕ, ◌≤◌, ◌<◌, [], length};
 ghost use Rattle.rules.specs.Lists.{place};
 ghost use Rattle.rules.specs.State.{content_at};
 ghost use Rattle.rules.specs.Attributes.{value_of, single};
@@ -9,36 +9,19 @@ ghost use Rattle.rules.specs.Objects.{largest_instance, assembly_class, assembly
 ghost use Rattle.state_rules.specs.Setups.{shape_in, setup_from, shapes_of};
 ghost use Rattle.state_rules.specs.Image.{view};
 ghost use Rattle.app_answers.specs.Outcomes.{Passed};
-ghost use Rattle.state_layout.specs.Searched.{place_in};
 ghost use Rattle.state_rules.specs.Places.{setup_size, assemblies_of};
 ghost use Rattle.msg_attributes.specs.Told.{told};
 ghost use Rattle.msg_assembly.specs.Instances.{has_instance};
 
-use msg_attributes::{Asked, Given};
 use rules::objects::Fault;
-use state_layout::Found;
-use wire_rules::FirstAttribute;
 
 // The first assembly of that instance, in the setup's region.
-fn find(r: &[u8], instance: u32) -> Found
+fn find(r: &[u8], instance: u32) -> Option<usize>
     requires { (setup_size ≤ length r.now) × (assemblies_of r.now ≤ 16) }
-    ensures { place_in result ≡ place (has_instance instance) (shapes_of r.now) }
+    ensures { result ≡ place (has_instance instance) (shapes_of r.now) }
 {
     let n = base_cells::u8_at(r, 0) as usize;
-    let mut i = 0;
-    while i < n {
-        if state_layout::instance_at(r, i) as u32 == instance {
-            return Found::At(i);
-        }
-        i += 1;
-    }
-    Found::Nowhere
-}
-
-fn greater(a: u16, b: u16) -> u16
-    ensures { result ≡ max a b }
-{
-    if a < b { b } else { a }
+    (0..n).find(|&i| u32::from(state_layout::instance_at(r, i)) == instance)
 }
 
 fn largest(r: &[u8]) -> u16
@@ -47,72 +30,54 @@ fn largest(r: &[u8]) -> u16
 {
     let n = base_cells::u8_at(r, 0) as usize;
     let mut most: u16 = 0;
-    let mut i = 0;
-    while i < n {
-        most = greater(most, state_layout::instance_at(r, i));
-        i += 1;
+    for i in 0..n {
+        most = most.max(state_layout::instance_at(r, i));
     }
     most
 }
 
-fn class_value(r: &[u8], n: u32, out: &mut [u8]) -> Given
-    requires { (setup_size ≤ length r.now) × (assemblies_of r.now ≤ 16) × (512 ≤ length out.old) }
-    ensures { (result, out.new) ≡ told (value_of n (assembly_class (setup_from r.now []))) out.old }
-{
-    if n == 1 {
-        return msg_attributes::number2(out, 2);
-    }
-    if n == 2 {
-        return msg_attributes::number2(out, largest(r));
-    }
-    Given::Fails(Fault::AttributeUnknown)
-}
-
-fn class(r: &[u8], service: u8, a: FirstAttribute, out: &mut [u8]) -> Given
+#[tactic(auto, using(std::proofs::lemmas::Bool::Decides::nat_tests, msg_attributes::specs::Values::bytes_of_2), unfolding(msg_attributes::specs::Told::told, msg_attributes::specs::Told::wanted, base_cells::specs::Numbers::le_bytes, rules::specs::Objects::assembly_class))]
+fn class(r: &[u8], service: u8, a: Option<u32>, out: &mut [u8]) -> Result<usize, Fault>
     requires { (setup_size ≤ length r.now) × (assemblies_of r.now ≤ 16) × (512 ≤ length out.old) }
     ensures { (result, out.new) ≡ told (single service a (assembly_class (setup_from r.now []))) out.old }
 {
-    match msg_attributes::wanted(service, a) {
-        Asked::Attribute(n) => class_value(r, n, out),
-        Asked::Refused(f) => Given::Fails(f),
+    match msg_attributes::wanted(service, a)? {
+        1 => msg_attributes::bytes(out, &2u16.to_le_bytes()),
+        2 => msg_attributes::bytes(out, &largest(r).to_le_bytes()),
+        _ => Err(Fault::AttributeUnknown),
     }
 }
 
-fn value(s: &[u8], i: usize, n: u32, out: &mut [u8]) -> Given
-    requires { Passed s.now × (i < assemblies_of s.now) × (512 ≤ length out.old) }
-    ensures { (result, out.new) ≡ told (value_of n (assembly_attributes (content_at (view s.now) i))) out.old }
-{
-    let size = state_layout::size_at(s, i);
-    if n == 3 {
-        let from = state_layout::DATA + i * state_layout::SLOT;
-        let e = from + size as usize;
-        return msg_attributes::bytes(out, &s[from..e]);
-    }
-    if n == 4 {
-        return msg_attributes::number2(out, size);
-    }
-    Given::Fails(Fault::AttributeUnknown)
-}
-
-fn here(s: &[u8], i: usize, service: u8, a: FirstAttribute, out: &mut [u8]) -> Given
+#[tactic(auto, using(std::proofs::lemmas::Bool::Decides::nat_tests), unfolding(msg_attributes::specs::Told::told, msg_attributes::specs::Told::wanted, rules::specs::Objects::assembly_attributes))]
+fn here(s: &[u8], i: usize, service: u8, a: Option<u32>, out: &mut [u8]) -> Result<usize, Fault>
     requires { Passed s.now × (i < assemblies_of s.now) × (512 ≤ length out.old) }
     ensures { (result, out.new) ≡ told (single service a (assembly_attributes (content_at (view s.now) i))) out.old }
 {
-    match msg_attributes::wanted(service, a) {
-        Asked::Attribute(n) => value(s, i, n, out),
-        Asked::Refused(f) => Given::Fails(f),
+    let n = msg_attributes::wanted(service, a)?;
+    let size = state_layout::size_at(s, i);
+    match n {
+        3 => {
+            let from = state_layout::DATA + i * state_layout::SLOT;
+            msg_attributes::bytes(out, &s[from..from + size as usize])
+        }
+        4 => msg_attributes::bytes(out, &size.to_le_bytes()),
+        _ => Err(Fault::AttributeUnknown),
     }
 }
 
-pub fn assembly(s: &[u8], service: u8, instance: u32, a: FirstAttribute, out: &mut [u8]) -> Given
+pub fn assembly(
+    s: &[u8],
+    service: u8,
+    instance: u32,
+    a: Option<u32>,
+    out: &mut [u8],
+) -> Result<usize, Fault>
     requires { Passed s.now × (512 ≤ length out.old) }
     ensures { (result, out.new) ≡ told (assembly (view s.now) service instance a) out.old }
 {
     if instance == 0 {
         return class(&s[0..state_layout::SETUP_SIZE], service, a, out);
     }
-    match find(&s[0..state_layout::SETUP_SIZE], instance) {
-        Found::Nowhere => Given::Fails(Fault::ObjectUnknown),
-        Found::At(i) => here(s, i, service, a, out),
-    }
+    let i = find(&s[0..state_layout::SETUP_SIZE], instance).ok_or(Fault::ObjectUnknown)?;
+    here(s, i, service, a, out)
 }

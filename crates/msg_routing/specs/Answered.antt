@@ -2,11 +2,13 @@
 use Rattle.std.specs.Prelude.{ℕ, ◌*◌, ◌≤◌, ◌<◌, ◌≡◌, T, length}
 use mathlib.Core.List.{List}
 use Rattle.std.proofs.Math.Path.{ap, ap₂, sym}
-use Rattle.std.proofs.Common.{◌∙◌, arith, le-leb}
+use Rattle.std.proofs.Common.{◌∙◌, le-leb}
 use Rattle.std.proofs.lemmas.Bool.{lt-leb}
 use Rattle.std.proofs.lemmas.List.Edits.{sets}
 use Rattle.base_cells.specs.Records.{sum, enc_fields, put_fields, Laid, put_fields_eq, length_enc_fields}
-use Rattle.rules.specs.Answers.{Answer, Wrote, Refused, No, no_number, NotParsed, fitting, answer_number, answer_bytes}
+use Rattle.rules.specs.Answers.{Answer, Wrote, Refused, no_number, fitting, answer_number, answer_bytes}
+use Rattle.rules.specs.declared.No.{No}
+use Rattle.rules.specs.declared.No.TheVariants.{NoRoom}
 
 -- what is told of an answer on an output
 abbrev pub saying : Answer → List ℕ → ℕ × List ℕ
@@ -40,7 +42,7 @@ module _ (ws vs out : List ℕ) (t : T (Laid ws vs)) (n : ℕ) (e : sum ws ≡ n
   long = length_enc_fields ws vs t ∙ e
 
   pub wrote_none : length out < n → (8, out) ≡ answered (wrote (enc_fields ws vs)) out
-  wrote_none h = answered_no _ out No.NoRoom (simp (lt-leb (length (enc_fields ws vs)) (length out) (rw long h)))
+  wrote_none h = answered_no _ out NoRoom (simp (lt-leb (length (enc_fields ws vs)) (length out) (rw long h)))
 
   pub wrote_all : (out' : List ℕ) → n ≤ length out → out' ≡ put_fields ws out 0 vs → (256 * n, out') ≡ answered (wrote (enc_fields ws vs)) out
   unfolding answer_number

@@ -1,18 +1,15 @@
 -- The answers by what was read.
-use Rattle.std.specs.Prelude.{ℕ, ◌≤◌, ◌<◌, List, [], ◌∷◌, ◌≡◌, length}
+use Rattle.std.specs.Prelude.{ℕ, ◌≤◌, ◌<◌, List, [], ◌∷◌, ◌≡◌, length, is_some, unwrap_or, Ok}
 use Rattle.std.proofs.Math.Path.{refl}
-use Rattle.std.proofs.Common.{ap, sym, ◌∙◌}
+use Rattle.std.proofs.Common.{ap}
 use Rattle.base_cells.specs.Records.{sum, of_bool, put_fields}
-use Rattle.wire_rules.specs.declared.Key.{Key}
 use Rattle.wire_rules.specs.declared.ConnectionPath.{ConnectionPath}
-use Rattle.wire_rules.specs.declared.PathAnswer as paths
 use Rattle.wire_rules.specs.ConnectionPath.{path_of}
 use Rattle.wire_rules.specs.declared.Request.{Request}
-use Rattle.wire_rules.specs.declared.RequestAnswer as requests
 use Rattle.wire_rules.specs.Requests.{request_of}
-use Rattle.rules.specs.Answers.{Answer, NotParsed}
-use Rattle.rules.specs.Routing.{path_record, path_for, path_answer, is_named, class_of, instance_of, has_attribute, attribute_of, request_record, request_for, request_answer}
-use Rattle.msg_routing.specs.Answered.{wrote, wrote_none, wrote_all, answered, answered_no, answered_same}
+use Rattle.rules.specs.Answers.{Answer}
+use Rattle.rules.specs.Routing.{key_told, path_record, path_for, path_answer, is_named, class_of, instance_of, has_attribute, attribute_of, request_record, request_for, request_answer}
+use Rattle.msg_routing.specs.Answered.{wrote, wrote_none, wrote_all, answered, answered_same}
 
 -- the fields of the records, and their widths
 abbrev pub path_widths : List ℕ
@@ -20,9 +17,9 @@ path_widths = 1 ∷ 1 ∷ 1 ∷ 1 ∷ 2 ∷ 2 ∷ 2 ∷ 1 ∷ 1 ∷ 4 ∷ 4 ∷ 
 
 abbrev pub path_fields : ConnectionPath → List ℕ
 path_fields p =
-    of_bool p.barred ∷ of_bool p.haskey ∷ of_bool p.hasclass ∷ p.count ∷
-    p.key.vendor ∷ p.key.device ∷ p.key.product ∷ p.key.major ∷ p.key.minor ∷
-    p.class ∷ p.first ∷ p.second ∷ p.third ∷ p.datastart ∷ p.datalen ∷ []
+    of_bool p.barred ∷ of_bool (is_some p.key) ∷ of_bool (is_some p.class) ∷ p.count ∷
+    (key_told p).vendor ∷ (key_told p).device ∷ (key_told p).product ∷ (key_told p).major ∷ (key_told p).minor ∷
+    unwrap_or p.class 0 ∷ p.first ∷ p.second ∷ p.third ∷ p.datastart ∷ p.datalen ∷ []
 
 abbrev pub request_widths : List ℕ
 request_widths = 1 ∷ 1 ∷ 1 ∷ 1 ∷ 4 ∷ 4 ∷ 4 ∷ 4 ∷ []
@@ -56,42 +53,12 @@ module _ (out : List ℕ) where
   unfolding request_told request_record sum
   request_all q out' h f = wrote_all request_widths (request_fields q) out tt 20 refl out' h f
 
-  -- a record's parts, one after the other
-  pub path_parts : (p : ConnectionPath) (o₁ o₂ o₃ o₄ : List ℕ)
-      → o₁ ≡ put_fields (1 ∷ 1 ∷ 1 ∷ 1 ∷ []) out 0 (of_bool p.barred ∷ of_bool p.haskey ∷ of_bool p.hasclass ∷ p.count ∷ [])
-      → o₂ ≡ put_fields (2 ∷ 2 ∷ 2 ∷ 1 ∷ 1 ∷ []) o₁ 4 (p.key.vendor ∷ p.key.device ∷ p.key.product ∷ p.key.major ∷ p.key.minor ∷ [])
-      → o₃ ≡ put_fields (4 ∷ 4 ∷ 4 ∷ 4 ∷ []) o₂ 12 (p.class ∷ p.first ∷ p.second ∷ p.third ∷ [])
-      → o₄ ≡ put_fields (2 ∷ 2 ∷ []) o₃ 28 (p.datastart ∷ p.datalen ∷ [])
-      → o₄ ≡ put_fields path_widths out 0 (path_fields p)
-  path_parts p o₁ o₂ o₃ o₄ e₁ e₂ e₃ e₄ =
-      e₄ ∙ ap (λ (x : List ℕ). put_fields (2 ∷ 2 ∷ []) x 28 (p.datastart ∷ p.datalen ∷ []))
-      (e₃ ∙ ap (λ (x : List ℕ). put_fields (4 ∷ 4 ∷ 4 ∷ 4 ∷ []) x 12 (p.class ∷ p.first ∷ p.second ∷ p.third ∷ []))
-      (e₂ ∙ ap (λ (x : List ℕ). put_fields (2 ∷ 2 ∷ 2 ∷ 1 ∷ 1 ∷ []) x 4 (p.key.vendor ∷ p.key.device ∷ p.key.product ∷ p.key.major ∷ p.key.minor ∷ [])) e₁))
-
-  pub request_parts : (q : Request) (o₁ o₂ : List ℕ) (n h a b c : ℕ) → n ≡ is_named q.object → h ≡ has_attribute q.attribute
-      → a ≡ class_of q.object → b ≡ instance_of q.object → c ≡ attribute_of q.attribute
-      → o₁ ≡ put_fields (1 ∷ 1 ∷ 1 ∷ 1 ∷ []) out 0 (q.service ∷ n ∷ h ∷ 0 ∷ [])
-      → o₂ ≡ put_fields (4 ∷ 4 ∷ 4 ∷ 4 ∷ []) o₁ 4 (a ∷ b ∷ c ∷ q.datastart ∷ [])
-      → o₂ ≡ put_fields request_widths out 0 (request_fields q)
-  request_parts q o₁ o₂ n h a b c en eh ea eb ec e₁ e₂ =
-      let m : o₁ ≡ put_fields (1 ∷ 1 ∷ 1 ∷ 1 ∷ []) out 0 (q.service ∷ is_named q.object ∷ has_attribute q.attribute ∷ 0 ∷ []) =
-      e₁ ∙ (λ i. put_fields (1 ∷ 1 ∷ 1 ∷ 1 ∷ []) out 0 (q.service ∷ en i ∷ eh i ∷ 0 ∷ [])) in
-      e₂ ∙ (λ i. put_fields (4 ∷ 4 ∷ 4 ∷ 4 ∷ []) (m i) 4 (ea i ∷ eb i ∷ ec i ∷ q.datastart ∷ []))
-
 -- the readers
 module _ (s out : List ℕ) where
-  pub path_told_lem : (p : ConnectionPath) → paths.TheVariants.Parsed p ≡ path_of s → answered (path_told p) out ≡ answered (path_answer s) out
+  pub path_told_lem : (p : ConnectionPath) → Ok p ≡ path_of s → answered (path_told p) out ≡ answered (path_answer s) out
   unfolding path_answer path_told
   path_told_lem p e = answered_same (path_told p) out (path_answer s) (ap (path_for (length out)) e)
 
-  pub no_path_lem : (o : ℕ) → paths.TheVariants.Unparsed o ≡ path_of s → (4, out) ≡ answered (path_answer s) out
-  unfolding path_answer
-  no_path_lem o e = answered_no (path_answer s) out NotParsed (sym (ap (path_for (length out)) e))
-
-  pub request_told_lem : (q : Request) → requests.TheVariants.Parsed q ≡ request_of s → answered (request_told q) out ≡ answered (request_answer s) out
+  pub request_told_lem : (q : Request) → Ok q ≡ request_of s → answered (request_told q) out ≡ answered (request_answer s) out
   unfolding request_answer request_told
   request_told_lem q e = answered_same (request_told q) out (request_answer s) (ap (request_for (length out)) e)
-
-  pub no_request : (o : ℕ) → requests.TheVariants.Unparsed o ≡ request_of s → (4, out) ≡ answered (request_answer s) out
-  unfolding request_answer
-  no_request o e = answered_no (request_answer s) out NotParsed (sym (ap (request_for (length out)) e))

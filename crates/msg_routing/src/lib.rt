@@ -3,11 +3,13 @@
 
 ghost use Rattle.std.specs.Prelude.{◌≡◌, [], ◌∷◌, ◌+◌, ◌≤◌, length};
 ghost use Rattle.base_cells.specs.Records.{put_fields, of_bool};
-ghost use Rattle.rules.specs.Routing.{path_answer, request_answer, is_named, class_of, instance_of, has_attribute, attribute_of};
+ghost use Rattle.rules.specs.Answers.{outcome_number};
+ghost use Rattle.rules.specs.Routing.{path_answer, request_answer};
 ghost use Rattle.msg_routing.specs.Answered.{answered};
 ghost use Rattle.msg_routing.specs.Told.{path_told, request_told};
 
-use wire_rules::{ConnectionPath, FirstAttribute, Key, Object, PathAnswer, Request, RequestAnswer};
+use rules::No;
+use wire_rules::{ConnectionPath, Key, Request};
 
 fn put_four(s: &mut [u8], at: usize, a: u32, b: u32, c: u32, d: u32)
     requires { at + 16 ≤ length s.old }
@@ -20,6 +22,15 @@ fn put_four(s: &mut [u8], at: usize, a: u32, b: u32, c: u32, d: u32)
 }
 
 // ---- a path
+
+// What the record has where the path has no key.
+const NO_KEY: Key = Key {
+    vendor: 0,
+    device: 0,
+    product: 0,
+    major: 0,
+    minor: 0,
+};
 
 fn put_marks(s: &mut [u8], barred: bool, haskey: bool, hasclass: bool, count: u8)
     requires { 4 ≤ length s.old }
@@ -50,114 +61,71 @@ fn put_place(s: &mut [u8], start: u16, len: u16)
     base_cells::put_u16(s, 30, len);
 }
 
-fn put_path(out: &mut [u8], p: ConnectionPath) -> u64
+fn put_path(out: &mut [u8], p: ConnectionPath) -> Result<u16, No>
     requires { (p.count ≤ 4) × (p.datastart + p.datalen ≤ 510) }
-    ensures { (result, out.new) ≡ answered (path_told p) out.old }
+    ensures { (outcome_number result, out.new) ≡ answered (path_told p) out.old }
 {
     if out.len() < 32 {
-        return 8;
+        return Err(No::NoRoom);
     }
-    put_marks(out, p.barred, p.haskey, p.hasclass, p.count as u8);
-    put_key(out, p.key);
-    put_four(out, 12, p.class, p.first, p.second, p.third);
+    put_marks(
+        out,
+        p.barred,
+        p.key.is_some(),
+        p.class.is_some(),
+        p.count as u8,
+    );
+    put_key(out, p.key.unwrap_or(NO_KEY));
+    put_four(out, 12, p.class.unwrap_or(0), p.first, p.second, p.third);
     put_place(out, p.datastart as u16, p.datalen as u16);
-    8192
+    Ok(32)
 }
 
-// What a path says: No. 4, 8.
-pub fn tell_path(path: &[u8], out: &mut [u8]) -> u64
-    ensures { (result, out.new) ≡ answered (path_answer path.now) out.old }
+// What a path says: the length of its record. No: 4, 8.
+pub fn tell_path(path: &[u8], out: &mut [u8]) -> Result<u16, No>
+    ensures { (outcome_number result, out.new) ≡ answered (path_answer path.now) out.old }
 {
-    match wire_paths::parse_path(path) {
-        PathAnswer::Parsed(p) => put_path(out, p),
-        PathAnswer::Unparsed(_) => 4,
-    }
+    let p = wire_paths::parse_path(path).map_err(|_| No::NotParsed)?;
+    put_path(out, p)
 }
 
 // ---- a request
 
-fn is_named(o: Object) -> u8
-    ensures { result ≡ is_named o }
-{
-    match o {
-        Object::Named { class, instance } => 1,
-        Object::NoObject => 0,
-    }
-}
-
-fn class_of(o: Object) -> u32
-    ensures { result ≡ class_of o }
-{
-    match o {
-        Object::Named { class, instance } => class,
-        Object::NoObject => 0,
-    }
-}
-
-fn instance_of(o: Object) -> u32
-    ensures { result ≡ instance_of o }
-{
-    match o {
-        Object::Named { class, instance } => instance,
-        Object::NoObject => 0,
-    }
-}
-
-fn has_attribute(a: FirstAttribute) -> u8
-    ensures { result ≡ has_attribute a }
-{
-    match a {
-        FirstAttribute::Number(n) => 1,
-        FirstAttribute::NoAttribute => 0,
-    }
-}
-
-fn attribute_of(a: FirstAttribute) -> u32
-    ensures { result ≡ attribute_of a }
-{
-    match a {
-        FirstAttribute::Number(n) => n,
-        FirstAttribute::NoAttribute => 0,
-    }
-}
-
-fn put_head(s: &mut [u8], service: u8, named: u8, numbered: u8)
+fn put_head(s: &mut [u8], service: u8, named: bool, numbered: bool)
     requires { 4 ≤ length s.old }
-    ensures { s.new ≡ put_fields (1 ∷ 1 ∷ 1 ∷ 1 ∷ []) s.old 0 (service ∷ named ∷ numbered ∷ 0 ∷ []) }
+    ensures { s.new ≡ put_fields (1 ∷ 1 ∷ 1 ∷ 1 ∷ []) s.old 0 (service ∷ of_bool named ∷ of_bool numbered ∷ 0 ∷ []) }
 {
     base_cells::put_u8(s, 0, service);
-    base_cells::put_u8(s, 1, named);
-    base_cells::put_u8(s, 2, numbered);
+    base_cells::put_bool(s, 1, named);
+    base_cells::put_bool(s, 2, numbered);
     base_cells::put_u8(s, 3, 0);
 }
 
-fn put_request(out: &mut [u8], q: Request) -> u64
+fn put_request(out: &mut [u8], q: Request) -> Result<u16, No>
     requires { q.datastart ≤ 65536 }
-    ensures { (result, out.new) ≡ answered (request_told q) out.old }
+    ensures { (outcome_number result, out.new) ≡ answered (request_told q) out.old }
 {
     if out.len() < 20 {
-        return 8;
+        return Err(No::NoRoom);
     }
-    let o = q.object;
-    let a = q.attribute;
-    put_head(out, q.service, is_named(o), has_attribute(a));
+    let class = q.object.map_or(0, |o| o.class);
+    let instance = q.object.map_or(0, |o| o.instance);
+    put_head(out, q.service, q.object.is_some(), q.attribute.is_some());
     put_four(
         out,
         4,
-        class_of(o),
-        instance_of(o),
-        attribute_of(a),
+        class,
+        instance,
+        q.attribute.unwrap_or(0),
         q.datastart as u32,
     );
-    5120
+    Ok(20)
 }
 
-// What an explicit message asks: No. 4, 8.
-pub fn tell_request(message: &[u8], out: &mut [u8]) -> u64
-    ensures { (result, out.new) ≡ answered (request_answer message.now) out.old }
+// What an explicit message asks: the length of its record. No: 4, 8.
+pub fn tell_request(message: &[u8], out: &mut [u8]) -> Result<u16, No>
+    ensures { (outcome_number result, out.new) ≡ answered (request_answer message.now) out.old }
 {
-    match wire_requests::parse_request(message) {
-        RequestAnswer::Parsed(q) => put_request(out, q),
-        RequestAnswer::Unparsed(_) => 4,
-    }
+    let q = wire_requests::parse_request(message).map_err(|_| No::NotParsed)?;
+    put_request(out, q)
 }

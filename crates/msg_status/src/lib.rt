@@ -15,21 +15,17 @@ fn owner_at(r: &[u8], i: usize) -> bool
     requires { (i < 32) × (table_size ≤ length r.now) }
     ensures { result ≡ owner_in (conn_at r.now i) }
 {
-    let f = state_rows::fixed_at(r, i);
-    let k = f.kind;
-    state_layout::is_owner(k)
+    state_layout::is_owner(state_rows::fixed_at(r, i).kind)
 }
 
 fn any_owner(r: &[u8], n: usize) -> bool
     requires { (n ≤ 32) × (table_size ≤ length r.now) }
     ensures { result ≡ any owner_in (conns_in n r.now) }
 {
-    let mut i = 0;
-    while i < n {
+    for i in 0..n {
         if owner_at(r, i) {
             return true;
         }
-        i += 1;
     }
     false
 }
@@ -48,22 +44,16 @@ fn runs(s: &[u8], i: usize) -> bool
     ensures { result ≡ (content_at (view s.now) i).run }
 {
     let n = base_cells::u8_at(s, 0) as usize;
-    if i >= n {
-        return false;
-    }
-    state_layout::runs(s, i)
+    i < n && state_layout::runs(s, i)
 }
 
+#[tactic(auto, using(std::proofs::lemmas::Bool::Decides::nat_tests))]
 fn running_at(s: &[u8], i: usize) -> bool
     requires { Passed s.now × (i < connections_of s.now) }
     ensures { result ≡ runs_in (view s.now) (conn_at (table_in s.now) i) }
 {
     let f = state_rows::fixed_at(&s[state_layout::TABLE..state_layout::EVENTS], i);
-    let k = f.kind;
-    if !state_layout::is_owner(k) {
-        return false;
-    }
-    runs(s, f.output as usize)
+    state_layout::is_owner(f.kind) && runs(s, f.output as usize)
 }
 
 pub fn is_running(s: &[u8]) -> bool
@@ -71,41 +61,36 @@ pub fn is_running(s: &[u8]) -> bool
     ensures { result ≡ running (view s.now) }
 {
     let n = base_cells::u16_at(s, state_layout::CONNECTIONS) as usize;
-    let mut i = 0;
-    while i < n {
+    for i in 0..n {
         if running_at(s, i) {
             return true;
         }
-        i += 1;
     }
     false
 }
 
 // 2 at least one faulted connection, 3 no connections, 6 at least one in run, 7 all idle.
+#[tactic(auto, using(std::proofs::lemmas::Bool::Decides::nat_tests, crate::specs::Status::table_long, crate::specs::Status::fault_is), unfolding(rules::specs::Objects::extended_status))]
 pub fn extended_status(s: &[u8]) -> u16
     requires { Passed s.now }
     ensures { (result ≡ extended_status (view s.now)) × (result < 16) }
 {
     if state_layout::faulty(s) {
-        return 2;
+        2
+    } else if base_cells::u16_at(s, state_layout::CONNECTIONS) == 0 {
+        3
+    } else if is_running(s) {
+        6
+    } else {
+        7
     }
-    if base_cells::u16_at(s, state_layout::CONNECTIONS) == 0 {
-        return 3;
-    }
-    if is_running(s) {
-        return 6;
-    }
-    7
 }
 
 // Owned is bit 0, the extended device status bits 4 to 7.
+#[tactic(auto, using(std::proofs::lemmas::Bool::Decides::nat_tests), unfolding(rules::specs::Objects::identity_status))]
 pub fn identity_status(s: &[u8]) -> u16
     requires { Passed s.now }
     ensures { result ≡ identity_status (view s.now) }
 {
-    let extended = extended_status(s);
-    if is_owned(s) {
-        return 1 + 16 * extended;
-    }
-    16 * extended
+    u16::from(is_owned(s)) + 16 * extended_status(s)
 }

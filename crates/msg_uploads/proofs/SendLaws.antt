@@ -1,23 +1,19 @@
 -- The bytes of a reply, put one after the other.
-use Prim.Native.Nat.{ℕ, ◌+◌, ◌-◌, ◌≤◌, ◌<◌, min}
+use Rattle.std.specs.Prelude.{Ok}
+use Prim.Native.Nat.{ℕ, ◌+◌, ◌-◌, ◌≤◌, min}
 use mathlib.Core.Bool.{Bool, true, false}
-use mathlib.Core.List.{List, [], ◌∷◌, ◌++◌}
+use mathlib.Core.List.{List, ◌∷◌, ◌++◌}
 use mathlib.Core.Path.{◌≡◌, refl, ap, ap₂, sym, ◌∙◌}
 use native.Mathlib.Omega.{arith}
 use borrow.Author.Tests.{leb-true, leb-false}
 use lib.Dec.{eqb, leb}
 use lib.ListN.{length, take, drop, set, length-append, length-drop, length-take, drop_of_length-le}
-use lib.Seq.{sets, take_all, take-nil, take-take, take-length}
-use Rattle.base_cells.specs.Numbers.{put, le_bytes, length_le_bytes, sets_append}
-use Rattle.base_cells.specs.Records.{sum, enc_fields, put_fields, put_fields_eq, length_enc_fields}
+use lib.Seq.{sets, take-nil, take-take, take-length}
+use Rattle.base_cells.specs.Numbers.{put, le_bytes, sets_append}
 use Rattle.rules.specs.Attributes as rules
-use Rattle.rules.specs.Upload.{checksum, initiate_reply, transfer_type, transfer_bytes, transfer_reply}
-use Rattle.msg_attributes.specs.declared.Given.{Given}
-use Rattle.msg_attributes.specs.declared.Given.TheVariants.{Gives}
+use Rattle.rules.specs.Upload.{transfer_type, transfer_bytes, transfer_reply}
 use Rattle.msg_attributes.specs.Told.{told}
-use Rattle.msg_attributes.specs.Values.{gives}
-use Rattle.msg_uploads.specs.Sending.{part_of, tail_of, outcome_of}
-use Rattle.msg_uploads.specs.declared.steps.Sends.{Sends}
+use Rattle.msg_uploads.specs.Sending.{part_of, tail_of}
 
 -- ---- the part: from where it begins to where it ends, both within the EDS
 
@@ -81,39 +77,6 @@ module _ (eds : List ℕ) (size number offset : ℕ) (last : Bool) (e : last ≡
     long : 2 + n + m ≡ length (transfer_reply eds size number offset)
     long = rw (← reply_is) (omega (arith, h, g, length-append (part_of eds size offset) (tail_of eds last)))
 
-    pub part_sent : (Gives (2 + n + m), d) ≡ told (rules.Gives (transfer_reply eds size number offset)) out
-    part_sent = gives out (transfer_reply eds size number offset) (2 + n + m) d long bytes
-
--- the tail
-
-module _ (eds : List ℕ) (last : Bool) (out : List ℕ) (at : ℕ) where
-  pub tail_last : last ≡ true → (k : ℕ) → k ≡ checksum eds → (out' : List ℕ) → out' ≡ put 2 out at k
-      → (2 ≡ length (tail_of eds last)) × (2 ≤ 2) × (out' ≡ sets out at (tail_of eds last))
-  unfolding tail_of put
-  tail_last e k f out' g = (
-    sym (ap (λ (b : Bool). length (tail_of eds b)) e ∙ length_le_bytes 2 (checksum eds)),
-    omega arith,
-    g ∙ ap (λ (n : ℕ). sets out at (le_bytes 2 n)) f ∙ sym (ap (λ (b : Bool). sets out at (tail_of eds b)) e),
-  )
-
-  pub tail_none : last ≡ false → (0 ≡ length (tail_of eds last)) × (0 ≤ 2) × (out ≡ sets out at (tail_of eds last))
-  unfolding tail_of
-  tail_none e = (sym (ap (λ (b : Bool). length (tail_of eds b)) e), omega arith, sym (ap (λ (b : Bool). sets out at (tail_of eds b)) e))
-
--- what is sent is told by its case
-pub sent_by_lem : (eds out : List ℕ) (sends x : Sends) → sends ≡ x → (y : Given × List ℕ) → y ≡ told (outcome_of eds x) out → y ≡ told (outcome_of eds sends) out
-sent_by_lem eds out sends x e y h = h ∙ sym (ap (λ (z : Sends). told (outcome_of eds z) out) e)
-
--- ---- the length
-
-length_is : (eds : List ℕ) (size : ℕ) → enc_fields (4 ∷ 1 ∷ []) (length eds ∷ size ∷ []) ≡ initiate_reply eds size
-unfolding enc_fields le_bytes
-length_is eds size = refl
-
-pub length_sent : (eds : List ℕ) (size : ℕ) (out out' : List ℕ) → out' ≡ put_fields (4 ∷ 1 ∷ []) out 0 (length eds ∷ size ∷ [])
-    → (Gives 5, out') ≡ told (rules.Gives (initiate_reply eds size)) out
-unfolding sum
-length_sent eds size out out' e =
-    gives out (initiate_reply eds size) 5 out'
-    (sym (length_enc_fields (4 ∷ 1 ∷ []) (length eds ∷ size ∷ []) tt) ∙ ap length (length_is eds size))
-    (e ∙ put_fields_eq (4 ∷ 1 ∷ []) out 0 (length eds ∷ size ∷ []) ∙ ap (sets out 0) (length_is eds size))
+    pub part_sent : (Ok (2 + n + m), d) ≡ told (rules.Gives (transfer_reply eds size number offset)) out
+    unfolding told
+    part_sent = λ i. (Ok (long i), bytes i)

@@ -1,65 +1,39 @@
--- A turn of the sum, and what a transfer's number asks for in each case.
-use Prim.Native.Nat.{ℕ, suc, ◌+◌, ◌-◌, ◌%◌, ◌≤◌, ◌<◌, min, max}
+-- The sum as code takes it, and a step by the first byte given.
+use Prim.Native.Nat.{ℕ, ◌+◌}
+use Rattle.std.specs.Prelude.{None, Option, Some, slice_get}
 use mathlib.Core.List.{List, [], ◌∷◌}
-use mathlib.Core.Path.{◌≡◌, refl, ap, sym, ◌∙◌}
-use native.Mathlib.Omega.{arith}
-use native.Mathlib.Numerals.{add-one}
-use borrow.Author.Tests.{eq-eqb, ne_eqb}
-use lib.ListN.{length, get_or, drop, length-drop}
-use lib.Seq.{drop-cons}
+use mathlib.Core.Path.{◌≡◌, refl, ap, ◌∙◌}
+use Rattle.std.specs.List as List
+use Rattle.std.proofs.lemmas.List.Sums.{sum_by-cons}
 use Rattle.base_cells.specs.Records.{sum}
-use Rattle.rules.specs.Upload.{checksum, clamped, next_turn, turn_after, turn_of}
-use Rattle.rules.specs.declared.objects.Last.{Last}
-use Rattle.rules.specs.declared.objects.Last.TheVariants.{NoLast, Was}
+use Rattle.rules.specs.Attributes.{Outcome, Gives, Fails}
+use Rattle.rules.specs.declared.objects.Fault.TheVariants.{NotEnoughData}
+use Rattle.rules.specs.Upload.{clamped, started, initiate_reply, initiate, transfer_at, transfer}
 use Rattle.rules.specs.declared.objects.Position.{Position}
-use Rattle.rules.specs.declared.objects.Turn.{Turn}
-use Rattle.rules.specs.declared.objects.Turn.TheVariants.{Repeat, InTurn, OutOfTurn}
 
--- ---- the sum: what was added and what is left make the whole
+-- ---- the sum, as code takes it and as the rule says it
 
-sum_step : (l : List ℕ) (i : ℕ) → i < length l → sum (drop i l) ≡ get_or l i 0 + sum (drop (i + 1) l)
+pub plain_sum : (l : List ℕ) → List.sum l ≡ sum l
 unfolding sum
-sum_step l i h = ap sum (drop-cons l i 0 h) ∙ ap (λ (n : ℕ). get_or l i 0 + sum (drop n l)) (sym (add-one i))
+plain_sum [] = refl
+plain_sum (x ∷ l) = sum_by-cons (λ (n : ℕ). n) x l ∙ ap (λ (n : ℕ). x + n) (plain_sum l)
 
-sum_empty : (l : List ℕ) → length l ≤ 0 → sum l ≡ 0
-unfolding sum
-sum_empty [] h = refl
-sum_empty (x ∷ l) h = absurd (omega arith)
+-- ---- a step, by the first byte given
 
-module _ (l : List ℕ) (i s : ℕ) (e : s + sum (drop i l) ≡ sum l) where
-  pub sum_more : (b : ℕ) → b ≡ get_or l i 0 → i < length l → s + b + sum (drop (i + 1) l) ≡ sum l
-  sum_more b q h = omega (arith, e, q, sum_step l i h)
+abbrev pub initiate_by : ℕ → List ℕ → Option Position → Option ℕ → Outcome × Option Position
+initiate_by limit eds up None = (Fails NotEnoughData, up)
+initiate_by limit eds up (Some wanted) = (Gives (initiate_reply eds (clamped limit wanted)), Some (started (clamped limit wanted)))
 
-  pub sum_done : length l ≤ i → (65536 - s % 65536) % 65536 ≡ checksum l
-  unfolding checksum
-  sum_done h =
-      let z : sum (drop i l) ≡ 0 = sum_empty (drop i l) (rw length-drop (omega arith)) in
-      omega (arith, e, z)
+pub initiate_first : (limit : ℕ) (eds : List ℕ) (up : Option Position) (given : List ℕ) → initiate limit eds up given ≡ initiate_by limit eds up (slice_get given 0)
+unfolding initiate
+initiate_first limit eds up [] = refl
+initiate_first limit eds up (wanted ∷ rest) = refl
 
--- ---- the size
+abbrev pub transfer_by : List ℕ → Option Position → Option ℕ → Outcome × Option Position
+transfer_by eds up None = (Fails NotEnoughData, up)
+transfer_by eds up (Some number) = transfer_at eds number up
 
-pub clamped_small : (limit wanted n : ℕ) → n ≡ min wanted limit → n < 1 → 1 ≡ clamped limit wanted
-unfolding clamped
-clamped_small limit wanted n e h = omega (arith, e)
-
-pub clamped_other : (limit wanted n : ℕ) → n ≡ min wanted limit → 1 ≤ n → n ≡ clamped limit wanted
-unfolding clamped
-clamped_other limit wanted n e h = omega (arith, e)
-
--- ---- the turn
-
-module _ (p : Position) (number : ℕ) where
-  pub turn_first : p.last ≡ NoLast → next_turn p.next number ≡ turn_of p number
-  unfolding turn_of
-  turn_first e = sym (ap (λ (x : Last). turn_after x p.next number) e)
-
-  module _ (before offset : ℕ) (e : p.last ≡ Was before offset) where
-    turn_last : turn_of p number ≡ turn_after (Was before offset) p.next number
-    unfolding turn_of
-    turn_last = ap (λ (x : Last). turn_after x p.next number) e
-
-    pub turn_again : before ≡ number → Repeat offset ≡ turn_of p number
-    turn_again h = sym (turn_last ∙ simp (eq-eqb before number h))
-
-    pub turn_other : (before ≡ number → ⊥) → next_turn p.next number ≡ turn_of p number
-    turn_other h = sym (turn_last ∙ simp (ne_eqb before number h))
+pub transfer_first : (eds : List ℕ) (up : Option Position) (given : List ℕ) → transfer eds up given ≡ transfer_by eds up (slice_get given 0)
+unfolding transfer
+transfer_first eds up [] = refl
+transfer_first eds up (number ∷ rest) = refl

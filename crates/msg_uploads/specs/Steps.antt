@@ -1,8 +1,6 @@
 -- The next position by the length of the EDS alone, as code computes it.
 use Rattle.std.specs.Prelude.{List, ◌≡◌, refl, ℕ, ◌+◌, ◌%◌, min, length}
-use Rattle.rules.specs.Upload.{advanced}
-use Rattle.rules.specs.declared.objects.Last.{Last}
-use Rattle.rules.specs.declared.objects.Last.TheVariants.{NoLast, Was}
+use Rattle.rules.specs.Upload.{advanced, was}
 use Rattle.rules.specs.declared.objects.Position.{Position}
 
 unfoldable pub advanced_to : ℕ → Position → Position
@@ -11,7 +9,7 @@ advanced_to len p =
       size = p.size;
       next = (p.next + 1) % 256;
       offset = min (p.offset + p.size) len;
-      last = Was p.next p.offset;
+      last = was p.next p.offset;
     }
 
 -- it is the rule's

@@ -1,6 +1,6 @@
 -- An open with a plan as a call: No. 8, or the state and the reply.
-use Prim.Native.Nat.{ℕ, ◌+◌, ◌*◌, ◌≤◌, ◌<◌, ◌^◌}
-use Rattle.std.specs.Prelude.{Bool, true, false, not, ◌≡◌, refl, length}
+use Prim.Native.Nat.{ℕ, ◌≤◌, ◌<◌}
+use Rattle.std.specs.Prelude.{Bool, true, false, ◌≡◌, refl, length, Option, Ok}
 use Rattle.std.proofs.Math.Bool.{cond}
 use mathlib.Core.List.{List, []}
 use Rattle.std.proofs.Math.Path.{ap}
@@ -8,13 +8,11 @@ use Rattle.std.proofs.Common.{sym, subst, ◌∙◌, le-leb}
 use native.Mathlib.Omega.{arith}
 use Rattle.std.proofs.Math.Seq.{sets}
 use Rattle.std.proofs.lemmas.Bool.{lt-leb}
-use Rattle.base_cells.specs.Numbers.{le}
 use Rattle.base_cells.specs.Back.{Bytes}
 use Rattle.base_cells.specs.Writes.{written, written_all}
-use Rattle.base_cells.specs.declared.Written.{Written}
 use Rattle.wire_rules.specs.declared.ForwardOpen.{ForwardOpen}
 use Rattle.wire_replies.specs.ReplyLaws.{open_reply_long}
-use Rattle.rules.specs.Answers.{No, NoRoom, Answer, Accepted, Refused, is_yes, answer_number, answer_bytes}
+use Rattle.rules.specs.Answers.{Answer, Accepted, Refused, is_yes, answer_number, answer_bytes}
 use Rattle.rules.specs.Checks.{asks_multicast}
 use Rattle.rules.specs.Opening.{after_id, side_of, side_at, new_conn, opened, reply_of, plan_answer}
 use Rattle.rules.specs.Opening
@@ -23,7 +21,6 @@ use Rattle.rules.specs.declared.Conn.{Conn}
 use Rattle.rules.specs.declared.Origin.{Origin}
 use Rattle.rules.specs.declared.Plan.{Plan}
 use Rattle.rules.specs.declared.Socket.{Socket}
-use Rattle.rules.specs.declared.Verdict.TheVariants.{Planned}
 use Rattle.state_rules.specs.Places.{next_id_of}
 use Rattle.state_rules.specs.Image.{view, store, tested}
 use Rattle.state_image.specs.Holds.{holds_tested, next_id_held}
@@ -32,19 +29,9 @@ use Rattle.open_answering.specs.declared.making.Side.{Side}
 use Rattle.open_answering.specs.Sides.{side_in, after_some, side_some}
 use Rattle.open_answering.specs.Steps.{StoresFit, opened_as, Opens, reply_from, plan_call}
 use Rattle.open_answering.specs.StepLaws.{opened_is}
+use Rattle.rules.specs.declared.No.TheVariants.{NoRoom}
 
 -- ---- the number
-
-module _ (multicast : Bool) (dest : Socket) where
-  pub number_point : multicast ≡ false → 0 ≡ answer_number (Accepted multicast dest [])
-  unfolding answer_number
-  number_point e = ap (λ (b : Bool). answer_number (Accepted b dest [])) (sym e)
-
-  pub number_group : multicast ≡ true → (r : ℕ) → r ≡ 256 + dest.port * 65536 + dest.address * 4294967296 → r ≡ answer_number (Accepted multicast dest [])
-  unfolding answer_number
-  number_group e r h =
-      let z : r ≡ 2 ^ 8 * 1 + 2 ^ 16 * dest.port + 2 ^ 32 * dest.address = omega arith in
-      z ∙ ap (λ (b : Bool). answer_number (Accepted b dest [])) (sym e)
 
 -- the reply does not change it
 number_any : (multicast : Bool) (dest : Socket) (bs : List ℕ) → answer_number (Accepted multicast dest []) ≡ answer_number (Accepted multicast dest bs)
@@ -54,11 +41,11 @@ number_any false dest bs = refl
 
 -- ---- the reply
 
-pub reply_written : (o : ForwardOpen) (n : ℕ) (x : Side) (out out' : List ℕ) (w : Written) → 26 ≤ length out
+pub reply_written : (o : ForwardOpen) (n : ℕ) (x : Side) (out out' : List ℕ) (w : Option ℕ) → 26 ≤ length out
     → (w, out') ≡ written out (reply_from o n x) → out' ≡ sets out 0 (reply_from o n x)
 reply_written o n x out out' w h e =
     let k = open_reply_long (record { 0 = n }) x.toid o.triad o.ot.rpi x.torpi in
-    ap (λ (z : Written × List ℕ). z.1) (e ∙ written_all out (reply_from o n x) (omega arith))
+    ap (λ (z : Option ℕ × List ℕ). z.1) (e ∙ written_all out (reply_from o n x) (omega arith))
 
 -- ---- the call
 
@@ -77,7 +64,7 @@ module _ (t : ℕ) (o : ForwardOpen) (g : Origin) (d : List ℕ) (p : Plan) (s o
   unfolding plan_call answer_number
   accept_short h =
       let k = long in
-      let a : Refused NoRoom ≡ plan_answer o g n₀ (length out) (Planned p) =
+      let a : Refused NoRoom ≡ plan_answer o g n₀ (length out) (Ok p) =
       ap (λ (v : Bool). cond v yes (Refused NoRoom)) (sym (lt-leb (length (reply_of o g p n₀)) (length out) (omega arith))) in
       out_kept (plan_call t o g d p) s out ok b 8 (ap answer_number a) (ap (λ (z : Answer). cond (is_yes z) (opened t o g d p (view s)) (view s)) (sym a)) (ap answer_bytes (sym a))
 
@@ -111,7 +98,7 @@ module _ (t : ℕ) (o : ForwardOpen) (g : Origin) (d : List ℕ) (p : Plan) (s o
     accept_done h c ec s' out' e f eo v ev r er =
         let k = long in
         let st : State = view s in
-        let a : yes ≡ plan_answer o g n₀ (length out) (Planned p) =
+        let a : yes ≡ plan_answer o g n₀ (length out) (Ok p) =
         ap (λ (u : Bool). cond u yes (Refused NoRoom)) (sym (le-leb (length (reply_of o g p n₀)) (length out) (omega arith))) in
         let cc₀ : c ≡ new_conn t o g p n₀ = ec ∙ ap (new_conn t o g p) n_is in
         let i : s' ≡ store (opened_as c x.next p.stores d st) s = (e st s (holds_tested s ok b) f).is in

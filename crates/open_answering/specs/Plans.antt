@@ -1,24 +1,20 @@
 -- What an open that passed every check says of the state: there is a row left, and its configuration data fits its assembly.
-use Prim.Native.Nat.{ℕ, ◌+◌, ◌-◌, ◌≤◌, ◌<◌}
-use Rattle.std.specs.Prelude.{Bool, true, false, cond, List, map, ◌≡◌, refl, eqb, ltb, take, drop}
-use Rattle.std.proofs.Math.Option.{Option, none, some}
+use Prim.Native.Nat.{ℕ, ◌+◌, ◌≤◌, ◌<◌}
+use Rattle.std.specs.Prelude.{Bool, true, false, cond, List, ◌≡◌, refl, eqb, ltb, Option, Some, None, Result, Ok, Err}
 use Rattle.std.proofs.Math.Path.{ap, subst}
-use Rattle.std.proofs.Common.{sym, ◌∙◌, length-drop, length-take-le}
+use Rattle.std.proofs.Common.{sym, ◌∙◌}
 use native.Mathlib.Omega.{arith}
 use Rattle.std.proofs.Math.ListN.{length, get_or-eq_default}
 use Rattle.std.proofs.lemmas.List.{length-map}
 use borrow.Author.Tests.{ltb-true, ltb-false, eqb-true, eqb-false}
-use Rattle.base_cells.specs.Numbers.{le}
 use Rattle.base_cells.specs.Back.{Bytes}
 use Rattle.wire_rules.specs.declared.ForwardOpen.{ForwardOpen}
 use Rattle.wire_rules.specs.declared.ConnectionPath.{ConnectionPath}
-use Rattle.wire_rules.specs.declared.PathAnswer.{PathAnswer}
-use Rattle.wire_rules.specs.declared.PathAnswer.TheVariants.{Parsed, Unparsed}
 use Rattle.wire_rules.specs.ConnectionPath.{path_of}
 use Rattle.wire_segments.specs.PathLaws.{data_inside}
 use Rattle.rules_laws.specs.ListLaws.{by_cases, clash}
-use Rattle.rules.specs.State.{is_input, is_output, is_owner, Setup, State, no_shape, shape_at, content_at, fixeds}
-use Rattle.rules.specs.Checks.{path_in, ot_point, to_point, kind_of, is_at, place_of, place_or0, roles_of, config_stop, config_check, room_check, stores_into, plan_of, verdict}
+use Rattle.rules.specs.State.{is_input, is_output, is_owner, Setup, State, no_shape, shape_at, fixeds}
+use Rattle.rules.specs.Checks.{path_in, ot_point, to_point, kind_of, is_at, place_of, place_or0, roles_of, config_stop, config_check, room_check, plan_of, verdict}
 use Rattle.rules_laws.specs.CheckLaws.{must_none, passed}
 use Rattle.rules.specs.declared.AssemblyKind.{AssemblyKind}
 use Rattle.rules.specs.declared.Conn.{Conn}
@@ -26,11 +22,7 @@ use Rattle.rules.specs.declared.Fixed.{Fixed}
 use Rattle.rules.specs.declared.Kind.{Kind}
 use Rattle.rules.specs.declared.Kind.TheVariants.{Owner, InputOnly, ListenOnly}
 use Rattle.rules.specs.declared.Plan.{Plan}
-use Rattle.rules.specs.declared.Stores.{Stores}
-use Rattle.rules.specs.declared.Stores.TheVariants.{Nothing, Into}
-use Rattle.rules.specs.declared.Verdict.TheVariants.{Planned}
 use Rattle.state_rules.specs.Image.{view, tested}
-use Rattle.state_image.specs.Fits.{Suits}
 use Rattle.state_rules.specs.Rows.{RoleFits}
 use Rattle.state_searches.specs.Searches.{place_in_lem}
 use Rattle.state_image.specs.StoreLaws.{content_short, few_contents}
@@ -38,58 +30,37 @@ use Rattle.state_image.specs.ViewLaws.{suits_view}
 use Rattle.state_image.specs.Holds.{holds_tested, assemblies_held, conns_held}
 use Rattle.open_answering.specs.Steps.{StoresFit, Fit}
 
--- ---- the data in the path
-
--- it lies inside the path
-pub config_inside : (path : List ℕ) (answer : PathAnswer) → answer ≡ path_of path → (path_in answer).datastart + (path_in answer).datalen ≤ length path
-config_inside path (Parsed p) e = data_inside path p e
-config_inside path (Unparsed offset) e = omega arith
-
-pub config_parsed : (answer : PathAnswer) (p : ConnectionPath) → answer ≡ Parsed p → (p.datastart ≡ (path_in answer).datastart) × (p.datalen ≡ (path_in answer).datalen)
-config_parsed answer p e = (ap (λ (z : PathAnswer). (path_in z).datastart) (sym e), ap (λ (z : PathAnswer). (path_in z).datalen) (sym e))
-
--- as code takes it
-module _ (path : List ℕ) (answer : PathAnswer) (e : answer ≡ path_of path) (a n : ℕ) (ea : a ≡ (path_in answer).datastart) (en : n ≡ (path_in answer).datalen) where
-  pub place_inside : a + n ≤ length path
-  place_inside = let h = config_inside path answer e in omega arith
-
-  pub config_long : length (take (a + n - a) (drop a path)) ≡ (path_in answer).datalen
-  config_long =
-      let h = config_inside path answer e in
-      let k = length-drop a path in
-      length-take-le (a + n - a) (drop a path) (omega arith) ∙ (let q : a + n - a ≡ (path_in answer).datalen = omega arith in q)
-
-  pub config_is : take (a + n - a) (drop a path) ≡ take (path_in (path_of path)).datalen (drop (path_in (path_of path)).datastart path)
-  config_is =
-      let q : a + n - a ≡ (path_in answer).datalen = omega arith in
-      (λ j. take (q j) (drop (ea j) path)) ∙ ap (λ (z : PathAnswer). take (path_in z).datalen (drop (path_in z).datastart path)) e
+-- the configuration data lies inside the path
+pub config_inside : (path : List ℕ) (answer : Result ConnectionPath ℕ) → answer ≡ path_of path → (path_in answer).datastart + (path_in answer).datalen ≤ length path
+config_inside path (Ok p) e = data_inside path p e
+config_inside path (Err offset) e = omega arith
 
 -- ---- what the checks said
 
 -- check 5, where data is stored
-config_at : (b : Bool) (u : Setup) (n : ℕ) (c : Option ℕ) (i : ℕ) → cond b none (config_stop u n c) ≡ none → cond b Nothing (stores_into c) ≡ Into i
+config_at : (b : Bool) (u : Setup) (n : ℕ) (c : Option ℕ) (i : ℕ) → cond b None (config_stop u n c) ≡ None → cond b None c ≡ Some i
     → (b ≡ false) × ((shape_at u i).size ≡ n)
 config_at true u n c i e q = clash true refl (cc)
-config_at false u n none i e q = clash true refl (cc)
-config_at false u n (some j) i e q =
+config_at false u n None i e q = clash true refl (cc)
+config_at false u n (Some j) i e q =
     let y : eqb (shape_at u j).size n ≡ true = must_none (eqb (shape_at u j).size n) _ e in
     let z : j ≡ i = cc in
     (refl, ap (λ (k : ℕ). (shape_at u k).size) (sym z) ∙ eqb-true (shape_at u j).size n y)
 
-module _ (u : Setup) (table : List Fixed) (o : ForwardOpen) (answer : PathAnswer) (p : Plan) (e : verdict u table o answer ≡ Planned p) where
+module _ (u : Setup) (table : List Fixed) (o : ForwardOpen) (answer : Result ConnectionPath ℕ) (p : Plan) (e : verdict u table o answer ≡ Ok p) where
   -- check 13
   pub planned_few : length table < 32
   unfolding room_check
   planned_few = ltb-true (length table) 32 (must_none (ltb (length table) 32) _ (passed u table o answer p e).0.room)
 
-  pub planned_size : (i : ℕ) → p.stores ≡ Into i → (eqb (path_in answer).datalen 0 ≡ false) × ((shape_at u i).size ≡ (path_in answer).datalen)
+  pub planned_size : (i : ℕ) → p.stores ≡ Some i → (eqb (path_in answer).datalen 0 ≡ false) × ((shape_at u i).size ≡ (path_in answer).datalen)
   unfolding config_check plan_of
   planned_size i q =
       let z = passed u table o answer p e in
       config_at (eqb (path_in answer).datalen 0) u (path_in answer).datalen (roles_of u (path_in answer)).config i z.0.config (ap (λ (x : Plan). x.stores) z.1 ∙ q)
 
   -- data that is not empty has an assembly of the setup's list
-  pub planned_place : (i : ℕ) → p.stores ≡ Into i → i < length u.assemblies
+  pub planned_place : (i : ℕ) → p.stores ≡ Some i → i < length u.assemblies
   planned_place i q =
       let z = planned_size i q in
       by_cases (ltb i (length u.assemblies)) (λ t. ltb-true i (length u.assemblies) t)
@@ -99,9 +70,9 @@ module _ (u : Setup) (table : List Fixed) (o : ForwardOpen) (answer : PathAnswer
 
 -- ---- the roles are places of the setup's list
 
-or0_small : (o : Option ℕ) (n : ℕ) → ((i : ℕ) → o ≡ some i → i ≤ n) → place_or0 o ≤ n
-or0_small none n h = omega arith
-or0_small (some i) n h = h i refl
+or0_small : (o : Option ℕ) (n : ℕ) → ((i : ℕ) → o ≡ Some i → i ≤ n) → place_or0 o ≤ n
+or0_small None n h = omega arith
+or0_small (Some i) n h = h i refl
 
 place_small : (is : AssemblyKind → Bool) (u : Setup) (n : ℕ) → place_or0 (place_of is u n) ≤ length u.assemblies
 unfolding place_of
@@ -112,7 +83,7 @@ role_small Owner n h = h
 role_small InputOnly n h = refl
 role_small ListenOnly n h = refl
 
-module _ (u : Setup) (table : List Fixed) (o : ForwardOpen) (answer : PathAnswer) (p : Plan) (e : verdict u table o answer ≡ Planned p) (few : length u.assemblies ≤ 16) where
+module _ (u : Setup) (table : List Fixed) (o : ForwardOpen) (answer : Result ConnectionPath ℕ) (p : Plan) (e : verdict u table o answer ≡ Ok p) (few : length u.assemblies ≤ 16) where
   pub planned_input : p.input ≤ 31
   unfolding plan_of roles_of
   planned_input =
@@ -129,8 +100,8 @@ module _ (u : Setup) (table : List Fixed) (o : ForwardOpen) (answer : PathAnswer
 
 -- ---- of a state that passed its test
 
-module _ (s : List ℕ) (ok : tested s ≡ true) (o : ForwardOpen) (answer : PathAnswer) (p : Plan)
-    (e : verdict (view s).setup (fixeds (view s).table) o answer ≡ Planned p) (d : List ℕ) (n : length d ≡ (path_in answer).datalen) where
+module _ (s : List ℕ) (ok : tested s ≡ true) (o : ForwardOpen) (answer : Result ConnectionPath ℕ) (p : Plan)
+    (e : verdict (view s).setup (fixeds (view s).table) o answer ≡ Ok p) (d : List ℕ) (n : length d ≡ (path_in answer).datalen) where
   abbrev st : State
   st = view s
 

@@ -1,5 +1,5 @@
 -- Each step of an accepted open over a held state, and the steps together.
-use Rattle.std.specs.Prelude.{ℕ, ◌+◌, ◌<◌, false, ◌≡◌, refl, length}
+use Rattle.std.specs.Prelude.{ℕ, ◌+◌, ◌<◌, false, ◌≡◌, refl, length, Option, Some, None}
 use mathlib.Core.List.{List, [], ◌∷◌}
 use Rattle.std.proofs.Common.{ap, sym, subst, ◌∙◌, arith}
 use Rattle.wire_rules.specs.declared.ForwardOpen.{ForwardOpen}
@@ -11,8 +11,6 @@ use Rattle.rules.specs.declared.Event.{Event}
 use Rattle.rules.specs.declared.Event.TheVariants.{Opened, Configured}
 use Rattle.rules.specs.declared.Origin.{Origin}
 use Rattle.rules.specs.declared.Plan.{Plan}
-use Rattle.rules.specs.declared.Stores.{Stores}
-use Rattle.rules.specs.declared.Stores.TheVariants.{Nothing, Into}
 use Rattle.state_rules.specs.Setups.{shape_in}
 use Rattle.state_rules.specs.Rows.{RowFits}
 use Rattle.state_rules.specs.Places.{connections_of, assemblies_of}
@@ -63,19 +61,19 @@ module _ (i : ℕ) (d s s₁ s₂ : List ℕ) where
         suits = suits_told st₁ l (Configured (shape_at st.setup i).instance (length d)) w₁;
       }
 
-module _ (x : Stores) (d s : List ℕ) where
-  pub puts_none : x ≡ Nothing → Puts x d s s
-  puts_none e st l h f = subst (λ (z : Stores). Holds s (stored_as z d st) l) (sym e) h
+module _ (x : Option ℕ) (d s : List ℕ) where
+  pub puts_none : x ≡ None → Puts x d s s
+  puts_none e st l h f = subst (λ (z : Option ℕ). Holds s (stored_as z d st) l) (sym e) h
 
-  pub puts_into : (i : ℕ) → x ≡ Into i → (s' : List ℕ) → Configures i d s s' → Puts x d s s'
-  puts_into i e s' b st l h f = subst (λ (z : Stores). Holds s' (stored_as z d st) l) (sym e) (b st l h (f i e))
+  pub puts_into : (i : ℕ) → x ≡ Some i → (s' : List ℕ) → Configures i d s s' → Puts x d s s'
+  puts_into i e s' b st l h f = subst (λ (z : Option ℕ). Holds s' (stored_as z d st) l) (sym e) (b st l h (f i e))
 
   pub room_kept : (n : ℕ) (s' : List ℕ) → Kept n s s' → Room x d s → Room x d s'
   room_kept n s' k r i e = let q = kept_few n s s' k in let z = r i e in (let y = z.0 in omega arith, z.1)
 
 -- ---- the whole
 
-module _ (c : Conn) (next : ℕ) (x : Stores) (d s s₁ s₂ s₃ : List ℕ) where
+module _ (c : Conn) (next : ℕ) (x : Option ℕ) (d s s₁ s₂ s₃ : List ℕ) where
   pub open_kept : Kept (connections_of s + 1) s s₁ → Kept (connections_of s₁) s₁ s₂ → Kept (connections_of s₂) s₂ s₃ → Kept (connections_of s + 1) s s₃
   open_kept a b e = record { ready = e.ready; setup = e.setup ∙ b.setup ∙ a.setup; conns = e.conns ∙ b.conns ∙ a.conns }
 
@@ -109,6 +107,6 @@ module _ (t : ℕ) (o : ForwardOpen) (g : Origin) (d : List ℕ) (p : Plan) (st 
             counters = st.counters;
           }
 
-      go : (x : Stores) → opened_as c next x d st ≡ whole (stored x d st.contents) (config_event st.setup x d)
-      go Nothing = refl
-      go (Into i) = ap (λ (z : List Content). whole z (Configured (shape_at st.setup i).instance (length d) ∷ [])) (sym (change_at_place (holding d) no_content st.contents i))
+      go : (x : Option ℕ) → opened_as c next x d st ≡ whole (stored x d st.contents) (config_event st.setup x d)
+      go None = refl
+      go (Some i) = ap (λ (z : List Content). whole z (Configured (shape_at st.setup i).instance (length d) ∷ [])) (sym (change_at_place (holding d) no_content st.contents i))

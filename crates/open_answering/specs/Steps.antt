@@ -1,5 +1,5 @@
 -- The steps of an accepted open over a held state: what each makes of it, as contracts say it.
-use Rattle.std.specs.Prelude.{ℕ, ◌+◌, ◌≤◌, ◌<◌, false, List, [], ◌≡◌, length}
+use Rattle.std.specs.Prelude.{ℕ, ◌≤◌, ◌<◌, false, List, ◌≡◌, length, Option, Some, None, Ok}
 use Rattle.wire_rules.specs.declared.ForwardOpen.{ForwardOpen}
 use Rattle.wire_rules.specs.Replies.{open_reply}
 use Rattle.rules.specs.State.{State, content_at, shape_at, with_fault, with_next_id}
@@ -10,9 +10,6 @@ use Rattle.rules.specs.declared.Conn.{Conn}
 use Rattle.rules.specs.declared.Event.TheVariants.{Opened, Configured}
 use Rattle.rules.specs.declared.Origin.{Origin}
 use Rattle.rules.specs.declared.Plan.{Plan}
-use Rattle.rules.specs.declared.Stores.{Stores}
-use Rattle.rules.specs.declared.Stores.TheVariants.{Nothing, Into}
-use Rattle.rules.specs.declared.Verdict.TheVariants.{Planned}
 use Rattle.state_rules.specs.Rows.{RoleFits}
 use Rattle.state_rules.specs.Places.{connections_of, assemblies_of}
 use Rattle.state_rules.specs.Image.{view}
@@ -37,26 +34,26 @@ configured i d st = event_told (Configured (shape_at st.setup i).instance (lengt
 abbrev pub Configures : ℕ → List ℕ → List ℕ → List ℕ → Type 0
 Configures i d s s' = (st : State) (l : List ℕ) → Holds s st l → length d ≡ length (content_at st i).bytes → Holds s' (configured i d st) l
 
-abbrev pub stored_as : Stores → List ℕ → State → State
-stored_as Nothing d st = st
-stored_as (Into i) d st = configured i d st
+abbrev pub stored_as : Option ℕ → List ℕ → State → State
+stored_as None d st = st
+stored_as (Some i) d st = configured i d st
 
-abbrev pub StoresFit : Stores → List ℕ → State → Type 0
-StoresFit x d st = (i : ℕ) → x ≡ Into i → length d ≡ length (content_at st i).bytes
+abbrev pub StoresFit : Option ℕ → List ℕ → State → Type 0
+StoresFit x d st = (i : ℕ) → x ≡ Some i → length d ≡ length (content_at st i).bytes
 
-abbrev pub Puts : Stores → List ℕ → List ℕ → List ℕ → Type 0
+abbrev pub Puts : Option ℕ → List ℕ → List ℕ → List ℕ → Type 0
 Puts x d s s' = (st : State) (l : List ℕ) → Holds s st l → StoresFit x d st → Holds s' (stored_as x d st) l
 
 -- what code must know of the buffer to write the data
-abbrev pub Room : Stores → List ℕ → List ℕ → Type 0
-Room x d s = (i : ℕ) → x ≡ Into i → (i < assemblies_of s) × (length d ≤ 512)
+abbrev pub Room : Option ℕ → List ℕ → List ℕ → Type 0
+Room x d s = (i : ℕ) → x ≡ Some i → (i < assemblies_of s) × (length d ≤ 512)
 
 -- ---- the whole
 
-abbrev pub opened_as : Conn → ℕ → Stores → List ℕ → State → State
+abbrev pub opened_as : Conn → ℕ → Option ℕ → List ℕ → State → State
 opened_as c next x d st = with_fault false (stored_as x d (placed c next st))
 
-abbrev pub Opens : Conn → ℕ → Stores → List ℕ → List ℕ → List ℕ → Type 0
+abbrev pub Opens : Conn → ℕ → Option ℕ → List ℕ → List ℕ → List ℕ → Type 0
 Opens c next x d s s' = (st : State) (l : List ℕ) → Holds s st l → StoresFit x d st → Holds s' (opened_as c next x d st) l
 
 -- what a plan that passed the checks says of the state
@@ -73,4 +70,4 @@ abbrev pub reply_from : ForwardOpen → ℕ → Side → List ℕ
 reply_from o n x = open_reply (record { 0 = n }) x.toid o.triad o.ot.rpi x.torpi
 
 unfoldable pub plan_call : ℕ → ForwardOpen → Origin → List ℕ → Plan → ℕ → State → Answer × State
-plan_call t o g d p room st = settled (plan_answer o g st.next_id room (Planned p)) (plan_effect t o g d st (Planned p)) st
+plan_call t o g d p room st = settled (plan_answer o g st.next_id room (Ok p)) (plan_effect t o g d st (Ok p)) st

@@ -15,7 +15,9 @@ ghost use Rattle.open_answering.specs.Steps.{Places, Configures, Puts, Room, Ope
 use crate::making;
 use crate::making::Side;
 use base_ids::OtId;
-use rules::{Conn, Origin, Plan, Socket, Stores};
+use rules::{Conn, Origin, Plan, Socket};
+use state_events::AssemblyChange;
+use state_records::Occasion;
 use wire_rules::ForwardOpen;
 
 // The next id, the row and the event of a new connection.
@@ -23,10 +25,9 @@ fn place(s: &mut [u8], c: Conn, next: u32)
     requires { Ready s.old × (connections_of s.old < 32) × (of_due c.sent.due < 18446744073709551616) × (0 < next) × (c.fixed.input ≤ 31) × RowFits c }
     ensures { Kept (connections_of s.old + 1) s.old s.new × Places c next s.old s.new }
 {
-    let f = c.fixed;
     state_changes::set_next_id(s, next);
     state_changes::add_row(s, c);
-    state_events::tell(s, 1, f);
+    state_events::tell(s, Occasion::Opened, c.fixed);
 }
 
 // Configuration data in its assembly, and its event.
@@ -34,27 +35,23 @@ fn configure(s: &mut [u8], i: u8, config: &[u8])
     requires { Ready s.old × (i < assemblies_of s.old) × (length config.now ≤ 512) }
     ensures { Kept (connections_of s.old) s.old s.new × Configures i config.now s.old s.new }
 {
-    let k = i as usize;
-    let length = config.len() as u16;
-    state_changes::put_bytes(s, k, config);
-    let instance = state_layout::instance_at(s, k);
-    state_events::tell_assembly(s, 4, instance, length);
+    let i = i as usize;
+    state_changes::put_bytes(s, i, config);
+    let instance = state_layout::instance_at(s, i);
+    state_events::tell_assembly(s, AssemblyChange::Configured, instance, config.len() as u16);
 }
 
-fn store(s: &mut [u8], stores: Stores, config: &[u8])
+fn store(s: &mut [u8], stores: Option<u8>, config: &[u8])
     requires { Ready s.old × Room stores config.now s.old }
     ensures { Kept (connections_of s.old) s.old s.new × Puts stores config.now s.old s.new }
 {
-    match stores {
-        Stores::Nothing => {}
-        Stores::Into(i) => {
-            configure(s, i, config);
-        }
+    if let Some(i) = stores {
+        configure(s, i, config);
     }
 }
 
 // What an accepted open leaves: the connection, its data, and no fault mark.
-fn effect(s: &mut [u8], c: Conn, next: u32, stores: Stores, config: &[u8])
+fn effect(s: &mut [u8], c: Conn, next: u32, stores: Option<u8>, config: &[u8])
     requires { Ready s.old × (connections_of s.old < 32) × (of_due c.sent.due < 18446744073709551616) × (0 < next) × Room stores config.now s.old × (c.fixed.input ≤ 31) × RowFits c }
     ensures { Kept (connections_of s.old + 1) s.old s.new × Opens c next stores config.now s.old s.new }
 {
@@ -64,13 +61,15 @@ fn effect(s: &mut [u8], c: Conn, next: u32, stores: Stores, config: &[u8])
 }
 
 // Whether T→O is multicast, and then the port and the address of its stream.
+#[tactic(auto, unfolding(rules::specs::Answers::answer_number))]
 fn accepted_number(multicast: bool, dest: Socket) -> u64
     ensures { result ≡ answer_number (Accepted multicast dest []) }
 {
-    if !multicast {
-        return 0;
+    if multicast {
+        0x100 + ((dest.port as u64) << 16) + ((dest.address as u64) << 32)
+    } else {
+        0
     }
-    256 + (dest.port as u64) * 65536 + (dest.address as u64) * 4294967296
 }
 
 // The ids, the triad, the O→T RPI as asked and the T→O RPI taken.
@@ -78,9 +77,7 @@ fn reply(out: &mut [u8], o: ForwardOpen, n: u32, side: Side)
     requires { 26 ≤ length out.old }
     ensures { out.new ≡ sets out.old 0 (reply_from o n side) }
 {
-    let triad = o.triad;
-    let toid = side.toid;
-    wire_replies::open_reply(out, OtId(n), toid, triad, o.ot.rpi, side.torpi);
+    wire_replies::open_reply(out, OtId(n), side.toid, o.triad, o.ot.rpi, side.torpi);
 }
 
 // An open that passed every check: No. 8 where its reply does not fit, else it is there and answered.
@@ -99,13 +96,10 @@ pub fn accept(
     if out.len() < 26 {
         return 8;
     }
-    let stream = p.stream;
-    let stores = p.stores;
     let n = base_cells::u32_at(s, state_layout::NEXT_ID);
-    let side = making::side_of(o, g, making::after_id(n), stream);
+    let side = making::side_of(o, g, making::after_id(n), p.stream);
     let c = making::new_conn(time, o, g, p, n, side);
-    effect(s, c, side.next, stores, config);
+    effect(s, c, side.next, p.stores, config);
     reply(out, o, n, side);
-    let dest = side.dest;
-    accepted_number(making::asks_multicast(o), dest)
+    accepted_number(making::asks_multicast(o), side.dest)
 }

@@ -4,12 +4,3 @@
 
 pub mod key;
 pub mod request;
-
-use rules::Stop;
-
-// What a check says.
-#[derive(Clone, Copy)]
-pub enum Check {
-    Holds,
-    Stops(Stop),
-}

@@ -1,3 +1,2 @@
 pub mod Decided
-pub mod DecidedLaws
 pub mod Seen

@@ -1,22 +1,18 @@
 -- The decision read from a lent state: the EDS is not asked, and the table's fixed parts are read row by row.
-use Rattle.std.specs.Prelude.{ℕ, zero, suc, true, ◌≡◌, eqb, take, drop}
+use Rattle.std.specs.Prelude.{ℕ, zero, suc, true, ◌≡◌, eqb, take, drop, Option, Some, None, Result, Ok, Err}
+use Rattle.rules.specs.declared.Plan.{Plan}
 use Rattle.std.proofs.Math.Bool.{cond}
 use mathlib.Core.List.{List, [], ◌∷◌}
-use Rattle.std.proofs.Math.Option.{Option, none, some}
 use Rattle.std.proofs.Math.Path.{refl, ap}
 use Rattle.std.proofs.Common.{◌∙◌, arith}
 use Rattle.base_tables.specs.Tables.{rows}
 use Rattle.wire_rules.specs.declared.ForwardOpen.{ForwardOpen}
 use Rattle.wire_rules.specs.declared.ConnectionPath.{ConnectionPath}
-use Rattle.wire_rules.specs.declared.PathAnswer.{PathAnswer}
 use Rattle.rules.specs.declared.Fixed.{Fixed}
 use Rattle.rules.specs.declared.Stop.{Stop}
-use Rattle.rules.specs.declared.Stores.TheVariants.{Nothing}
-use Rattle.rules.specs.declared.Verdict.{Verdict}
-use Rattle.rules.specs.declared.Verdict.TheVariants.{Stopped, Planned}
 use Rattle.rules.specs.State.{Setup, fixeds}
 use Rattle.rules.specs.Lists.{maybe}
-use Rattle.rules.specs.Checks.{Roles, first_stop, transport_check, path_check, path_in, key_check, kind_of, place_of, points_check, roles_of, config_stop, config_check, rpi_check, type_check, ot_size_check, to_size_check, triad_check, owner_check, stream_of, stream_check, room_check, stores_into, plan_of, verdict}
+use Rattle.rules.specs.Checks.{first_stop, transport_check, path_check, path_in, key_check, kind_of, place_of, points_check, roles_of, config_stop, config_check, rpi_check, type_check, ot_size_check, to_size_check, triad_check, owner_check, stream_of, stream_check, room_check, plan_of, verdict}
 use Rattle.state_rules.specs.Places.{setup_in, table_in, eds_in, row_size, connections_of}
 use Rattle.state_rules.specs.Rows.{dec_fixed, conns_in, fixeds_in}
 use Rattle.state_rules.specs.Setups.{identity_of, setup_from, setup_of}
@@ -24,6 +20,7 @@ use Rattle.state_rules.specs.Image.{view, tested}
 use Rattle.state_image.specs.Fits.{few_assemblies, is_long, is_sound, few_conns, shapes_good}
 use Rattle.state_image.specs.StoreLaws.{length_setup_in, length_table_in}
 use Rattle.open_deciding.specs.Decided.{Regions}
+use Rattle.rules.specs.declared.Roles.{Roles}
 
 -- the EDS is not asked: each check of the setup by itself, then the decision
 module _ (r e : List ℕ) (table : List Fixed) (o : ForwardOpen) (p : ConnectionPath) where
@@ -45,11 +42,11 @@ module _ (r e : List ℕ) (table : List Fixed) (o : ForwardOpen) (p : Connection
   unfolding config_check
   config_same =
       ap (config_check bare p) roles_same
-      ∙ ap (λ (z : Option Stop). cond (eqb p.datalen 0) none z) (stop_same (roles_of whole p).config)
+      ∙ ap (λ (z : Option Stop). cond (eqb p.datalen 0) None z) (stop_same (roles_of whole p).config)
     where
       stop_same : (i : Option ℕ) → config_stop bare p.datalen i ≡ config_stop whole p.datalen i
-      stop_same none = refl
-      stop_same (some i) = refl
+      stop_same None = refl
+      stop_same (Some i) = refl
 
   rpi_same : rpi_check bare o ≡ rpi_check whole o
   unfolding rpi_check
@@ -74,17 +71,17 @@ module _ (r e : List ℕ) (table : List Fixed) (o : ForwardOpen) (p : Connection
         kind = x.kind;
         input = x.input;
         output = x.output;
-        stores = cond (eqb p.datalen 0) Nothing (stores_into x.config);
+        stores = cond (eqb p.datalen 0) None x.config;
         stream = stream_of o x table;
       }) roles_same
 
-pub eds_unread : (r e : List ℕ) (table : List Fixed) (o : ForwardOpen) (a : PathAnswer) → verdict (setup_from r []) table o a ≡ verdict (setup_from r e) table o a
+pub eds_unread : (r e : List ℕ) (table : List Fixed) (o : ForwardOpen) (a : Result ConnectionPath ℕ) → verdict (setup_from r []) table o a ≡ verdict (setup_from r e) table o a
 unfolding verdict
 eds_unread r e table o a =
     let p : ConnectionPath = path_in a in
     let same = roles_same r e table o p in
     λ j.
-    maybe (Planned (plan_same r e table o p j)) Stopped
+    maybe (Ok (plan_same r e table o p j)) Err
     (first_stop (transport_check o
     ∷ path_check a
     ∷ key_check (identity_of r) p
@@ -119,7 +116,7 @@ module _ (s : List ℕ) (n : ℕ) (en : n ≡ connections_of s) where
         few = omega arith;
       }
 
-  pub verdict_seen : (o : ForwardOpen) (a : PathAnswer) (v : Verdict) → v ≡ verdict (setup_from (setup_in s) []) (fixeds_in n (table_in s)) o a
+  pub verdict_seen : (o : ForwardOpen) (a : Result ConnectionPath ℕ) (v : Result Plan Stop) → v ≡ verdict (setup_from (setup_in s) []) (fixeds_in n (table_in s)) o a
       → v ≡ verdict (view s).setup (fixeds (view s).table) o a
   unfolding view setup_of
   verdict_seen o a v e =

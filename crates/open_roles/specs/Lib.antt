@@ -1,4 +1,1 @@
 pub mod Roles
-pub mod RoleLaws
-pub mod SizeLaws
-pub mod Placed

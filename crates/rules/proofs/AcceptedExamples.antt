@@ -1,4 +1,5 @@
 -- An open that passes every check: the stream that it joins or sends, its ids, where its packets go, its reply, its events.
+use Rattle.std.specs.Prelude.{Option, Some, None, cond}
 use mathlib.Core.Path.{◌≡◌, refl}
 use mathlib.Core.List.{List, [], ◌∷◌, ◌++◌, map}
 use mathlib.Core.Bool.{Bool, true, false}
@@ -6,7 +7,7 @@ use Prim.Native.Nat.{ℕ, ◌+◌, ◌*◌, ◌^◌}
 use lib.ListN.{get_or, length, drop}
 use Rattle.wire_rules.specs.Examples.{address}
 use Rattle.rules.specs.State
-use Rattle.rules.specs.State.{State, Due, Never, At, Origin, Socket, Configured, content_at, with_table, with_fault, with_next_id}
+use Rattle.rules.specs.State.{State, Origin, Socket, Configured, content_at, with_table, with_fault, with_next_id}
 use Rattle.rules.specs.Answers.{answer_number, answer_bytes}
 use Rattle.rules.specs.Events.{event_record}
 use Rattle.rules.specs.Setup.{first_id}
@@ -25,7 +26,7 @@ abbrev pub group : ℕ
 group = address 239 192 1 32
 
 -- what comes of an open from address 8 at 1000, behind others
-abbrev pub last : List (List ℕ) → List ℕ → List (ℕ × ℕ × Socket × ℕ × Due)
+abbrev pub last : List (List ℕ) → List ℕ → List (ℕ × ℕ × Socket × ℕ × Option ℕ)
 last before request = drop (length before) (map side (run (map opening (before ++ (request ∷ []))) plant).table)
 
 -- an owner's stream of input 101 at 10 ms: its ids are 5 and 6
@@ -38,27 +39,27 @@ orphan = with_table (drop 1 (run (map opening (stream ++ (listener 2 101 10000 �
 
 pub streams :
     -- 7.1: a multicast open joins, a point-to-point one does not
-    (last stream (reader 2 101 10000) ≡ (7, 6, at group 2222, 10000, Never) ∷ []) ×
-    (last stream (single 2 101 10000) ≡ (7, 77, at 8 2222, 10000, At 1000) ∷ []) ×
+    (last stream (reader 2 101 10000) ≡ (7, 6, at group 2222, 10000, None) ∷ []) ×
+    (last stream (single 2 101 10000) ≡ (7, 77, at 8 2222, 10000, Some 1000) ∷ []) ×
     -- 7.2: a point-to-point connection is no stream
-    (last (single 1 101 10000 ∷ []) (reader 2 101 10000) ≡ (6, 7, at group 2222, 10000, At 1000) ∷ []) ×
+    (last (single 1 101 10000 ∷ []) (reader 2 101 10000) ≡ (6, 7, at group 2222, 10000, Some 1000) ∷ []) ×
     -- 7.3: nor is a listener
     (map side (run (opening (reader 3 101 10000) ∷ []) orphan).table ≡
-    (7, 6, at group 2222, 10000, Never) ∷ (5, 6, at group 2222, 10000, At 1000) ∷ []) ×
+    (7, 6, at group 2222, 10000, None) ∷ (5, 6, at group 2222, 10000, Some 1000) ∷ []) ×
     -- 7.4: nor is one of another input
-    (last stream (reader 2 102 10000) ≡ (7, 8, at group 2222, 10000, At 1000) ∷ []) ×
+    (last stream (reader 2 102 10000) ≡ (7, 8, at group 2222, 10000, Some 1000) ∷ []) ×
     -- 7.5: nor is one at another RPI
-    (last stream (reader 2 101 20000) ≡ (7, 8, at group 2222, 20000, At 1000) ∷ []) ×
+    (last stream (reader 2 101 20000) ≡ (7, 8, at group 2222, 20000, Some 1000) ∷ []) ×
     -- 7.6, 7.10: a listener takes any RPI, and has it then
-    (last stream (listener 2 101 20000) ≡ (7, 6, at group 2222, 10000, Never) ∷ []) ×
+    (last stream (listener 2 101 20000) ≡ (7, 6, at group 2222, 10000, None) ∷ []) ×
     -- 7.7: of two streams the first
-    (last (stream ++ (reader 2 101 20000 ∷ [])) (listener 3 101 20000) ≡ (9, 6, at group 2222, 10000, Never) ∷ [])
+    (last (stream ++ (reader 2 101 20000 ∷ [])) (listener 3 101 20000) ≡ (9, 6, at group 2222, 10000, None) ∷ [])
 unfolding openings
 streams = (refl, refl, refl, refl, refl, refl, refl, refl)
 
 -- an open that arrives at host 9, whose class 1 port is 3333, perhaps with a T→O socket address
 abbrev pub away : Bool → ℕ → Origin
-away given host = record { peer = 8; local = 0x0A000009; mask = 0xFF000000; given = given; socket = at host 4444; ioport = 3333 }
+away given host = record { peer = 8; local = 0x0A000009; mask = 0xFF000000; socket = cond given (Some (at host 4444)) None; ioport = 3333 }
 
 abbrev pub away_open : Bool → ℕ → List ℕ → Call
 away_open given host request = Call.Open 1000 0x54 request (away given host) 26
@@ -113,7 +114,7 @@ pub kept : (run (away_open false 0 (ask 3 77 2 20000 0x4008 10000 0x4003 (path 1
             local = 0x0A000009;
           };
       heard = record { until = 321000; any = false; sequence = 0; anycip = false; cip = 0 };
-      sent = record { sequence = 0; cip = 0; due = At 1000 };
+      sent = record { sequence = 0; cip = 0; due = Some 1000 };
     } ∷ []
 unfolding openings
 kept = refl

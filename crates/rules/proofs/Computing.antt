@@ -24,7 +24,7 @@ use Rattle.rules.specs.Host.{set_input_answer, set_input_effect, set_input_call,
 
 -- bytes: numbers, paths, requests, replies
 unfoldable pub wire : Bool
-unfolding le le_of le_bytes bytes_be enc_fields Segments.port_offset Segments.link_offset Segments.link_size Segments.port_of port_at logical_at key_of key_at data_at seg_at Segments.between Segments.step_at segs_from segs_of gather ConnectionPath.some last connection_path path_of params_at triad_at way_at place_at fields_of open_with width_of open_of close_of open_reply triad_reply
+unfolding le le_of le_bytes bytes_be enc_fields Segments.port_offset Segments.link_offset Segments.link_size Segments.port_of port_at logical_at key_of key_at data_at seg_at Segments.between Segments.step_at segs_from segs_of gather ConnectionPath.some last ConnectionPath.final connection_path path_of params_at triad_at way_at place_at fields_of open_with width_of open_of close_of open_reply triad_reply
 wire = true
 
 -- I/O frames

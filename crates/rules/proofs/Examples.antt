@@ -1,9 +1,10 @@
 -- The definition computes. First the fixed examples of the source; then one short day: a controller (address 8) owns output 150 and starts
 -- a multicast stream of input 101, a display (address 7) listens, a frame brings data and run, packets leave, the controller falls
 -- silent, and expiry takes both; then what earlier versions got wrong; then each check's refusal, and which of two comes first.
+use Rattle.std.specs.Prelude.{Option, Some, None}
 use mathlib.Core.Path.{refl}
 use mathlib.Core.List.{List, [], ◌∷◌, ◌++◌, map}
-use mathlib.Core.Option.{none, some}
+use Rattle.std.specs.Prelude.{None, Some}
 use mathlib.Core.Bool.{Bool, true, false}
 use Prim.Native.Nat.{ℕ, ◌+◌, ◌*◌, ◌/◌, ◌^◌}
 use lib.ListN.{length, get_or, set, replicate}
@@ -19,7 +20,7 @@ use Rattle.wire_rules.specs.Group.{group_of_host}
 use Rattle.wire_rules.specs.declared.NetType.TheVariants.{Null, Multicast}
 use Rattle.wire_rules.specs.declared.Seg.TheVariants.{Class, Instance, Point}
 use Rattle.rules.specs.State
-use Rattle.rules.specs.State.{Input, Output, Config, Due, Never, At, Conn, Setup, Content, State, Origin, Fixed, Events, OutputChanged}
+use Rattle.rules.specs.State.{Input, Output, Config, Conn, Setup, Content, State, Origin, Fixed, Events, OutputChanged}
 use Rattle.rules.specs.Answers
 use Rattle.rules.specs.Answers.{Answer, Wrote, Gone, Refused, Failed, NoRoom, NothingThere, answer_number}
 use Rattle.rules.specs.Setup.{fresh}
@@ -72,7 +73,7 @@ setup =
       late_limit = 0;
       transfer_limit = 240;
       mac = 0 ∷ 0 ∷ 0 ∷ 0 ∷ 0 ∷ 0 ∷ [];
-      eds = none;
+      eds = None;
       eds_name = [];
       assemblies =
           record { instance = 150; kind = Output; size = 2 } ∷
@@ -93,7 +94,7 @@ ask serial toid multiplier otrpi ot torpi to path =
 
 abbrev pub from : ℕ → Origin
 from peer =
-    record { peer = peer; local = 0x0A000002; mask = 0xFF000000; given = false; socket = record { address = 0; port = 0 }; ioport = 2222 }
+    record { peer = peer; local = 0x0A000002; mask = 0xFF000000; socket = None; ioport = 2222 }
 
 -- class 4, an O→T point, T→O point 101
 abbrev pub points : ℕ → List ℕ
@@ -111,7 +112,7 @@ abbrev pub heard : ℕ → ℕ → ℕ → List ℕ → List ℕ
 heard sequence cip run bytes = io_frame 5 sequence cip (le_bytes 4 run ++ bytes)
 
 -- what is looked at of a connection
-abbrev pub brief : Conn → ℕ × ℕ × ℕ × Due × ℕ
+abbrev pub brief : Conn → ℕ × ℕ × ℕ × Option ℕ × ℕ
 brief c = (c.fixed.otid.0, c.fixed.toid.0, c.heard.until, c.sent.due, c.sent.sequence)
 
 abbrev pub opens : List Call
@@ -136,7 +137,7 @@ output st = get_or st.contents 0 State.no_content
 abbrev pub the_day : List Example
 the_day =
     -- ids 5 and 6 for the owner, 7 for the listener, which joins the stream 6 and does not produce
-    (map brief (run opens start).table is (5, 6, 41000, At 1000, 0) ∷ (7, 6, 201000, Never, 0) ∷ []) ∷
+    (map brief (run opens start).table is (5, 6, 41000, Some 1000, 0) ∷ (7, 6, 201000, None, 0) ∷ []) ∷
     -- the owner is told that it is multicast, the port and the group of host 2
     (answer_number (open_call 1000 0x54 owner (from 8) 26 start).0 is 2 ^ 8 + 2 ^ 16 * 2222 + 2 ^ 32 * address 239 192 1 32) ∷
     -- and gets 26 bytes: ids 5 and 6, serial 1, vendor 1, originator 1, both RPIs, two zeros
@@ -144,7 +145,7 @@ the_day =
     5 ∷ 0 ∷ 0 ∷ 0 ∷ 6 ∷ 0 ∷ 0 ∷ 0 ∷ 1 ∷ 0 ∷ 1 ∷ 0 ∷ 1 ∷ 0 ∷ 0 ∷ 0 ∷ 16 ∷ 39 ∷ 0 ∷ 0 ∷ 16 ∷ 39 ∷ 0 ∷ 0 ∷ 0 ∷ 0 ∷ []) ∷
     -- the frame's data and run are taken, and it lives on until 2000 + 40000
     (output (run noon start) is record { bytes = 0xAA ∷ 0xBB ∷ []; run = true; notified = true }) ∷
-    (map brief (run noon start).table is (5, 6, 42000, At 11000, 1) ∷ (7, 6, 201000, Never, 0) ∷ []) ∷
+    (map brief (run noon start).table is (5, 6, 42000, Some 11000, 1) ∷ (7, 6, 201000, None, 0) ∷ []) ∷
     -- one packet of 34 bytes: to 239.192.1.32 port 2222, multicast, from 10.0.0.2, 21 bytes of frame
     ((produce_call 2000 34 (run opens start)).0 is
     Wrote (239 ∷ 192 ∷ 1 ∷ 32 ∷ 8 ∷ 174 ∷ 1 ∷ 10 ∷ 0 ∷ 0 ∷ 2 ∷ 0 ∷ 21 ∷
@@ -216,10 +217,10 @@ abbrev pub slips : List Example
 slips =
     -- closing a point-to-point connection rewinds no stream of an equal id (D1)
     (map brief (run (noon ++ (Call.Open 2000 0x54 stranger (from 9) 26 ∷ Call.Close (ending 3) 10 ∷ [])) start).table is
-    (5, 6, 42000, At 11000, 1) ∷ (7, 6, 201000, Never, 0) ∷ []) ∷
+    (5, 6, 42000, Some 11000, 1) ∷ (7, 6, 201000, None, 0) ∷ []) ∷
     -- a stream is handed to the first multicast connection left, the listener, and goes on where it was
     (map brief (run (noon ++ (Call.Open 2000 0x54 joiner (from 9) 26 ∷ Call.Close (ending 1) 10 ∷ [])) start).table is
-    (7, 6, 201000, At 11000, 1) ∷ (8, 6, 42000, Never, 0) ∷ []) ∷
+    (7, 6, 201000, Some 11000, 1) ∷ (8, 6, 42000, None, 0) ∷ []) ∷
     -- a close takes run away, and the bytes stay
     (output (run (noon ++ (Call.Close (ending 1) 10 ∷ [])) start) is record { bytes = 0xAA ∷ 0xBB ∷ []; run = false; notified = true }) ∷
     -- the CIP sequence of a frame of the wrong length counts: good data with that CIP sequence is then ignored
@@ -234,13 +235,13 @@ slips =
     (open_call 1000 0x54 owner (from 8) 25 start is (Refused NoRoom, start)) ∷
     -- an open at another T→O RPI starts a stream of its own
     (map brief (run (opens ++ (Call.Open 2000 0x54 (ask 4 0 0 10000 0x4000 20000 0x2003 (points 198)) (from 9) 26 ∷ [])) start).table is
-    (5, 6, 41000, At 1000, 0) ∷ (7, 6, 201000, Never, 0) ∷ (8, 9, 42000, At 2000, 0) ∷ []) ∷
+    (5, 6, 41000, Some 1000, 0) ∷ (7, 6, 201000, None, 0) ∷ (8, 9, 42000, Some 2000, 0) ∷ []) ∷
     -- a 1,024th event is kept with all before, a 1,025th drops the oldest
     (events (pushed (OutputChanged 150) (full 1023)) is (0, 1024)) ∷
     (events (pushed (OutputChanged 150) (full 1024)) is (1, 1024)) ∷
     -- a 32nd connection finds room, a 33rd does not
-    (room_check (replicate 31 anyone) is none) ∷
-    (room_check (replicate 32 anyone) is some Answers.Full) ∷
+    (room_check (replicate 31 anyone) is None) ∷
+    (room_check (replicate 32 anyone) is Some Answers.Full) ∷
     -- shorter input data leaves the rest zero
     ((get_or (run (Call.SetInput 101 (9 ∷ []) ∷ Call.SetInput 101 [] ∷ []) start).contents 1 State.no_content).bytes is 0 ∷ []) ∷
     []
@@ -287,7 +288,7 @@ the_checks =
     (is_accepted (by (keyed 1 12 3 0x81 4)) is true) ∷
     (by (keyed 1 12 3 0x81 6) is Failed (Answers.KeyRevision 0x81 6 1 5)) ∷
     (is_accepted (by (keyed 0 0 0 0x80 99)) is true) ∷
-    (by (0x20 ∷ 6 ∷ 0x2C ∷ 150 ∷ 0x2C ∷ 101 ∷ []) is Failed (Answers.ClassNotFour true 6)) ∷
+    (by (0x20 ∷ 6 ∷ 0x2C ∷ 150 ∷ 0x2C ∷ 101 ∷ []) is Failed (Answers.ClassNotFour (Some 6))) ∷
     (by (0x20 ∷ 4 ∷ 0x2C ∷ 150 ∷ []) is Failed (Answers.NumberCount 1)) ∷
     (by (points 151) is Failed (Answers.NoOutputPoint 151)) ∷
     (by (0x20 ∷ 4 ∷ 0x2C ∷ 150 ∷ 0x2C ∷ 150 ∷ []) is Failed (Answers.NoInputPoint 150)) ∷
@@ -319,7 +320,7 @@ words =
     (answer_number (Failed (Answers.Transport 0x81)) is 5 + 2 ^ 8 * 1 + 2 ^ 16 * 1 + 2 ^ 32 * 0x0103) ∷
     (map Answers.words_of (Answers.PathBroken 4 ∷ Answers.PathBarred ∷ Answers.KeyVendor 2 1 ∷ Answers.KeyProduct 4 3 ∷ Answers.KeyDevice 13 12 ∷ Answers.KeyRevision 2 0 1 5 ∷ []) is
     (0x0315 ∷ []) ∷ (0x0315 ∷ []) ∷ (0x0114 ∷ []) ∷ (0x0114 ∷ []) ∷ (0x0115 ∷ []) ∷ (0x0116 ∷ []) ∷ []) ∷
-    (map Answers.words_of (Answers.ClassNotFour true 6 ∷ Answers.NumberCount 1 ∷ Answers.NoOutputPoint 151 ∷ Answers.NoInputPoint 150 ∷ Answers.NoConfig 2 ∷ Answers.ConfigLength 4 2 ∷ []) is
+    (map Answers.words_of (Answers.ClassNotFour (Some 6) ∷ Answers.NumberCount 1 ∷ Answers.NoOutputPoint 151 ∷ Answers.NoInputPoint 150 ∷ Answers.NoConfig 2 ∷ Answers.ConfigLength 4 2 ∷ []) is
     (0x0117 ∷ []) ∷ (0x0117 ∷ []) ∷ (0x0117 ∷ []) ∷ (0x0117 ∷ []) ∷ (0x0118 ∷ []) ∷ (0x0109 ∷ 2 ∷ []) ∷ []) ∷
     (map Answers.words_of (Answers.OtRpi 999 1000 100000 ∷ Answers.ToRpi 999 1000 100000 ∷ Answers.OtType Multicast ∷ Answers.ToType Null ∷ Answers.OwnerSize 9 8 ∷ Answers.HeartbeatSize 1 ∷ Answers.InputSize 2 3 ∷ []) is
     (0x0111 ∷ []) ∷ (0x0111 ∷ []) ∷ (0x0108 ∷ []) ∷ (0x0108 ∷ []) ∷ (0x0109 ∷ 8 ∷ []) ∷ (0x0109 ∷ 2 ∷ []) ∷ (0x0109 ∷ 3 ∷ []) ∷ []) ∷
@@ -341,7 +342,7 @@ the_order =
     (by (keyed 2 13 4 2 0) is Failed (Answers.KeyVendor 2 1)) ∷
     (by (keyed 0 13 0 2 0) is Failed (Answers.KeyDevice 13 12)) ∷
     (by (keyed 2 0 0 0 0 ++ (0x2C ∷ 7 ∷ 0x2C ∷ 8 ∷ [])) is Failed (Answers.KeyVendor 2 1)) ∷
-    (by (0x20 ∷ 6 ∷ 0x24 ∷ 6 ∷ 0x2C ∷ 150 ∷ 0x2C ∷ 101 ∷ 0x80 ∷ 1 ∷ 1 ∷ 2 ∷ []) is Failed (Answers.ClassNotFour true 6)) ∷
+    (by (0x20 ∷ 6 ∷ 0x24 ∷ 6 ∷ 0x2C ∷ 150 ∷ 0x2C ∷ 101 ∷ 0x80 ∷ 1 ∷ 1 ∷ 2 ∷ []) is Failed (Answers.ClassNotFour (Some 6))) ∷
     (refused (ask 1 0 0 999 0x4008 10000 0x2003 (configured 6 (1 ∷ 2 ∷ []))) start is Failed (Answers.NoConfig 2)) ∷
     (having 999 0x2008 10000 0x2003 is Failed (Answers.OtRpi 999 1000 100000)) ∷
     (having 10000 0x4009 10000 0x0003 is Failed (Answers.ToType Null)) ∷

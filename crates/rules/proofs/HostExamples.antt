@@ -1,4 +1,5 @@
 -- The host's calls, events and records, computed: chapter 12 of the rules, each line with its rule.
+use Rattle.std.specs.Prelude.{None}
 use mathlib.Core.Path.{refl}
 use mathlib.Core.List.{List, [], ◌∷◌, ◌++◌, map}
 use mathlib.Core.Bool.{Bool, true, false}
@@ -12,7 +13,6 @@ use Rattle.rules.specs.Events.{info_of, info_record, event_record, oldest_gone, 
 use Rattle.rules.specs.Receiving.{newer, recorded, hear, taken, changes, deliver, received}
 use Rattle.rules.specs.Checks.{place_of}
 use Rattle.rules.specs.Host.{filled, set_input_answer, set_input_effect, set_input_call, output_answer, output_effect, output_call, assembly_answer, next_event_answer, next_event_effect, next_event_call, connection_bytes, connections_answer, stats_answer}
-use Rattle.rules.specs.Upload.{NoUpload}
 use Rattle.rules.specs.Calls.{Call, next}
 use Rattle.rules.proofs.Examples.{setup}
 use Rattle.rules.proofs.Small.{party, holding, counting, line, two, output}
@@ -132,7 +132,7 @@ lists =
     (next (Call.Stats 24) two is two) ∷
     (next (Call.Deadline 8) two is two) ∷
     (next (Call.OpenRefusal 0x54 [] 10) two is two) ∷
-    (next (Call.Message 0 0 [] 516 NoUpload) (with_events (waiting_for 1) two) is with_events (waiting_for 1) two) ∷
+    (next (Call.Message 0 0 [] 516 None) (with_events (waiting_for 1) two) is with_events (waiting_for 1) two) ∷
     []
 
 pub the_lists : Hold lists

@@ -1,7 +1,8 @@
 -- Messages to the objects and the upload, worked out byte by byte. Each wrong reading of chapters 13 and 14 that must-fail holds breaks
 -- one.
+use Rattle.std.specs.Prelude.{Some, None, Option}
+use Rattle.rules.specs.declared.objects.Position.{Position}
 use mathlib.Core.List.{List, [], ◌∷◌, map}
-use mathlib.Core.Option.{Option, none, some}
 use mathlib.Core.Bool.{Bool, true, false}
 use mathlib.Core.Path.{◌≡◌, refl}
 use Prim.Native.Nat.{ℕ}
@@ -10,12 +11,12 @@ use Rattle.base_cells.specs.Numbers.{le_bytes, le, le_of}
 use Rattle.base_cells.specs.Records.{sum, enc_fields}
 use Rattle.base_cells.specs.Back.{all}
 use Rattle.wire_rules.specs.Segments.{logical_at, between, seg_at, step_at, segs_from, segs_of}
-use Rattle.wire_rules.specs.ConnectionPath.{gather}
+use Rattle.wire_rules.specs.ConnectionPath.{gather, some}
 use Rattle.wire_rules.specs.Requests.{attribute_in, request_with, request_of}
-use Rattle.rules.specs.State.{Input, Output, Config, Kind, Owner, InputOnly, Never, Conn, Identity, Shape, Setup, State}
+use Rattle.rules.specs.State.{Input, Output, Config, Kind, Owner, InputOnly, Conn, Identity, Shape, Setup, State}
 use Rattle.rules.specs.Answers.{Wrote, Refused, NoRoom}
 use Rattle.rules.specs.Attributes.{short_string, tagged_text}
-use Rattle.rules.specs.Upload.{checksum, clamped, initiate, Last, NoLast, Was, Upload, NoUpload, Under, turn_of, advanced, transfer_bytes, transfer_reply, transfer, upload_ok}
+use Rattle.rules.specs.Upload.{checksum, clamped, initiate, Transfer, was, turn_of, advanced, transfer_bytes, transfer_reply, transfer, upload_ok}
 use Rattle.rules.specs.Objects.{owned, running, extended_status, identity_status, identity_attributes, identity, assembly_class, assembly_attributes, assembly_place, assembly, interface, tcp_ip_attributes, tcp_ip, ethernet_attributes, ethernet_link, file_attributes, eds_file, file}
 use Rattle.rules.specs.Message.{reply_head, reply_to, of_class, message_outcome, message_reply, message_answer}
 
@@ -84,25 +85,25 @@ conn kind =
             local = 4;
           };
       heard = record { until = 0; any = false; sequence = 0; anycip = false; cip = 0 };
-      sent = record { sequence = 0; cip = 0; due = Never };
+      sent = record { sequence = 0; cip = 0; due = None };
     }
 
 -- an EDS of five bytes, transfer limit 2
 abbrev setup : Setup
-setup = setup_with (some (1 ∷ 2 ∷ 3 ∷ 4 ∷ 5 ∷ [])) 2
+setup = setup_with (Some (1 ∷ 2 ∷ 3 ∷ 4 ∷ 5 ∷ [])) 2
 
 abbrev device : State
 device = state_with setup (0xAA ∷ 0xBB ∷ []) false [] false
 
 abbrev without_eds : State
-without_eds = state_with (setup_with none 2) [] false [] false
+without_eds = state_with (setup_with None 2) [] false [] false
 
 abbrev with_empty_eds : State
-with_empty_eds = state_with (setup_with (some []) 2) [] false [] false
+with_empty_eds = state_with (setup_with (Some []) 2) [] false [] false
 
 -- the largest sizes: 512 bytes in an assembly, transfers of 255
 abbrev large : State
-large = state_with (setup_with (some (replicate 255 1)) 255) (replicate 512 0xEE) false [] false
+large = state_with (setup_with (Some (replicate 255 1)) 255) (replicate 512 0xEE) false [] false
 
 -- ---- examples
 
@@ -110,7 +111,7 @@ pub data Example : Type 0 where
   -- Get_Attribute_Single of a class, an instance and an attribute gives bytes
   reads : State → (class instance attribute : ℕ) → List ℕ → Example
   -- a message is answered with a reply, and leaves the position
-  answers : State → Upload → List ℕ → List ℕ → Upload → Example
+  answers : State → Option Position → List ℕ → List ℕ → Option Position → Example
   -- an attribute's reply has a length; the first transfer's too
   attribute_length : State → (class instance attribute : ℕ) → ℕ → Example
   transfer_length : State → (size : ℕ) → ℕ → Example
@@ -124,36 +125,36 @@ abbrev to_file : ℕ → List ℕ → List ℕ
 to_file service bytes = service ∷ 2 ∷ 0x20 ∷ 0x37 ∷ 0x24 ∷ 0xC8 ∷ bytes
 
 -- the device's local address is 10.0.0.2, its mask 255.255.255.0
-abbrev said : State → Upload → List ℕ → List ℕ
+abbrev said : State → Option Position → List ℕ → List ℕ
 said st up message = message_reply st 0x0A000002 0xFFFFFF00 message up
 
-abbrev left : State → Upload → List ℕ → Upload
+abbrev left : State → Option Position → List ℕ → Option Position
 left st up message = (message_outcome st 0x0A000002 0xFFFFFF00 message up).1
 
-abbrev of_size : ℕ → Upload
-of_size size = Under (record { size = size; next = 0; offset = 0; last = NoLast })
+abbrev of_size : ℕ → Option Position
+of_size size = Some (record { size = size; next = 0; offset = 0; last = None })
 
-abbrev given : Example → List ℕ × Upload
-given (reads st class instance a bytes) = (said st NoUpload (get_attribute class instance a), NoUpload)
+abbrev given : Example → List ℕ × Option Position
+given (reads st class instance a bytes) = (said st None (get_attribute class instance a), None)
 given (answers st up message reply after) = (said st up message, left st up message)
-given (attribute_length st class instance a n) = (length (said st NoUpload (get_attribute class instance a)) ∷ [], NoUpload)
-given (transfer_length st size n) = (length (said st (of_size size) (to_file 0x4F (0 ∷ []))) ∷ [], NoUpload)
-given (sums bytes n) = (checksum bytes ∷ [], NoUpload)
+given (attribute_length st class instance a n) = (length (said st None (get_attribute class instance a)) ∷ [], None)
+given (transfer_length st size n) = (length (said st (of_size size) (to_file 0x4F (0 ∷ []))) ∷ [], None)
+given (sums bytes n) = (checksum bytes ∷ [], None)
 
-abbrev wanted : Example → List ℕ × Upload
-wanted (reads st class instance a bytes) = (0x8E ∷ 0 ∷ 0 ∷ 0 ∷ bytes, NoUpload)
+abbrev wanted : Example → List ℕ × Option Position
+wanted (reads st class instance a bytes) = (0x8E ∷ 0 ∷ 0 ∷ 0 ∷ bytes, None)
 wanted (answers st up message reply after) = (reply, after)
-wanted (attribute_length st class instance a n) = (n ∷ [], NoUpload)
-wanted (transfer_length st size n) = (n ∷ [], NoUpload)
-wanted (sums bytes n) = (n ∷ [], NoUpload)
+wanted (attribute_length st class instance a n) = (n ∷ [], None)
+wanted (transfer_length st size n) = (n ∷ [], None)
+wanted (sums bytes n) = (n ∷ [], None)
 
 -- a read that fails with a general status
 abbrev refuses : List ℕ → ℕ → Example
-refuses message status = answers device NoUpload message (0x8E ∷ 0 ∷ status ∷ 0 ∷ []) NoUpload
+refuses message status = answers device None message (0x8E ∷ 0 ∷ status ∷ 0 ∷ []) None
 
 -- a position in the device's upload, of size 2
-abbrev at : ℕ → ℕ → ℕ → ℕ → Upload
-at next offset number before = Under (record { size = 2; next = next; offset = offset; last = Was number before })
+abbrev at : ℕ → ℕ → ℕ → ℕ → Option Position
+at next offset number before = Some (record { size = 2; next = next; offset = offset; last = was number before })
 
 abbrev identity_examples : List Example
 identity_examples =
@@ -181,15 +182,15 @@ identity_examples =
     refuses (get_attribute 0x01 2 1) 0x16 ∷
     -- no attribute; service 0x01; an unknown instance comes before the service
     refuses (0x0E ∷ 2 ∷ 0x20 ∷ 0x01 ∷ 0x24 ∷ 0x01 ∷ []) 0x13 ∷
-    answers device NoUpload (0x01 ∷ 2 ∷ 0x20 ∷ 0x01 ∷ 0x24 ∷ 0x01 ∷ []) (0x81 ∷ 0 ∷ 0x08 ∷ 0 ∷ []) NoUpload ∷
-    answers device NoUpload (0x01 ∷ 2 ∷ 0x20 ∷ 0x01 ∷ 0x24 ∷ 0x02 ∷ []) (0x81 ∷ 0 ∷ 0x16 ∷ 0 ∷ []) NoUpload ∷
+    answers device None (0x01 ∷ 2 ∷ 0x20 ∷ 0x01 ∷ 0x24 ∷ 0x01 ∷ []) (0x81 ∷ 0 ∷ 0x08 ∷ 0 ∷ []) None ∷
+    answers device None (0x01 ∷ 2 ∷ 0x20 ∷ 0x01 ∷ 0x24 ∷ 0x02 ∷ []) (0x81 ∷ 0 ∷ 0x16 ∷ 0 ∷ []) None ∷
     []
 
 abbrev other_examples : List Example
 other_examples =
     -- Assembly; its class by a path without an instance too
     reads device 0x04 0 1 (2 ∷ 0 ∷ []) ∷
-    answers device NoUpload (0x0E ∷ 2 ∷ 0x20 ∷ 0x04 ∷ 0x30 ∷ 0x01 ∷ []) (0x8E ∷ 0 ∷ 0 ∷ 0 ∷ 2 ∷ 0 ∷ []) NoUpload ∷
+    answers device None (0x0E ∷ 2 ∷ 0x20 ∷ 0x04 ∷ 0x30 ∷ 0x01 ∷ []) (0x8E ∷ 0 ∷ 0 ∷ 0 ∷ 2 ∷ 0 ∷ []) None ∷
     reads device 0x04 0 2 (150 ∷ 0 ∷ []) ∷
     refuses (get_attribute 0x04 0 3) 0x14 ∷
     reads device 0x04 100 3 (0xAA ∷ 0xBB ∷ []) ∷
@@ -217,17 +218,17 @@ other_examples =
     reads device 0xF6 0 1 (1 ∷ 0 ∷ []) ∷
     refuses (get_attribute 0xF6 2 1) 0x16 ∷
     -- what is not here: Message Router, Connection Manager, Port, 0x64; File without an EDS
-    answers device NoUpload (get_attribute 0x02 1 1) (0x8E ∷ 0 ∷ 0x08 ∷ 0 ∷ []) NoUpload ∷
+    answers device None (get_attribute 0x02 1 1) (0x8E ∷ 0 ∷ 0x08 ∷ 0 ∷ []) None ∷
     refuses (get_attribute 0x06 1 1) 0x05 ∷
     refuses (get_attribute 0xF4 1 1) 0x05 ∷
     refuses (get_attribute 0x64 1 1) 0x05 ∷
-    answers without_eds NoUpload (get_attribute 0x37 0 1) (0x8E ∷ 0 ∷ 0x05 ∷ 0 ∷ []) NoUpload ∷
+    answers without_eds None (get_attribute 0x37 0 1) (0x8E ∷ 0 ∷ 0x05 ∷ 0 ∷ []) None ∷
     -- no byte, one byte, a path past the end, a path of no words, a service with bit 7 set
-    answers device NoUpload [] (0x80 ∷ 0 ∷ 0x04 ∷ 0 ∷ []) NoUpload ∷
-    answers device NoUpload (0x0E ∷ []) (0x8E ∷ 0 ∷ 0x04 ∷ 0 ∷ []) NoUpload ∷
-    answers device NoUpload (0x0E ∷ 3 ∷ 0x20 ∷ 0x01 ∷ []) (0x8E ∷ 0 ∷ 0x04 ∷ 0 ∷ []) NoUpload ∷
-    answers device NoUpload (0x0E ∷ 0 ∷ []) (0x8E ∷ 0 ∷ 0x05 ∷ 0 ∷ []) NoUpload ∷
-    answers device NoUpload (0x8E ∷ 3 ∷ 0x20 ∷ 0x01 ∷ 0x24 ∷ 0x01 ∷ 0x30 ∷ 0x01 ∷ []) (0x8E ∷ 0 ∷ 0x08 ∷ 0 ∷ []) NoUpload ∷
+    answers device None [] (0x80 ∷ 0 ∷ 0x04 ∷ 0 ∷ []) None ∷
+    answers device None (0x0E ∷ []) (0x8E ∷ 0 ∷ 0x04 ∷ 0 ∷ []) None ∷
+    answers device None (0x0E ∷ 3 ∷ 0x20 ∷ 0x01 ∷ []) (0x8E ∷ 0 ∷ 0x04 ∷ 0 ∷ []) None ∷
+    answers device None (0x0E ∷ 0 ∷ []) (0x8E ∷ 0 ∷ 0x05 ∷ 0 ∷ []) None ∷
+    answers device None (0x8E ∷ 3 ∷ 0x20 ∷ 0x01 ∷ 0x24 ∷ 0x01 ∷ 0x30 ∷ 0x01 ∷ []) (0x8E ∷ 0 ∷ 0x08 ∷ 0 ∷ []) None ∷
     []
 
 abbrev file_examples : List Example
@@ -258,10 +259,10 @@ upload_examples =
     -- initiate: without data; clamped from below and from above
     answers device (at 1 2 0 0) (to_file 0x4B []) (0xCB ∷ 0 ∷ 0x13 ∷ 0 ∷ []) (at 1 2 0 0) ∷
     answers device (at 1 2 0 0) (to_file 0x4B (0 ∷ [])) (0xCB ∷ 0 ∷ 0 ∷ 0 ∷ 5 ∷ 0 ∷ 0 ∷ 0 ∷ 1 ∷ []) (of_size 1) ∷
-    answers device NoUpload (to_file 0x4B (255 ∷ [])) (0xCB ∷ 0 ∷ 0 ∷ 0 ∷ 5 ∷ 0 ∷ 0 ∷ 0 ∷ 2 ∷ []) (of_size 2) ∷
+    answers device None (to_file 0x4B (255 ∷ [])) (0xCB ∷ 0 ∷ 0 ∷ 0 ∷ 5 ∷ 0 ∷ 0 ∷ 0 ∷ 2 ∷ []) (of_size 2) ∷
     -- transfer: without data, without an upload, out of turn
-    answers device NoUpload (to_file 0x4F []) (0xCF ∷ 0 ∷ 0x13 ∷ 0 ∷ []) NoUpload ∷
-    answers device NoUpload (to_file 0x4F (0 ∷ [])) (0xCF ∷ 0 ∷ 0x0C ∷ 0 ∷ []) NoUpload ∷
+    answers device None (to_file 0x4F []) (0xCF ∷ 0 ∷ 0x13 ∷ 0 ∷ []) None ∷
+    answers device None (to_file 0x4F (0 ∷ [])) (0xCF ∷ 0 ∷ 0x0C ∷ 0 ∷ []) None ∷
     answers device (of_size 2) (to_file 0x4F (1 ∷ [])) (0xCF ∷ 0 ∷ 0x0C ∷ 0 ∷ []) (of_size 2) ∷
     -- the first, the same again, a middle one, the last with the checksum, and one in turn after the end
     answers device (of_size 2) (to_file 0x4F (0 ∷ [])) (0xCF ∷ 0 ∷ 0 ∷ 0 ∷ 0 ∷ 0 ∷ 1 ∷ 2 ∷ []) (at 1 2 0 0) ∷
@@ -297,20 +298,20 @@ unfolding le_bytes le le_of logical_at between seg_at step_at segs_from segs_of 
 uploads = refl
 
 -- 515 bytes of room and 516; what the reply is does not matter
-pub rooms : (message_answer 0 0 [] 515 device NoUpload ≡ Refused NoRoom) × (message_answer 0 0 [] 516 device NoUpload ≡ Wrote (0x80 ∷ 0 ∷ 0x04 ∷ 0 ∷ []))
+pub rooms : (message_answer 0 0 [] 515 device None ≡ Refused NoRoom) × (message_answer 0 0 [] 516 device None ≡ Wrote (0x80 ∷ 0 ∷ 0x04 ∷ 0 ∷ []))
 unfolding message_answer message_reply message_outcome request_of request_with segs_of segs_from step_at reply_to reply_head
 rooms = (refl, refl)
 
 -- ---- the position's test: transfers of 1 and 2 bytes within 5, at their end too; of 0 and of 3, behind the end, a last one behind it, no EDS
 
-abbrev placed : ℕ → ℕ → Last → Upload
-placed size offset last = Under (record { size = size; next = 3; offset = offset; last = last })
+abbrev placed : ℕ → ℕ → Option Transfer → Option Position
+placed size offset last = Some (record { size = size; next = 3; offset = offset; last = last })
 
-pub positions : map (upload_ok setup) (NoUpload ∷ placed 1 0 NoLast ∷ placed 2 5 (Was 2 5) ∷ placed 0 0 NoLast ∷ placed 3 0 NoLast ∷ placed 2 6 NoLast ∷ placed 2 5 (Was 2 6) ∷ [])
+pub positions : map (upload_ok setup) (None ∷ placed 1 0 None ∷ placed 2 5 (was 2 5) ∷ placed 0 0 None ∷ placed 3 0 None ∷ placed 2 6 None ∷ placed 2 5 (was 2 6) ∷ [])
     ≡ true ∷ true ∷ true ∷ false ∷ false ∷ false ∷ false ∷ []
 unfolding upload_ok all
 positions = refl
 
-pub position_without_eds : map (upload_ok (setup_with none 2)) (NoUpload ∷ placed 1 0 NoLast ∷ []) ≡ true ∷ false ∷ []
+pub position_without_eds : map (upload_ok (setup_with None 2)) (None ∷ placed 1 0 None ∷ []) ≡ true ∷ false ∷ []
 unfolding upload_ok all
 position_without_eds = refl

@@ -1,4 +1,5 @@
 -- An open, check by check: what passes just so, and what just does not. Examples.antt has a refusal of each check and the order of any two.
+use Rattle.std.specs.Prelude.{Some, None}
 use mathlib.Core.Path.{◌≡◌, refl}
 use mathlib.Core.List.{List, [], ◌∷◌, ◌++◌, map}
 use mathlib.Core.Bool.{true, false}
@@ -37,9 +38,9 @@ unfolding openings
 revisions = (refl, refl, refl, refl, refl, refl)
 
 -- 6.4: a path without a class, of two classes the last, four points, instances for points
-pub class_and_points : (answer (along (0x2C ∷ 150 ∷ 0x2C ∷ 101 ∷ [])) plant ≡ Failed (Answers.ClassNotFour false 0)) ×
+pub class_and_points : (answer (along (0x2C ∷ 150 ∷ 0x2C ∷ 101 ∷ [])) plant ≡ Failed (Answers.ClassNotFour None)) ×
     (accepted (along (0x20 ∷ 6 ∷ path 150 101)) plant ≡ true) ×
-    (answer (along (path 150 101 ++ (0x20 ∷ 6 ∷ []))) plant ≡ Failed (Answers.ClassNotFour true 6)) ×
+    (answer (along (path 150 101 ++ (0x20 ∷ 6 ∷ []))) plant ≡ Failed (Answers.ClassNotFour (Some 6))) ×
     (answer (along (0x20 ∷ 4 ∷ 0x24 ∷ 5 ∷ 0x2C ∷ 150 ∷ 0x2C ∷ 101 ∷ 0x2C ∷ 101 ∷ [])) plant ≡ Failed (Answers.NumberCount 4)) ×
     (accepted (along (0x20 ∷ 4 ∷ 0x24 ∷ 150 ∷ 0x24 ∷ 101 ∷ [])) plant ≡ true)
 unfolding openings
@@ -125,7 +126,7 @@ someone =
     record {
       fixed = anyone;
       heard = record { until = 0; any = false; sequence = 0; anycip = false; cip = 0 };
-      sent = record { sequence = 0; cip = 0; due = State.Never };
+      sent = record { sequence = 0; cip = 0; due = None };
     }
 
 abbrev pub crowd : ℕ → State → State

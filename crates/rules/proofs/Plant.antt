@@ -1,10 +1,11 @@
 -- A small plant for examples: two outputs, two inputs, two configuration assemblies; a way to write an open, and to look at what came of it.
+use Rattle.std.specs.Prelude.{Option}
 use mathlib.Core.List.{List, [], ◌∷◌}
-use mathlib.Core.Option.{none}
+use Rattle.std.specs.Prelude.{None}
 use mathlib.Core.Bool.{Bool}
 use Prim.Native.Nat.{ℕ}
 use Rattle.rules.specs.State
-use Rattle.rules.specs.State.{Input, Output, Config, Setup, State, Origin, Socket, Due, Conn}
+use Rattle.rules.specs.State.{Input, Output, Config, Setup, State, Origin, Socket, Conn}
 use Rattle.rules.specs.Answers.{Answer, is_yes}
 use Rattle.rules.specs.Setup.{fresh}
 use Rattle.rules.specs.Opening.{open_call}
@@ -23,7 +24,7 @@ plant_of input_only listen_only rpi_min rpi_max =
       late_limit = 0;
       transfer_limit = 240;
       mac = 0 ∷ 0 ∷ 0 ∷ 0 ∷ 0 ∷ 0 ∷ [];
-      eds = none;
+      eds = None;
       eds_name = [];
       assemblies =
           record { instance = 150; kind = Output; size = 2 } ∷
@@ -76,5 +77,5 @@ abbrev pub opening : List ℕ → Call
 opening request = Call.Open 1000 0x54 request (from 8) 26
 
 -- of a connection its ids, where its packets go, their interval, and when the next is due
-abbrev pub side : Conn → ℕ × ℕ × Socket × ℕ × Due
+abbrev pub side : Conn → ℕ × ℕ × Socket × ℕ × Option ℕ
 side c = (c.fixed.otid.0, c.fixed.toid.0, c.fixed.dest, c.fixed.torpi, c.sent.due)

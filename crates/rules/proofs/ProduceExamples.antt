@@ -1,4 +1,5 @@
 -- Packets out, computed: chapter 10 of the rules, each line with its rule.
+use Rattle.std.specs.Prelude.{Some, None}
 use mathlib.Core.Path.{◌≡◌, refl}
 use mathlib.Core.List.{List, [], ◌∷◌, ◌++◌}
 use Prim.Native.Nat.{ℕ, ◌-◌, ◌^◌}
@@ -6,7 +7,7 @@ use Rattle.base_cells.specs.Numbers.{le_bytes}
 use Rattle.base_cells.specs.BigEndian.{bytes_be}
 use Rattle.wire_rules.specs.Frames.{io_frame}
 use Rattle.wire_rules.specs.Examples.{Example, ◌is◌, Hold}
-use Rattle.rules.specs.State.{Owner, InputOnly, ListenOnly, Never, At, Setup, State}
+use Rattle.rules.specs.State.{Owner, InputOnly, ListenOnly, Setup, State}
 use Rattle.rules.specs.Answers.{Answer, Wrote, Refused, NoRoom}
 use Rattle.rules.specs.Producing.{sent, frame_sent, packet, packets, counters, produce_answer, produce_effect, produce_call}
 use Rattle.rules.specs.Host.{set_input_answer, set_input_effect, set_input_call}
@@ -18,9 +19,9 @@ use Rattle.rules.proofs.Small.{party, alone, unheard, sending, conn, counting, l
 abbrev pub three : ℕ → ℕ → State
 three due other =
     line (
-    conn (party InputOnly 5 8) (unheard 80000) (sending 0 0 (At due)) ∷
-    conn (party ListenOnly 7 7) (unheard 80000) (sending 0 0 Never) ∷
-    conn (alone Owner 9 9) (unheard 80000) (sending 0x10 0x20 (At other)) ∷ [])
+    conn (party InputOnly 5 8) (unheard 80000) (sending 0 0 (Some due)) ∷
+    conn (party ListenOnly 7 7) (unheard 80000) (sending 0 0 None) ∷
+    conn (alone Owner 9 9) (unheard 80000) (sending 0x10 0x20 (Some other)) ∷ [])
 
 -- the packets of the first and of the third, with 0x2A in the input
 abbrev pub group : List ℕ
@@ -62,22 +63,22 @@ stepped t st = (produce_call t 100 st).1
 
 -- a producer alone, at a sequence and a CIP sequence
 abbrev pub one : ℕ → ℕ → ℕ → State
-one sequence cip due = line (conn (party InputOnly 5 8) (unheard 80000) (sending sequence cip (At due)) ∷ [])
+one sequence cip due = line (conn (party InputOnly 5 8) (unheard 80000) (sending sequence cip (Some due)) ∷ [])
 
 abbrev pub steps : List Example
 steps =
     -- 10.3: both sequences step by one, the sequence over 32 bits, the CIP sequence over 16
-    (sents (stepped 5000 (one 0xFFFF 0xFFFF 5000)) is sending 0x10000 0 (At 7000) ∷ []) ∷
-    (sents (stepped 5000 (one 0x7FFFFFFF 0x7FFF 5000)) is sending 0x80000000 0x8000 (At 7000) ∷ []) ∷
-    (sents (stepped 5000 (one 0xFFFFFFFF 0 5000)) is sending 0 1 (At 7000) ∷ []) ∷
+    (sents (stepped 5000 (one 0xFFFF 0xFFFF 5000)) is sending 0x10000 0 (Some 7000) ∷ []) ∷
+    (sents (stepped 5000 (one 0x7FFFFFFF 0x7FFF 5000)) is sending 0x80000000 0x8000 (Some 7000) ∷ []) ∷
+    (sents (stepped 5000 (one 0xFFFFFFFF 0 5000)) is sending 0 1 (Some 7000) ∷ []) ∷
     -- 10.4: the next due time is the old one and the T→O RPI
-    (sents (stepped 5999 (one 0 0 5000)) is sending 1 1 (At 7000) ∷ []) ∷
-    (sents (stepped 6999 (one 0 0 5000)) is sending 1 1 (At 7000) ∷ []) ∷
+    (sents (stepped 5999 (one 0 0 5000)) is sending 1 1 (Some 7000) ∷ []) ∷
+    (sents (stepped 6999 (one 0 0 5000)) is sending 1 1 (Some 7000) ∷ []) ∷
     -- 10.4: where that is not after now, now and the RPI
-    (sents (stepped 7000 (one 0 0 5000)) is sending 1 1 (At 9000) ∷ []) ∷
-    (sents (stepped 50000 (one 0 0 5000)) is sending 1 1 (At 52000) ∷ []) ∷
+    (sents (stepped 7000 (one 0 0 5000)) is sending 1 1 (Some 9000) ∷ []) ∷
+    (sents (stepped 50000 (one 0 0 5000)) is sending 1 1 (Some 52000) ∷ []) ∷
     -- what is not due does not step
-    (sents (stepped 5000 (three 5001 5000)) is sending 0 0 (At 5001) ∷ sending 0 0 Never ∷ sending 0x11 0x21 (At 8000) ∷ []) ∷
+    (sents (stepped 5000 (three 5001 5000)) is sending 0 0 (Some 5001) ∷ sending 0 0 None ∷ sending 0x11 0x21 (Some 8000) ∷ []) ∷
     []
 
 pub steps_out : Hold steps

@@ -1,4 +1,5 @@
 -- Frames in, computed: chapter 9 of the rules, each line with its rule.
+use Rattle.std.specs.Prelude.{Some, None}
 use mathlib.Core.Path.{◌≡◌, refl}
 use mathlib.Core.List.{List, [], ◌∷◌, ◌++◌, map}
 use mathlib.Core.Bool.{true, false}
@@ -10,7 +11,7 @@ use Rattle.wire_rules.specs.Items.{Items, well_formed, broken, start_of, step_at
 use Rattle.wire_rules.specs.Frames.{io_of_items, io_of, io_frame}
 use Rattle.wire_rules.specs.Examples.{Example, ◌is◌, Hold}
 use Rattle.rules.specs.Lists.{maybe}
-use Rattle.rules.specs.State.{Owner, Never, At, State, with_fault}
+use Rattle.rules.specs.State.{Owner, State, with_fault}
 use Rattle.rules.specs.Answers.{Done}
 use Rattle.rules.specs.Events.{event_record, oldest_gone, appended, pushed, pushed_all}
 use Rattle.rules.specs.Receiving.{frame_of, newer, recorded, hear, taken, changes, deliver, received, receive_answer, receive_effect, receive_call}
@@ -36,11 +37,11 @@ seen = (output_call 150 3 running).1
 
 -- two connections of one id and address
 abbrev pub twins : State
-twins = line (conn (party Owner 5 8) (unheard 80000) (sending 0 0 (At 0)) ∷ conn (party Owner 5 8) (unheard 80000) (sending 0 0 Never) ∷ [])
+twins = line (conn (party Owner 5 8) (unheard 80000) (sending 0 0 (Some 0)) ∷ conn (party Owner 5 8) (unheard 80000) (sending 0 0 None) ∷ [])
 
 -- an owner whose output is a place past the setup's list
 abbrev pub adrift : State
-adrift = line (conn (party_at 3 Owner 5 8) (unheard 80000) (sending 0 0 Never) ∷ [])
+adrift = line (conn (party_at 3 Owner 5 8) (unheard 80000) (sending 0 0 None) ∷ [])
 
 abbrev pub whose_frame : List Example
 whose_frame =

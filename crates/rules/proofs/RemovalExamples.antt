@@ -1,10 +1,11 @@
 -- Removal, by a close or by silence: who sends a stream on, which listeners close, what the output keeps, and what is told.
+use Rattle.std.specs.Prelude.{Option, Some, None}
 use mathlib.Core.Path.{◌≡◌, refl}
 use mathlib.Core.List.{List, [], ◌∷◌, map}
 use mathlib.Core.Bool.{Bool, true, false}
 use Prim.Native.Nat.{ℕ}
 use lib.ListN.{get_or}
-use Rattle.rules.specs.State.{Kind, Owner, InputOnly, ListenOnly, Triad, State, Content, Conn, Due, Never, At, with_contents, with_table, with_fault}
+use Rattle.rules.specs.State.{Kind, Owner, InputOnly, ListenOnly, Triad, State, Content, Conn, with_contents, with_table, with_fault}
 use Rattle.rules.specs.Answers
 use Rattle.rules.specs.Answers.{Wrote, Refused}
 use Rattle.rules.specs.Removal.{closed, close_call, expired_first}
@@ -16,7 +17,7 @@ abbrev pub triad : ℕ → Triad
 triad serial = record { serial = serial; vendor = 1; originator = 1 }
 
 -- a connection of the plant: kind, serial number and O→T id, T→O id, multicast or not, output by its place; what it has sent
-abbrev pub conn : Kind → ℕ → ℕ → Bool → ℕ → ℕ → Due → Conn
+abbrev pub conn : Kind → ℕ → ℕ → Bool → ℕ → ℕ → Option ℕ → Conn
 conn kind n toid multicast output sequence due =
     record {
       fixed =
@@ -41,37 +42,37 @@ conn kind n toid multicast output sequence due =
 
 -- an owner of 150 that sends stream 6; one that joined a stream, and a listener; a stream of one's own; point-to-point
 abbrev pub owner : Conn
-owner = conn Owner 5 6 true 0 3 (At 11000)
+owner = conn Owner 5 6 true 0 3 (Some 11000)
 
 abbrev pub joined : ℕ → ℕ → Conn
-joined n toid = conn InputOnly n toid true 0 0 Never
+joined n toid = conn InputOnly n toid true 0 0 None
 
 abbrev pub listens : ℕ → ℕ → Conn
-listens n toid = conn ListenOnly n toid true 0 0 Never
+listens n toid = conn ListenOnly n toid true 0 0 None
 
 abbrev pub sends : ℕ → ℕ → Conn
-sends n toid = conn InputOnly n toid true 0 8 (At 19000)
+sends n toid = conn InputOnly n toid true 0 8 (Some 19000)
 
 abbrev pub single : ℕ → ℕ → Conn
-single n toid = conn InputOnly n toid false 0 9 (At 20000)
+single n toid = conn InputOnly n toid false 0 9 (Some 20000)
 
 abbrev pub holding : List Conn → State
 holding table = with_table table plant
 
 -- of each connection its O→T id, its sequences and when the next packet is due
-abbrev pub pace : State → List (ℕ × ℕ × ℕ × Due)
+abbrev pub pace : State → List (ℕ × ℕ × ℕ × Option ℕ)
 pace st = map (λ c. (c.fixed.otid.0, c.sent.sequence, c.sent.cip, c.sent.due)) st.table
 
 pub hand_over :
     -- 8.1: a point-to-point connection hands nothing to a stream of its number
-    (pace (closed (triad 7) (holding (owner ∷ single 7 6 ∷ joined 8 6 ∷ []))) ≡ (5, 3, 3, At 11000) ∷ (8, 0, 0, Never) ∷ []) ×
+    (pace (closed (triad 7) (holding (owner ∷ single 7 6 ∷ joined 8 6 ∷ []))) ≡ (5, 3, 3, Some 11000) ∷ (8, 0, 0, None) ∷ []) ×
     -- 8.2: nor does one that does not produce
-    (pace (closed (triad 8) (holding (owner ∷ joined 8 6 ∷ []))) ≡ (5, 3, 3, At 11000) ∷ []) ×
+    (pace (closed (triad 8) (holding (owner ∷ joined 8 6 ∷ []))) ≡ (5, 3, 3, Some 11000) ∷ []) ×
     -- 8.3, 8.5: the first that is left sends on, a listener too, with both sequences and the due time
-    (pace (closed (triad 5) (holding (owner ∷ listens 7 6 ∷ joined 8 6 ∷ []))) ≡ (7, 3, 3, At 11000) ∷ (8, 0, 0, Never) ∷ []) ×
+    (pace (closed (triad 5) (holding (owner ∷ listens 7 6 ∷ joined 8 6 ∷ []))) ≡ (7, 3, 3, Some 11000) ∷ (8, 0, 0, None) ∷ []) ×
     -- 8.4: not one of another stream, nor a point-to-point one of its number
     (pace (closed (triad 5) (holding (sends 6 7 ∷ owner ∷ single 8 6 ∷ joined 9 6 ∷ []))) ≡
-    (6, 8, 8, At 19000) ∷ (8, 9, 9, At 20000) ∷ (9, 3, 3, At 11000) ∷ [])
+    (6, 8, 8, Some 19000) ∷ (8, 9, 9, Some 20000) ∷ (9, 3, 3, Some 11000) ∷ [])
 unfolding openings removals
 hand_over = (refl, refl, refl, refl)
 
@@ -98,7 +99,7 @@ abbrev pub content : Bool → Content
 content run = record { bytes = 7 ∷ 8 ∷ []; run = run; notified = true }
 
 abbrev pub running : State
-running = with_contents (content true ∷ content true ∷ content true ∷ []) (holding (owner ∷ conn Owner 6 6 true 2 0 Never ∷ joined 7 6 ∷ []))
+running = with_contents (content true ∷ content true ∷ content true ∷ []) (holding (owner ∷ conn Owner 6 6 true 2 0 None ∷ joined 7 6 ∷ []))
 
 pub outputs :
     -- 8.13, 8.14, 8.15: the output of the one that goes loses run, and that alone; bytes and mark stay

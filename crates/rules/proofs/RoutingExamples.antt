@@ -66,5 +66,5 @@ abbrev pub wanted : Example → Answer
 wanted e = e.wanted
 
 pub examples_hold : map given examples ≡ map wanted examples
-unfolding path_answer path_record request_answer request_record path_of connection_path segs_of segs_from step_at seg_at between port_at logical_at key_at key_of data_at gather ConnectionPath.some last request_of request_with attribute_in le le_of le_bytes enc_fields
+unfolding path_answer path_record request_answer request_record path_of connection_path segs_of segs_from step_at seg_at between port_at logical_at key_at key_of data_at gather ConnectionPath.some last ConnectionPath.final request_of request_with attribute_in le le_of le_bytes enc_fields
 examples_hold = refl

@@ -1,7 +1,7 @@
 -- Sizes and setup, computed: chapter 1 of the rules, each line with its rule.
 use mathlib.Core.Path.{◌≡◌, refl, ap}
 use mathlib.Core.List.{List, [], ◌∷◌, ◌++◌, map}
-use mathlib.Core.Option.{Option, none, some}
+use Rattle.std.specs.Prelude.{Option, None, Some}
 use mathlib.Core.Bool.{Bool, true, false}
 use Prim.Native.Nat.{ℕ}
 use lib.Dec.{leb}
@@ -37,7 +37,7 @@ shape kind instance size = record { instance = instance; kind = kind; size = siz
 
 -- whether assemblies are taken, all else being in order
 abbrev pub takes : List Shape → Bool
-takes shapes = setup_ok (sized shapes [] [] none 1)
+takes shapes = setup_ok (sized shapes [] [] None 1)
 
 abbrev pub inputs : List ℕ → List Shape
 inputs instances = map (λ n. shape Input n 0) instances
@@ -61,22 +61,22 @@ setups =
     (takes (shape Input 1 0 ∷ shape Output 2 512 ∷ []) is true) ∷
     (takes (shape Input 1 0 ∷ shape Output 2 513 ∷ []) is false) ∷
     -- 1.5: a product name and an EDS name of 32 bytes, not 33
-    (setup_ok (sized [] (replicate 32 255) (replicate 32 0) none 1) is true) ∷
-    (setup_ok (sized [] (replicate 33 65) [] none 1) is false) ∷
-    (setup_ok (sized [] [] (replicate 33 65) none 1) is false) ∷
+    (setup_ok (sized [] (replicate 32 255) (replicate 32 0) None 1) is true) ∷
+    (setup_ok (sized [] (replicate 33 65) [] None 1) is false) ∷
+    (setup_ok (sized [] [] (replicate 33 65) None 1) is false) ∷
     -- 1.6: an EDS may be absent or empty
-    (setup_ok (sized [] [] [] none 1) is true) ∷
-    (setup_ok (sized [] [] [] (some []) 1) is true) ∷
+    (setup_ok (sized [] [] [] None 1) is true) ∷
+    (setup_ok (sized [] [] [] (Some []) 1) is true) ∷
     -- 1.5: a transfer limit of 1 to 255
-    (setup_ok (sized [] [] [] none 0) is false) ∷
-    (setup_ok (sized [] [] [] none 255) is true) ∷
-    (setup_ok (sized [] [] [] none 256) is false) ∷
+    (setup_ok (sized [] [] [] None 0) is false) ∷
+    (setup_ok (sized [] [] [] None 255) is true) ∷
+    (setup_ok (sized [] [] [] None 256) is false) ∷
     -- 1.8: a least RPI above the greatest is a setup, and then no RPI is in the range
-    (rpi_ok (sized [] [] [] none 1) 5000 is false) ∷
-    (rpi_ok (sized [] [] [] none 1) 5001 is false) ∷
+    (rpi_ok (sized [] [] [] None 1) 5000 is false) ∷
+    (rpi_ok (sized [] [] [] None 1) 5001 is false) ∷
     -- 1.12: what is beyond is refused with No. 2
     (setup_answer setup is Done) ∷
-    (setup_answer (sized [] [] [] none 0) is Refused BadSetup) ∷
+    (setup_answer (sized [] [] [] None 0) is Refused BadSetup) ∷
     []
 
 pub the_setups : Hold setups
@@ -84,7 +84,7 @@ unfolding setup_ok setup_answer
 the_setups = (refl, (refl, (refl, (refl, (refl, (refl, (refl, (refl, (refl, (refl, (refl, (refl, (refl, (refl, (refl, (refl, (refl, (refl, (refl, (refl, (refl, tt)))))))))))))))))))))
 
 -- 1.6: an EDS of n bytes is taken exactly where n is at most 65,535
-pub eds_bound : (n : ℕ) → eds_ok (some (replicate n 0)) ≡ leb n 65535
+pub eds_bound : (n : ℕ) → eds_ok (Some (replicate n 0)) ≡ leb n 65535
 eds_bound n = ap (λ k. leb k 65535) (length-replicate n 0)
 
 abbrev pub freshly : List Example

@@ -1,10 +1,11 @@
 -- Small states for the computed examples, built without an open: the line of Examples (output 150 of 2 bytes, input 101 of 1,
 -- configuration 5 of 2) with the connections that an example is about, and what is looked at of a state.
+use Rattle.std.specs.Prelude.{Option, Some, None}
 use mathlib.Core.List.{List, [], ◌∷◌, map}
 use mathlib.Core.Bool.{Bool, true, false}
 use Prim.Native.Nat.{ℕ}
 use lib.ListN.{get_or}
-use Rattle.rules.specs.State.{Kind, Owner, ListenOnly, Fixed, Heard, Due, Never, At, Sent, Conn, Content, content_at, Counters, State}
+use Rattle.rules.specs.State.{Kind, Owner, ListenOnly, Fixed, Heard, Sent, Conn, Content, content_at, Counters, State}
 use Rattle.rules.specs.Setup.{blank}
 use Rattle.rules.proofs.Examples.{setup}
 
@@ -56,7 +57,7 @@ heard until any sequence anycip cip = record { until = until; any = any; sequenc
 abbrev pub unheard : ℕ → Heard
 unheard until = heard until false 0 false 0
 
-abbrev pub sending : ℕ → ℕ → Due → Sent
+abbrev pub sending : ℕ → ℕ → Option ℕ → Sent
 sending sequence cip due = record { sequence = sequence; cip = cip; due = due }
 
 abbrev pub conn : Fixed → Heard → Sent → Conn
@@ -83,7 +84,7 @@ line table =
 
 -- an owner (O→T id 5), which produces, and a listener (O→T id 7) of one address, both opened at 0
 abbrev pub two : State
-two = line (conn (party Owner 5 8) (unheard 80000) (sending 0 0 (At 0)) ∷ conn (party ListenOnly 7 8) (unheard 80000) (sending 0 0 Never) ∷ [])
+two = line (conn (party Owner 5 8) (unheard 80000) (sending 0 0 (Some 0)) ∷ conn (party ListenOnly 7 8) (unheard 80000) (sending 0 0 None) ∷ [])
 
 -- what is looked at: output 150; what each connection heard, until when it lives, what it sends; what each waiting event tells
 abbrev pub output : State → Content

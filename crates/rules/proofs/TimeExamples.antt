@@ -1,4 +1,5 @@
 -- Time, computed: chapter 11 of the rules, each line with its rule.
+use Rattle.std.specs.Prelude.{Some, None}
 use mathlib.Core.Path.{◌≡◌, refl}
 use mathlib.Core.List.{List, [], ◌∷◌, map}
 use mathlib.Core.Bool.{true, false}
@@ -6,7 +7,7 @@ use Prim.Native.Nat.{ℕ, ◌+◌, ◌^◌}
 use Rattle.base_cells.specs.Numbers.{le, le_of, le_bytes}
 use Rattle.wire_rules.specs.Examples.{Example, ◌is◌, Hold}
 use Rattle.wire_rules.specs.declared.ForwardOpen.{ForwardOpen}
-use Rattle.rules.specs.State.{InputOnly, ListenOnly, Never, At, Conn, Origin, Plan, State, with_fault}
+use Rattle.rules.specs.State.{InputOnly, ListenOnly, Conn, Origin, Plan, State, with_fault}
 use Rattle.rules.specs.Answers.{Wrote, Gone, Refused, NoRoom, NothingThere}
 use Rattle.rules.specs.Events.{info_of, info_record, event_record, oldest_gone, appended, pushed, pushed_all}
 use Rattle.rules.specs.Opening.{opened}
@@ -15,7 +16,7 @@ use Rattle.rules.proofs.Small.{party, alone, unheard, sending, conn, line, until
 
 -- a producing point-to-point connection: O→T id, until when it lives, when it is due
 abbrev pub living : ℕ → ℕ → ℕ → Conn
-living otid until due = conn (alone InputOnly otid 9) (unheard until) (sending 0 0 (At due))
+living otid until due = conn (alone InputOnly otid 9) (unheard until) (sending 0 0 (Some due))
 
 -- three that nobody was heard of, the second for longest
 abbrev pub silent : State
@@ -51,7 +52,7 @@ open_clears t o g bytes p st = refl
 
 -- one that does not produce
 abbrev pub joined : ℕ → Conn
-joined until = conn (party ListenOnly 7 7) (unheard until) (sending 0 0 Never)
+joined until = conn (party ListenOnly 7 7) (unheard until) (sending 0 0 None)
 
 abbrev pub deadlines : List Example
 deadlines =

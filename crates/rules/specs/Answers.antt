@@ -1,12 +1,10 @@
 -- What a call answers: numbers for no, the words of a refused open with their meaning, and the number that the host gets.
 -- Rules 2.1 to 2.17.
-use Rattle.std.specs.Prelude.{List, [], ◌∷◌, Bool, true, false, cond, ℕ, ◌+◌, ◌*◌, ◌-◌, ◌^◌, leb, length}
+use Rattle.std.specs.Prelude.{List, [], ◌∷◌, Bool, true, false, cond, ℕ, ◌+◌, ◌*◌, ◌-◌, ◌^◌, leb, length, Result, Ok, Err}
 use Rattle.rules.specs.State.{Socket, Stop}
 pub use Rattle.rules.specs.declared.Stop.TheVariants.{Transport, PathBroken, PathBarred, KeyVendor, KeyProduct, KeyDevice, KeyRevision, ClassNotFour, NumberCount, NoOutputPoint, NoInputPoint, NoConfig, ConfigLength, OtRpi, ToRpi, OtType, ToType, OwnerSize, HeartbeatSize, InputSize, TriadInUse, Owned, NoStream, ListenPointToPoint, Full}
-
--- the reasons for no; that the lent state is of the wrong size or fails its test, No. 1 (2.2), is said where bytes are known
-pub data No : Type 0 where
-  BadSetup BadTime NotParsed NoAssembly TooLong NoRoom NothingThere : No
+pub use Rattle.rules.specs.declared.No.{No}
+pub use Rattle.rules.specs.declared.No.TheVariants.{BadSetup, BadTime, NotParsed, NoAssembly, TooLong, NoRoom, NothingThere}
 
 -- 2.3 to 2.10: numbers for no
 abbrev pub no_number : No → ℕ
@@ -31,7 +29,7 @@ words_of (KeyVendor v ours) = 0x0114 ∷ []  -- vendor or product code mismatch
 words_of (KeyProduct p ours) = 0x0114 ∷ []
 words_of (KeyDevice d ours) = 0x0115 ∷ []  -- device type mismatch
 words_of (KeyRevision major minor m n) = 0x0116 ∷ []  -- revision mismatch
-words_of (ClassNotFour given c) = 0x0117 ∷ []  -- invalid application path
+words_of (ClassNotFour c) = 0x0117 ∷ []  -- invalid application path
 words_of (NumberCount n) = 0x0117 ∷ []
 words_of (NoOutputPoint n) = 0x0117 ∷ []
 words_of (NoInputPoint n) = 0x0117 ∷ []
@@ -59,7 +57,7 @@ check_of (KeyVendor v ours) = 3
 check_of (KeyProduct p ours) = 3
 check_of (KeyDevice d ours) = 3
 check_of (KeyRevision major minor m n) = 3
-check_of (ClassNotFour given c) = 4
+check_of (ClassNotFour c) = 4
 check_of (NumberCount n) = 4
 check_of (NoOutputPoint n) = 4
 check_of (NoInputPoint n) = 4
@@ -111,6 +109,11 @@ answer_number (Accepted false s bs) = 0
 answer_number (Gone n) = 2 ^ 8 * n
 answer_number (Refused w) = no_number w
 answer_number (Failed s) = 5 + words_number (words_of s)
+
+-- 2.16: the same of a call that tells how many bytes it wrote, or its reason for no
+abbrev pub outcome_number : Result ℕ No → ℕ
+outcome_number (Ok n) = 2 ^ 8 * n
+outcome_number (Err w) = no_number w
 
 -- 2.15: what is written at the start of the lent output; what is behind stays
 abbrev pub answer_bytes : Answer → List ℕ

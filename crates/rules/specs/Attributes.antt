@@ -1,8 +1,6 @@
 -- What an object gives: an attribute by its number, or a general status. Get_Attribute_Single is the one service that the objects share.
-use Rattle.std.specs.Prelude.{List, [], ◌∷◌, ◌++◌, cond, ℕ, eqb, length}
+use Rattle.std.specs.Prelude.{List, [], ◌∷◌, ◌++◌, cond, ℕ, eqb, length, Option, Some, None}
 use Rattle.base_cells.specs.Numbers.{le_bytes}
-pub use Rattle.wire_rules.specs.declared.FirstAttribute.{FirstAttribute}
-pub use Rattle.wire_rules.specs.declared.FirstAttribute.TheVariants.{Number, NoAttribute}
 pub use Rattle.rules.specs.declared.objects.Fault.{Fault}
 pub use Rattle.rules.specs.declared.objects.Fault.TheVariants.{PathSegment, PathUnknown, ServiceUnknown, StateConflict, NotEnoughData, AttributeUnknown, ObjectUnknown}
 
@@ -30,15 +28,15 @@ value_of a [] = Fails AttributeUnknown
 value_of a (entry ∷ rest) = cond (eqb a entry.0) (Gives entry.1) (value_of a rest)
 
 -- 13.7: a missing attribute comes before an unknown one
-abbrev pub attribute_named : FirstAttribute → Attributes → Outcome
-attribute_named NoAttribute table = Fails NotEnoughData
-attribute_named (Number a) table = value_of a table
+abbrev pub attribute_named : Option ℕ → Attributes → Outcome
+attribute_named None table = Fails NotEnoughData
+attribute_named (Some a) table = value_of a table
 
 -- 13.6: any other service comes before a missing attribute
 abbrev pub get_single : ℕ
 get_single = 0x0E
 
-abbrev pub single : ℕ → FirstAttribute → Attributes → Outcome
+abbrev pub single : ℕ → Option ℕ → Attributes → Outcome
 single service a table = cond (eqb service get_single) (attribute_named a table) (Fails ServiceUnknown)
 
 -- 13.5: an unknown instance comes before the service: an object has its class, instance 0, and one instance

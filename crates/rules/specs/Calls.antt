@@ -1,12 +1,12 @@
 -- The public calls on a state that is set up, and runs of them. A time is in microseconds, `room` the length of the lent output.
-use Rattle.std.specs.Prelude.{List, [], ◌∷◌, ℕ}
+use Rattle.std.specs.Prelude.{List, [], ◌∷◌, ℕ, Option}
+use Rattle.rules.specs.declared.objects.Position.{Position}
 use Rattle.rules.specs.State.{Origin, State}
 use Rattle.rules.specs.Answers.{Answer}
 use Rattle.rules.specs.Opening.{open_call, refusal_answer}
 use Rattle.rules.specs.Removal.{close_call, expire_call, deadline_answer}
 use Rattle.rules.specs.Receiving.{receive_call}
 use Rattle.rules.specs.Producing.{produce_call}
-use Rattle.rules.specs.Upload.{Upload}
 use Rattle.rules.specs.Message.{message_answer}
 use Rattle.rules.specs.Host.{set_input_call, output_call, assembly_answer, next_event_call, connections_answer, stats_answer}
 
@@ -24,7 +24,7 @@ pub data Call : Type 0 where
   NextEvent : (room : ℕ) → Call
   Connections : (room : ℕ) → Call
   Stats : (room : ℕ) → Call
-  Message : (local mask : ℕ) (message : List ℕ) (room : ℕ) (position : Upload) → Call
+  Message : (local mask : ℕ) (message : List ℕ) (room : ℕ) (position : Option Position) → Call
 
 -- what a call answers
 abbrev pub answer : Call → State → Answer

@@ -1,7 +1,7 @@
 -- An open, check by check: the DECISION (rules 6.1 to 6.15, and 7.1 to 7.7 for the stream). It reads the setup and the fixed parts of
 -- the table, and nothing else of the state.
-use Rattle.std.specs.Prelude.{List, [], ◌∷◌, Bool, true, false, cond, not, ◌&&◌, ◌||◌, ℕ, ◌+◌, eqb, leb, ltb, length}
-use Rattle.std.proofs.Math.Option.{Option, none, some}
+pub use Rattle.rules.specs.declared.Roles.{Roles}
+use Rattle.std.specs.Prelude.{List, [], ◌∷◌, Bool, true, false, cond, not, ◌&&◌, ◌||◌, ℕ, ◌+◌, eqb, leb, ltb, length, Option, Some, None, Result, Ok, Err}
 use Rattle.wire_rules.specs.declared.NetType.{NetType}
 use Rattle.wire_rules.specs.declared.NetType.TheVariants.{Null, Multicast, PointToPoint, Reserved}
 use Rattle.wire_rules.specs.declared.NetParams.{NetParams}
@@ -9,46 +9,41 @@ use Rattle.wire_rules.specs.declared.ForwardOpen.{ForwardOpen}
 use Rattle.wire_rules.specs.Transport.{transport_ok, compatible_bit, major_of}
 use Rattle.wire_rules.specs.declared.Key.{Key}
 use Rattle.wire_rules.specs.declared.ConnectionPath.{ConnectionPath}
-use Rattle.wire_rules.specs.declared.PathAnswer.{PathAnswer}
-use Rattle.wire_rules.specs.declared.PathAnswer.TheVariants.{Parsed, Unparsed}
-use Rattle.wire_rules.specs.ConnectionPath.{no_key}
 use Rattle.rules.specs.Lists.{find, place, any, maybe, is_some}
-use Rattle.rules.specs.State.{AssemblyKind, is_input, is_output, is_config, Kind, Owner, InputOnly, ListenOnly, is_owner, is_listener, Triad, triad_is, Fixed, Identity, Shape, Setup, shape_at, Stop, Stream, Joins, Own, Stores, Nothing, Into, Plan, Verdict, Stopped, Planned}
+use Rattle.rules.specs.State.{AssemblyKind, is_input, is_output, is_config, Kind, Owner, InputOnly, ListenOnly, is_owner, is_listener, Triad, triad_is, Fixed, Identity, Shape, Setup, shape_at, Stop, Stream, Plan}
 use Rattle.rules.specs.Answers
 
 -- a check that holds says nothing; one that does not says what stops the open
 unfoldable pub must : Bool → Stop → Option Stop
-must true s = none
-must false s = some s
+must true s = None
+must false s = Some s
 
 -- the first of two that does not hold
 unfoldable pub and_then : Option Stop → Option Stop → Option Stop
-and_then none b = b
-and_then (some s) b = some s
+and_then None b = b
+and_then (Some s) b = Some s
 
 abbrev pub first_stop : List (Option Stop) → Option Stop
-first_stop [] = none
-first_stop (none ∷ cs) = first_stop cs
-first_stop (some s ∷ cs) = some s
+first_stop [] = None
+first_stop (None ∷ cs) = first_stop cs
+first_stop (Some s ∷ cs) = Some s
 
 -- 6.1: the class and the direction of the transport byte
 unfoldable pub transport_check : ForwardOpen → Option Stop
 transport_check o = must (transport_ok o.transport) (Answers.Transport o.transport)
 
 -- 6.2: the path parses, and holds no port and no attribute segment
-unfoldable pub path_check : PathAnswer → Option Stop
-path_check (Unparsed offset) = some (Answers.PathBroken offset)
-path_check (Parsed p) = must (not p.barred) Answers.PathBarred
+unfoldable pub path_check : Result ConnectionPath ℕ → Option Stop
+path_check (Err offset) = Some (Answers.PathBroken offset)
+path_check (Ok p) = must (not p.barred) Answers.PathBarred
 
 -- what the path holds, once it has parsed
 abbrev pub no_path : ConnectionPath
 no_path =
     record {
       barred = false;
-      haskey = false;
-      key = no_key;
-      hasclass = false;
-      class = 0;
+      key = None;
+      class = None;
       count = 0;
       first = 0;
       second = 0;
@@ -57,9 +52,9 @@ no_path =
       datalen = 0;
     }
 
-abbrev pub path_in : PathAnswer → ConnectionPath
-path_in (Unparsed offset) = no_path
-path_in (Parsed p) = p
+abbrev pub path_in : Result ConnectionPath ℕ → ConnectionPath
+path_in (Err offset) = no_path
+path_in (Ok p) = p
 
 -- 6.3a: a number of the key that is 0 is any
 abbrev pub any_or : ℕ → ℕ → Bool
@@ -80,7 +75,7 @@ key_stop us k =
     (must (revision_ok us k) (Answers.KeyRevision k.major k.minor us.major us.minor))))
 
 unfoldable pub key_check : Identity → ConnectionPath → Option Stop
-key_check us p = cond p.haskey (key_stop us p.key) none
+key_check us p = maybe None (key_stop us) p.key
 
 -- 6.4a: configuration if there are three, O→T, T→O
 abbrev pub has_config : ConnectionPath → Bool
@@ -112,35 +107,29 @@ place_or0 i = maybe 0 (λ n. n) i
 -- 6.4, 6.4b, 6.4c: class 4, two or three numbers, an output unless O→T is a heartbeat, an input
 unfoldable pub points_check : Setup → ConnectionPath → Option Stop
 points_check u p =
-    and_then (must (p.hasclass && eqb p.class 4) (Answers.ClassNotFour p.hasclass p.class))
+    and_then (must (maybe false (λ c. eqb c 4) p.class) (Answers.ClassNotFour p.class))
     (and_then (must (eqb p.count 2 || eqb p.count 3) (Answers.NumberCount p.count))
     (and_then (must (not (is_owner (kind_of u (ot_point p))) || is_some (place_of is_output u (ot_point p))) (Answers.NoOutputPoint (ot_point p)))
     (must (is_some (place_of is_input u (to_point p))) (Answers.NoInputPoint (to_point p)))))
 
 -- what the points come to
-pub record Roles : Type 0 where
-  pub kind : Kind
-  pub input : ℕ
-  pub output : ℕ
-  pub config : Option ℕ
-
 unfoldable pub roles_of : Setup → ConnectionPath → Roles
 roles_of u p =
     record {
       kind = kind_of u (ot_point p);
       input = place_or0 (place_of is_input u (to_point p));
       output = cond (is_owner (kind_of u (ot_point p))) (place_or0 (place_of is_output u (ot_point p))) 0;
-      config = cond (has_config p) (place_of is_config u (config_point p)) none;
+      config = cond (has_config p) (place_of is_config u (config_point p)) None;
     }
 
 -- 6.5, 6.5a: data without a configuration assembly, or of another length
 abbrev pub config_stop : Setup → ℕ → Option ℕ → Option Stop
-config_stop u length none = some (Answers.NoConfig length)
-config_stop u length (some i) = must (eqb (shape_at u i).size length) (Answers.ConfigLength length (shape_at u i).size)
+config_stop u length None = Some (Answers.NoConfig length)
+config_stop u length (Some i) = must (eqb (shape_at u i).size length) (Answers.ConfigLength length (shape_at u i).size)
 
 -- 6.5b: without data nothing is asked
 unfoldable pub config_check : Setup → ConnectionPath → Roles → Option Stop
-config_check u p r = cond (eqb p.datalen 0) none (config_stop u p.datalen r.config)
+config_check u p r = cond (eqb p.datalen 0) None (config_stop u p.datalen r.config)
 
 -- 6.6: both RPIs are within the range, whose ends pass
 abbrev pub rpi_ok : Setup → ℕ → Bool
@@ -212,17 +201,17 @@ abbrev pub carries : ForwardOpen → Roles → Fixed → Bool
 carries o r f =
     f.multicast && not (is_listener f.kind) && eqb f.input r.input && (is_listener r.kind || eqb f.torpi o.to.rpi)
 
-abbrev pub stream_found : Option Fixed → Stream
-stream_found none = Own
-stream_found (some f) = Joins f.toid f.dest f.torpi
+abbrev pub stream_found : Option Fixed → Option Stream
+stream_found None = None
+stream_found (Some f) = Some (record { toid = f.toid; dest = f.dest; torpi = f.torpi })
 
 -- 7.1, 7.7: the stream of a multicast open, the first such in the table
-unfoldable pub stream_of : ForwardOpen → Roles → List Fixed → Stream
-stream_of o r table = cond (asks_multicast o) (stream_found (find (carries o r) table)) Own
+unfoldable pub stream_of : ForwardOpen → Roles → List Fixed → Option Stream
+stream_of o r table = cond (asks_multicast o) (stream_found (find (carries o r) table)) None
 
-abbrev pub joins : Stream → Bool
-joins (Joins toid dest torpi) = true
-joins Own = false
+abbrev pub joins : Option Stream → Bool
+joins (Some x) = true
+joins None = false
 
 -- 6.12: a listen-only open has a stream
 unfoldable pub stream_check : ForwardOpen → Roles → List Fixed → Option Stop
@@ -237,7 +226,7 @@ unfoldable pub room_check : List Fixed → Option Stop
 room_check table = must (ltb (length table) max_connections) Answers.Full
 
 -- 6.14: THE THIRTEEN CHECKS, in their order
-abbrev pub checks : Setup → List Fixed → ForwardOpen → PathAnswer → List (Option Stop)
+abbrev pub checks : Setup → List Fixed → ForwardOpen → Result ConnectionPath ℕ → List (Option Stop)
 checks u table o answer =
     let p = path_in answer in
     let r = roles_of u p in
@@ -257,9 +246,6 @@ checks u table o answer =
     []
 
 -- where configuration data goes; 7.27: nowhere without data
-abbrev pub stores_into : Option ℕ → Stores
-stores_into none = Nothing
-stores_into (some i) = Into i
 
 unfoldable pub plan_of : Setup → List Fixed → ForwardOpen → ConnectionPath → Plan
 plan_of u table o p =
@@ -268,10 +254,10 @@ plan_of u table o p =
       kind = r.kind;
       input = r.input;
       output = r.output;
-      stores = cond (eqb p.datalen 0) Nothing (stores_into r.config);
+      stores = cond (eqb p.datalen 0) None r.config;
       stream = stream_of o r table;
     }
 
 -- THE DECISION: the first check that does not hold, or a plan
-unfoldable pub verdict : Setup → List Fixed → ForwardOpen → PathAnswer → Verdict
-verdict u table o answer = maybe (Planned (plan_of u table o (path_in answer))) Stopped (first_stop (checks u table o answer))
+unfoldable pub verdict : Setup → List Fixed → ForwardOpen → Result ConnectionPath ℕ → Result Plan Stop
+verdict u table o answer = maybe (Ok (plan_of u table o (path_in answer))) Err (first_stop (checks u table o answer))

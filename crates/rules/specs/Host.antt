@@ -1,6 +1,5 @@
 -- The host's side: inputs in, outputs and events out, and what it may read. Rules 12.1 to 12.6, 12.12.
-use Rattle.std.specs.Prelude.{List, [], ◌∷◌, ◌++◌, Bool, false, cond, ℕ, zero, suc, ◌+◌, ◌-◌, leb, length, replicate}
-use Rattle.std.proofs.Math.Option.{Option, none, some}
+use Rattle.std.specs.Prelude.{List, [], ◌∷◌, ◌++◌, Bool, false, cond, ℕ, zero, suc, ◌+◌, ◌-◌, leb, length, replicate, Option, Some, None}
 use Rattle.base_cells.specs.Numbers.{le_bytes}
 use Rattle.base_cells.specs.Records.{of_bool}
 use Rattle.rules.specs.Lists.{change_at, joined}
@@ -15,12 +14,12 @@ filled size bytes a = record { bytes = bytes ++ replicate (size - length bytes) 
 
 -- SET_INPUT (12.1): No. 6, 7
 abbrev pub set_input_at : Setup → List ℕ → Option ℕ → Answer
-set_input_at u bytes none = Refused NoAssembly
-set_input_at u bytes (some i) = cond (leb (length bytes) (shape_at u i).size) Done (Refused TooLong)
+set_input_at u bytes None = Refused NoAssembly
+set_input_at u bytes (Some i) = cond (leb (length bytes) (shape_at u i).size) Done (Refused TooLong)
 
 abbrev pub input_set : List ℕ → State → Option ℕ → State
-input_set bytes st none = st
-input_set bytes st (some i) = with_contents (change_at i (filled (shape_at st.setup i).size bytes) st.contents) st
+input_set bytes st None = st
+input_set bytes st (Some i) = with_contents (change_at i (filled (shape_at st.setup i).size bytes) st.contents) st
 
 unfoldable pub set_input_answer : ℕ → List ℕ → Setup → Answer
 set_input_answer n bytes u = set_input_at u bytes (place_of is_input u n)
@@ -39,12 +38,12 @@ abbrev pub output_bytes : Content → List ℕ
 output_bytes a = of_bool a.run ∷ a.bytes
 
 abbrev pub output_at : ℕ → State → Option ℕ → Answer
-output_at room st none = Refused NoAssembly
-output_at room st (some i) = fitting room (output_bytes (content_at st i)) (Wrote (output_bytes (content_at st i)))
+output_at room st None = Refused NoAssembly
+output_at room st (Some i) = fitting room (output_bytes (content_at st i)) (Wrote (output_bytes (content_at st i)))
 
 abbrev pub output_read : State → Option ℕ → State
-output_read st none = st
-output_read st (some i) = with_contents (change_at i read st.contents) st
+output_read st None = st
+output_read st (Some i) = with_contents (change_at i read st.contents) st
 
 unfoldable pub output_answer : ℕ → ℕ → State → Answer
 output_answer n room st = output_at room st (place_of is_output st.setup n)
@@ -64,8 +63,8 @@ kind_test (suc (suc (suc zero))) = is_config
 kind_test (suc (suc (suc (suc n)))) = λ k. false
 
 abbrev pub assembly_at : ℕ → State → Option ℕ → Answer
-assembly_at room st none = Refused NoAssembly
-assembly_at room st (some i) = fitting room (content_at st i).bytes (Wrote (content_at st i).bytes)
+assembly_at room st None = Refused NoAssembly
+assembly_at room st (Some i) = fitting room (content_at st i).bytes (Wrote (content_at st i).bytes)
 
 unfoldable pub assembly_answer : ℕ → ℕ → ℕ → State → Answer
 assembly_answer kind n room st = assembly_at room st (place_of (kind_test kind) st.setup n)

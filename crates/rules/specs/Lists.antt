@@ -1,31 +1,30 @@
 -- Lists under Boolean tests: the few words that the rules are written in.
-use Rattle.std.specs.Prelude.{List, [], ◌∷◌, ◌++◌, Bool, true, false, cond, ◌&&◌, ◌||◌, ℕ, zero, suc, eqb}
-use Rattle.std.proofs.Math.Option.{Option, none, some}
+use Rattle.std.specs.Prelude.{List, [], ◌∷◌, ◌++◌, Bool, true, false, cond, ◌&&◌, ◌||◌, ℕ, zero, suc, eqb, Option, Some, None}
 
 -- of what may be absent
 abbrev pub maybe : {A B : Type 0} → B → (A → B) → Option A → B
-maybe d f none = d
-maybe d f (some a) = f a
+maybe d f None = d
+maybe d f (Some a) = f a
 
 abbrev pub is_some : {A : Type 0} → Option A → Bool
-is_some none = false
-is_some (some a) = true
+is_some None = false
+is_some (Some a) = true
 
 -- the value if a test holds
 abbrev pub only : {A : Type 0} → Bool → Option A → Option A
 only true a = a
-only false a = none
+only false a = None
 
 module _ {A : Type 0} where
   -- the first that passes the test
   abbrev pub find : (A → Bool) → List A → Option A
-  find p [] = none
-  find p (x ∷ xs) = cond (p x) (some x) (find p xs)
+  find p [] = None
+  find p (x ∷ xs) = cond (p x) (Some x) (find p xs)
 
   -- the place of the first that passes the test
   abbrev pub place : (A → Bool) → List A → Option ℕ
-  place p [] = none
-  place p (x ∷ xs) = cond (p x) (some 0) (maybe none (λ i. some (suc i)) (place p xs))
+  place p [] = None
+  place p (x ∷ xs) = cond (p x) (Some 0) (maybe None (λ i. Some (suc i)) (place p xs))
 
   abbrev pub any : (A → Bool) → List A → Bool
   any p [] = false

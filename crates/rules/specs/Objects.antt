@@ -1,13 +1,13 @@
 -- The five objects: Identity (0x01), Assembly (0x04), TCP/IP (0xF5), Ethernet Link (0xF6) and File (0x37). Each gives the outcome
 -- for a service, an instance and an attribute; File also has the EDS upload.
-use Rattle.std.specs.Prelude.{List, [], ◌∷◌, Bool, cond, ◌&&◌, ℕ, ◌+◌, ◌*◌, ◌^◌, max, eqb, length}
-use Rattle.std.proofs.Math.Option.{Option, none, some}
+use Rattle.std.specs.Prelude.{List, [], ◌∷◌, Bool, cond, ◌&&◌, ℕ, ◌+◌, ◌*◌, ◌^◌, max, eqb, length, Option, Some, None}
+use Rattle.rules.specs.declared.objects.Position.{Position}
 use Rattle.base_cells.specs.Numbers.{le_bytes}
 use Rattle.base_cells.specs.Records.{enc_fields, of_bool}
 use Rattle.rules.specs.Lists.{any, place}
 use Rattle.rules.specs.State.{is_owner, Shape, Setup, Content, State, content_at}
-use Rattle.rules.specs.Attributes.{FirstAttribute, Outcome, Fails, ObjectUnknown, Attributes, single, among, class_attributes, short_string, file_name, tagged_text}
-use Rattle.rules.specs.Upload.{Upload, checksum, initiate, transfer}
+use Rattle.rules.specs.Attributes.{Outcome, Fails, ObjectUnknown, Attributes, single, among, class_attributes, short_string, file_name, tagged_text}
+use Rattle.rules.specs.Upload.{checksum, initiate, transfer}
 
 -- ---- Identity
 
@@ -42,7 +42,7 @@ identity_attributes st =
     []
 
 -- 13.6: service 0x01, all attributes at once, is no service here: 0x08
-unfoldable pub identity : State → ℕ → ℕ → FirstAttribute → Outcome
+unfoldable pub identity : State → ℕ → ℕ → Option ℕ → Outcome
 identity st service instance a = among 1 instance (single service a class_attributes) (single service a (identity_attributes st))
 
 -- ---- Assembly
@@ -62,11 +62,11 @@ assembly_attributes held = (3, held.bytes) ∷ (4, le_bytes 2 (length held.bytes
 unfoldable pub assembly_place : Setup → ℕ → Option ℕ
 assembly_place u instance = place (λ a. eqb a.instance instance) u.assemblies
 
-abbrev pub assembly_object : State → ℕ → FirstAttribute → Option ℕ → Outcome
-assembly_object st service a none = Fails ObjectUnknown
-assembly_object st service a (some i) = single service a (assembly_attributes (content_at st i))
+abbrev pub assembly_object : State → ℕ → Option ℕ → Option ℕ → Outcome
+assembly_object st service a None = Fails ObjectUnknown
+assembly_object st service a (Some i) = single service a (assembly_attributes (content_at st i))
 
-unfoldable pub assembly : State → ℕ → ℕ → FirstAttribute → Outcome
+unfoldable pub assembly : State → ℕ → ℕ → Option ℕ → Outcome
 assembly st service instance a =
     cond (eqb instance 0) (single service a (assembly_class st.setup)) (assembly_object st service a (assembly_place st.setup instance))
 
@@ -91,7 +91,7 @@ tcp_ip_attributes local mask =
     (6, le_bytes 2 0) ∷
     []
 
-unfoldable pub tcp_ip : ℕ → ℕ → ℕ → ℕ → FirstAttribute → Outcome
+unfoldable pub tcp_ip : ℕ → ℕ → ℕ → ℕ → Option ℕ → Outcome
 tcp_ip local mask service instance a = among 1 instance (single service a class_attributes) (single service a (tcp_ip_attributes local mask))
 
 -- ---- Ethernet Link
@@ -100,7 +100,7 @@ tcp_ip local mask service instance a = among 1 instance (single service a class_
 unfoldable pub ethernet_attributes : Setup → Attributes
 ethernet_attributes u = (1, le_bytes 4 100) ∷ (2, le_bytes 4 0x0F) ∷ (3, u.mac) ∷ []
 
-unfoldable pub ethernet_link : Setup → ℕ → ℕ → FirstAttribute → Outcome
+unfoldable pub ethernet_link : Setup → ℕ → ℕ → Option ℕ → Outcome
 ethernet_link u service instance a = among 1 instance (single service a class_attributes) (single service a (ethernet_attributes u))
 
 -- ---- File
@@ -133,13 +133,13 @@ abbrev pub upload_transfer : ℕ
 upload_transfer = 0x4F
 
 -- 14.1: the services of the EDS: initiate, transfer, and a single attribute, which leaves the position as it is
-unfoldable pub eds_file : Setup → List ℕ → ℕ → FirstAttribute → List ℕ → Upload → Outcome × Upload
+unfoldable pub eds_file : Setup → List ℕ → ℕ → Option ℕ → List ℕ → Option Position → Outcome × Option Position
 eds_file u eds service a bytes up =
     cond (eqb service initiate_upload) (initiate u.transfer_limit eds up bytes)
     (cond (eqb service upload_transfer) (transfer eds up bytes)
     (single service a (file_attributes u eds), up))
 
-unfoldable pub file : Setup → List ℕ → ℕ → ℕ → FirstAttribute → List ℕ → Upload → Outcome × Upload
+unfoldable pub file : Setup → List ℕ → ℕ → ℕ → Option ℕ → List ℕ → Option Position → Outcome × Option Position
 file u eds service instance a bytes up =
     cond (eqb instance 0) (single service a class_attributes, up)
     (cond (eqb instance eds_instance) (eds_file u eds service a bytes up)

@@ -1,16 +1,16 @@
 -- Packets out. Rules 10.1 to 10.12.
-use Rattle.std.specs.Prelude.{List, [], ◌∷◌, ◌++◌, map, Bool, false, cond, ℕ, ◌+◌, ◌-◌, ◌%◌, ◌^◌, min, max, eqb, leb, length, get_or}
+use Rattle.std.specs.Prelude.{List, [], ◌∷◌, ◌++◌, map, Bool, false, cond, ℕ, ◌+◌, ◌-◌, ◌%◌, ◌^◌, min, max, eqb, leb, length, get_or, Option, Some, None}
 use Rattle.base_cells.specs.BigEndian.{bytes_be}
 use Rattle.base_cells.specs.Records.{of_bool}
 use Rattle.wire_rules.specs.Frames.{io_frame}
 use Rattle.rules.specs.Lists.{keep, joined}
-use Rattle.rules.specs.State.{Fixed, Due, Never, At, Sent, Conn, with_sent, Setup, Content, no_content, Counters, State}
+use Rattle.rules.specs.State.{Fixed, Sent, Conn, with_sent, Setup, Content, no_content, Counters, State}
 use Rattle.rules.specs.Answers.{Answer, Wrote, fitting, at_time, settled}
 
 -- 10.1, 10.2: a producing connection is due when its due time is not after now
-abbrev pub due_by : ℕ → Due → Bool
-due_by t Never = false
-due_by t (At d) = leb d t
+abbrev pub due_by : ℕ → Option ℕ → Bool
+due_by t None = false
+due_by t (Some d) = leb d t
 
 abbrev pub due : ℕ → Conn → Bool
 due t c = due_by t c.sent.due
@@ -19,9 +19,9 @@ due t c = due_by t c.sent.due
 abbrev pub next_time : ℕ → ℕ → ℕ → ℕ
 next_time t rpi d = cond (leb (d + rpi) t) (t + rpi) (d + rpi)
 
-abbrev pub next_due : ℕ → ℕ → Due → Due
-next_due t rpi Never = Never
-next_due t rpi (At d) = At (next_time t rpi d)
+abbrev pub next_due : ℕ → ℕ → Option ℕ → Option ℕ
+next_due t rpi None = None
+next_due t rpi (Some d) = Some (next_time t rpi d)
 
 -- 10.3: both sequences step by one first
 unfoldable pub sent : ℕ → Conn → Sent
@@ -57,9 +57,9 @@ packets t contents table = joined (λ c. packet t (input_bytes contents c.fixed)
 abbrev pub late_limit : Setup → ℕ
 late_limit u = cond (eqb u.late_limit 0) 1000 u.late_limit
 
-abbrev pub late_by : ℕ → Due → ℕ
-late_by t Never = 0
-late_by t (At d) = t - d
+abbrev pub late_by : ℕ → Option ℕ → ℕ
+late_by t None = 0
+late_by t (Some d) = t - d
 
 abbrev pub delays : ℕ → List Conn → List ℕ
 delays t table = map (λ c. late_by t c.sent.due) (keep (due t) table)

@@ -1,6 +1,5 @@
 -- Frames in. Rules 9.1 to 9.15.
-use Rattle.std.specs.Prelude.{List, [], ◌∷◌, Bool, true, cond, not, ◌&&◌, ◌||◌, ℕ, ◌+◌, ◌-◌, ◌%◌, ◌^◌, eqb, leb, ltb, length, take, drop, get_or}
-use Rattle.std.proofs.Math.Option.{Option, none, some}
+use Rattle.std.specs.Prelude.{List, [], ◌∷◌, Bool, true, cond, not, ◌&&◌, ◌||◌, ℕ, ◌+◌, ◌-◌, ◌%◌, ◌^◌, eqb, leb, ltb, length, take, drop, get_or, Option, Some, None}
 use Rattle.std.specs.Bool.{beq}
 use Rattle.base_cells.specs.Numbers.{le}
 use Rattle.wire_rules.specs.declared.IoFrame.{IoFrame}
@@ -106,9 +105,9 @@ received t from f st =
 
 -- 9.15: receive ignores a frame over size or of no use; that is no refusal
 abbrev pub frame_of : List ℕ → IoFrame → Option Frame
-frame_of bytes (Io id sequence start len) = some (record { id = id; sequence = sequence; payload = take len (drop start bytes) })
-frame_of bytes NotIo = none
-frame_of bytes (Broken offset) = none
+frame_of bytes (Io id sequence start len) = Some (record { id = id; sequence = sequence; payload = take len (drop start bytes) })
+frame_of bytes NotIo = None
+frame_of bytes (Broken offset) = None
 
 -- RECEIVE: No. 3
 unfoldable pub receive_answer : ℕ → Answer

@@ -1,13 +1,10 @@
 -- Removal of a connection (rules 8.1 to 8.18), close and expiry (chapter 11).
-use Rattle.std.specs.Prelude.{List, [], ◌∷◌, map, Bool, true, false, cond, not, ◌&&◌, ◌||◌, ℕ, ◌-◌, min, eqb, ltb, length}
-use Rattle.std.proofs.Math.Option.{Option, none, some}
+use Rattle.std.specs.Prelude.{List, [], ◌∷◌, map, Bool, true, false, cond, not, ◌&&◌, ◌||◌, ℕ, ◌-◌, min, eqb, ltb, length, Option, Some, None}
 use Rattle.base_cells.specs.Numbers.{le_bytes}
-use Rattle.wire_rules.specs.declared.CloseAnswer.{CloseAnswer}
-use Rattle.wire_rules.specs.declared.CloseAnswer.TheVariants.{Close, NoClose}
 use Rattle.wire_rules.specs.Opens.{close_of}
 use Rattle.wire_rules.specs.Replies.{close_reply}
 use Rattle.rules.specs.Lists.{find, any, keep, change_first, without_first, change_at, maybe, repeat}
-use Rattle.rules.specs.State.{Triad, ToId, is_owner, is_listener, Info, Fixed, Due, Never, At, Conn, with_sent, produces, Event, Closed, TimedOut, Setup, Content, State}
+use Rattle.rules.specs.State.{Triad, ToId, is_owner, is_listener, Info, Fixed, Conn, with_sent, produces, Event, Closed, TimedOut, Setup, Content, State}
 use Rattle.rules.specs.Answers.{Answer, Wrote, Gone, Refused, NotParsed, NothingThere, fitting, at_time, settled}
 use Rattle.rules.specs.Events.{info_of, pushed, pushed_all}
 use Rattle.rules.specs.Checks.{has_triad}
@@ -80,13 +77,13 @@ conn_triad t c = has_triad t c.fixed
 unfoldable pub closed : Triad → State → State
 closed t st = removed_first false Closed (conn_triad t) st
 
-abbrev pub close_for : ℕ → State → CloseAnswer → Answer
-close_for room st NoClose = Refused NotParsed
-close_for room st (Close t) = cond (any (conn_triad t) st.table) (fitting room (close_reply t) (Wrote (close_reply t))) (Refused NothingThere)
+abbrev pub close_for : ℕ → State → Option Triad → Answer
+close_for room st None = Refused NotParsed
+close_for room st (Some t) = cond (any (conn_triad t) st.table) (fitting room (close_reply t) (Wrote (close_reply t))) (Refused NothingThere)
 
-abbrev pub close_by : State → CloseAnswer → State
-close_by st NoClose = st
-close_by st (Close t) = closed t st
+abbrev pub close_by : State → Option Triad → State
+close_by st None = st
+close_by st (Some t) = closed t st
 
 unfoldable pub close_answer : List ℕ → ℕ → State → Answer
 close_answer request room st = close_for room st (close_of request)
@@ -117,9 +114,9 @@ unfoldable pub expire_call : ℕ → State → Answer × State
 expire_call t st = settled (expire_answer t st) (expire_effect t st) st
 
 -- 11.6: the next deadline is the least of producing due times and receive time plus timeout
-abbrev pub due_or : ℕ → Due → ℕ
-due_or m Never = m
-due_or m (At t) = min m t
+abbrev pub due_or : ℕ → Option ℕ → ℕ
+due_or m None = m
+due_or m (Some t) = min m t
 
 abbrev pub deadline_of : Conn → ℕ
 deadline_of c = due_or c.heard.until c.sent.due
@@ -129,8 +126,8 @@ least_of m [] = m
 least_of m (c ∷ cs) = least_of (min m (deadline_of c)) cs
 
 abbrev pub deadline : List Conn → Option ℕ
-deadline [] = none
-deadline (c ∷ cs) = some (least_of (deadline_of c) cs)
+deadline [] = None
+deadline (c ∷ cs) = Some (least_of (deadline_of c) cs)
 
 -- NEXT_DEADLINE (11.7, 11.8): No. 9, 8; the time in 8 bytes, little-endian
 unfoldable pub deadline_answer : ℕ → State → Answer

@@ -1,6 +1,5 @@
 -- Setup: its sizes (No. 2), and the fresh state. Rules 1.1 to 1.12.
-use Rattle.std.specs.Prelude.{List, [], ◌∷◌, map, Bool, true, false, cond, not, ◌&&◌, ℕ, ◌+◌, ◌%◌, eqb, leb, length, replicate}
-use Rattle.std.proofs.Math.Option.{Option}
+use Rattle.std.specs.Prelude.{List, [], ◌∷◌, map, Bool, true, false, cond, not, ◌&&◌, ℕ, ◌+◌, ◌%◌, eqb, leb, length, replicate, Option}
 use Rattle.rules.specs.Lists.{any, maybe}
 use Rattle.rules.specs.State.{Shape, Setup, Content, State}
 use Rattle.rules.specs.Answers.{Answer, Done, Refused, BadSetup}

@@ -1,7 +1,6 @@
 -- What the adapter remembers: the setup, what each assembly holds, the connections, the events that were not read, the
 -- fault mark, the next id and the counters.
-use Rattle.std.specs.Prelude.{List, [], map, Bool, true, false, ◌&&◌, ℕ, eqb, get_or}
-use Rattle.std.proofs.Math.Option.{Option}
+use Rattle.std.specs.Prelude.{List, [], map, Bool, true, false, ◌&&◌, ℕ, eqb, get_or, Option, Some, None}
 pub use Rattle.base_ids.specs.declared.OtId.{OtId}
 pub use Rattle.base_ids.specs.declared.ToId.{ToId}
 pub use Rattle.base_ids.specs.declared.Triad.{Triad}
@@ -12,8 +11,6 @@ pub use Rattle.rules.specs.declared.Kind.TheVariants.{Owner, InputOnly, ListenOn
 pub use Rattle.rules.specs.declared.Socket.{Socket}
 pub use Rattle.rules.specs.declared.Fixed.{Fixed}
 pub use Rattle.rules.specs.declared.Heard.{Heard}
-pub use Rattle.rules.specs.declared.Due.{Due}
-pub use Rattle.rules.specs.declared.Due.TheVariants.{Never, At}
 pub use Rattle.rules.specs.declared.Sent.{Sent}
 pub use Rattle.rules.specs.declared.Conn.{Conn}
 pub use Rattle.rules.specs.declared.Info.{Info}
@@ -22,12 +19,7 @@ pub use Rattle.rules.specs.declared.Event.TheVariants.{Opened, Closed, TimedOut,
 pub use Rattle.rules.specs.declared.Origin.{Origin}
 pub use Rattle.rules.specs.declared.Stop.{Stop}
 pub use Rattle.rules.specs.declared.Stream.{Stream}
-pub use Rattle.rules.specs.declared.Stream.TheVariants.{Joins, Own}
-pub use Rattle.rules.specs.declared.Stores.{Stores}
-pub use Rattle.rules.specs.declared.Stores.TheVariants.{Nothing, Into}
 pub use Rattle.rules.specs.declared.Plan.{Plan}
-pub use Rattle.rules.specs.declared.Verdict.{Verdict}
-pub use Rattle.rules.specs.declared.Verdict.TheVariants.{Stopped, Planned}
 
 -- what is known of us: vendor, device type, product code, revision, serial number and product name
 pub record Identity : Type 0 where
@@ -156,9 +148,9 @@ abbrev pub triad_is : Triad → Triad → Bool
 triad_is a b = eqb a.serial b.serial && eqb a.vendor b.vendor && eqb a.originator b.originator
 
 -- a connection that produces
-abbrev pub produces : Due → Bool
-produces Never = false
-produces (At t) = true
+abbrev pub produces : Option ℕ → Bool
+produces None = false
+produces (Some t) = true
 
 -- the fixed parts of the table
 abbrev pub fixeds : List Conn → List Fixed

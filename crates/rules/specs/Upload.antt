@@ -1,16 +1,12 @@
 -- The EDS upload: one step by value, from what is set up, the position and the service data to the outcome and the next position.
-use Rattle.std.specs.Prelude.{List, [], ◌∷◌, ◌++◌, Bool, true, false, cond, ℕ, ◌+◌, ◌-◌, ◌%◌, ◌^◌, min, max, eqb, leb, length, take, drop}
-use Rattle.std.proofs.Math.Option.{Option, none, some}
+use Rattle.std.specs.Prelude.{List, [], ◌∷◌, ◌++◌, Bool, true, false, cond, ℕ, ◌+◌, ◌-◌, ◌%◌, ◌^◌, min, max, eqb, leb, length, take, drop, Option, Some, None}
 use Rattle.base_cells.specs.Numbers.{le_bytes}
 use Rattle.base_cells.specs.Records.{sum}
 use Rattle.base_cells.specs.Back.{all}
 use Rattle.rules.specs.State.{Setup}
 use Rattle.rules.specs.Attributes.{Outcome, Gives, Fails, StateConflict, NotEnoughData}
-pub use Rattle.rules.specs.declared.objects.Last.{Last}
-pub use Rattle.rules.specs.declared.objects.Last.TheVariants.{NoLast, Was}
+pub use Rattle.rules.specs.declared.objects.Transfer.{Transfer}
 pub use Rattle.rules.specs.declared.objects.Position.{Position}
-pub use Rattle.rules.specs.declared.objects.Upload.{Upload}
-pub use Rattle.rules.specs.declared.objects.Upload.TheVariants.{NoUpload, Under}
 pub use Rattle.rules.specs.declared.objects.Turn.{Turn}
 pub use Rattle.rules.specs.declared.objects.Turn.TheVariants.{Repeat, InTurn, OutOfTurn}
 
@@ -25,15 +21,15 @@ unfoldable pub clamped : ℕ → ℕ → ℕ
 clamped limit wanted = max 1 (min wanted limit)
 
 abbrev pub started : ℕ → Position
-started size = record { size = size; next = 0; offset = 0; last = NoLast }
+started size = record { size = size; next = 0; offset = 0; last = None }
 
 -- 14.3: its reply: the EDS length in 4 bytes, and the size
 abbrev pub initiate_reply : List ℕ → ℕ → List ℕ
 initiate_reply eds size = le_bytes 4 (length eds) ++ (size ∷ [])
 
-unfoldable pub initiate : ℕ → List ℕ → Upload → List ℕ → Outcome × Upload
+unfoldable pub initiate : ℕ → List ℕ → Option Position → List ℕ → Outcome × Option Position
 initiate limit eds up [] = (Fails NotEnoughData, up)
-initiate limit eds up (wanted ∷ rest) = (Gives (initiate_reply eds (clamped limit wanted)), Under (started (clamped limit wanted)))
+initiate limit eds up (wanted ∷ rest) = (Gives (initiate_reply eds (clamped limit wanted)), Some (started (clamped limit wanted)))
 
 -- ---- transfer
 
@@ -41,9 +37,13 @@ initiate limit eds up (wanted ∷ rest) = (Gives (initiate_reply eds (clamped li
 abbrev pub next_turn : ℕ → ℕ → Turn
 next_turn next number = cond (eqb number next) InTurn OutOfTurn
 
-abbrev pub turn_after : Last → ℕ → ℕ → Turn
-turn_after NoLast next number = next_turn next number
-turn_after (Was last offset) next number = cond (eqb last number) (Repeat offset) (next_turn next number)
+-- a transfer that was made: its number, and where it began
+abbrev pub was : ℕ → ℕ → Option Transfer
+was number offset = Some (record { number = number; offset = offset })
+
+abbrev pub turn_after : Option Transfer → ℕ → ℕ → Turn
+turn_after None next number = next_turn next number
+turn_after (Some last) next number = cond (eqb last.number number) (Repeat last.offset) (next_turn next number)
 
 unfoldable pub turn_of : Position → ℕ → Turn
 turn_of p number = turn_after p.last p.next number
@@ -55,7 +55,7 @@ advanced eds p =
       size = p.size;
       next = (p.next + 1) % 256;
       offset = min (p.offset + p.size) (length eds);
-      last = Was p.next p.offset;
+      last = was p.next p.offset;
     }
 
 -- 14.9: the transfer at an offset is the last if it reaches the end
@@ -78,32 +78,32 @@ transfer_reply eds size number offset =
     number ∷ transfer_type (eqb offset 0) (reaches_end eds size offset) ∷ transfer_bytes eds size offset
 
 -- 14.7: a repeat gives the same bytes again
-abbrev pub transfer_for : List ℕ → Position → ℕ → Turn → Outcome × Upload
-transfer_for eds p number (Repeat offset) = (Gives (transfer_reply eds p.size number offset), Under p)
-transfer_for eds p number InTurn = (Gives (transfer_reply eds p.size number p.offset), Under (advanced eds p))
-transfer_for eds p number OutOfTurn = (Fails StateConflict, Under p)
+abbrev pub transfer_for : List ℕ → Position → ℕ → Turn → Outcome × Option Position
+transfer_for eds p number (Repeat offset) = (Gives (transfer_reply eds p.size number offset), Some p)
+transfer_for eds p number InTurn = (Gives (transfer_reply eds p.size number p.offset), Some (advanced eds p))
+transfer_for eds p number OutOfTurn = (Fails StateConflict, Some p)
 
-abbrev pub transfer_at : List ℕ → ℕ → Upload → Outcome × Upload
-transfer_at eds number NoUpload = (Fails StateConflict, NoUpload)
-transfer_at eds number (Under p) = transfer_for eds p number (turn_of p number)
+abbrev pub transfer_at : List ℕ → ℕ → Option Position → Outcome × Option Position
+transfer_at eds number None = (Fails StateConflict, None)
+transfer_at eds number (Some p) = transfer_for eds p number (turn_of p number)
 
-unfoldable pub transfer : List ℕ → Upload → List ℕ → Outcome × Upload
+unfoldable pub transfer : List ℕ → Option Position → List ℕ → Outcome × Option Position
 transfer eds up [] = (Fails NotEnoughData, up)
 transfer eds up (number ∷ rest) = transfer_at eds number up
 
 -- ---- 14.11, the position's own test: none, or a size of 1 up to the limit and offsets within the EDS; none if there is no EDS
 
-abbrev pub last_ok : ℕ → Last → Bool
-last_ok size NoLast = true
-last_ok size (Was number offset) = leb offset size
+abbrev pub last_ok : ℕ → Option Transfer → Bool
+last_ok size None = true
+last_ok size (Some last) = leb last.offset size
 
 abbrev pub position_tests : ℕ → ℕ → Position → List Bool
 position_tests limit size p = leb 1 p.size ∷ leb p.size limit ∷ leb p.offset size ∷ last_ok size p.last ∷ []
 
 abbrev pub position_ok : ℕ → Option (List ℕ) → Position → Bool
-position_ok limit none p = false
-position_ok limit (some eds) p = all (position_tests limit (length eds) p)
+position_ok limit None p = false
+position_ok limit (Some eds) p = all (position_tests limit (length eds) p)
 
-unfoldable pub upload_ok : Setup → Upload → Bool
-upload_ok u NoUpload = true
-upload_ok u (Under p) = position_ok u.transfer_limit u.eds p
+unfoldable pub upload_ok : Setup → Option Position → Bool
+upload_ok u None = true
+upload_ok u (Some p) = position_ok u.transfer_limit u.eds p

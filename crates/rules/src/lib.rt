@@ -52,6 +52,7 @@ pub struct Fixed {
 
 // What the originator's frames alone change: the time until which the connection lives without another frame (its
 // last receive time, or its open time, plus its timeout), and the last sequence and CIP sequence, if there was any.
+// `any` and `anycip` stay beside their numbers, since the lent row holds a number there that an Option would lose: store_view has every byte back.
 #[derive(Clone, Copy)]
 pub struct Heard {
     pub until: u64,
@@ -61,19 +62,12 @@ pub struct Heard {
     pub cip: u16,
 }
 
-// When the next packet of a connection is due; one that joined another's stream does not produce.
-#[derive(Clone, Copy)]
-pub enum Due {
-    Never,
-    At(u64),
-}
-
-// What produce and hand-over alone change.
+// What produce and hand-over alone change; one that joined another's stream does not produce, and is never due.
 #[derive(Clone, Copy)]
 pub struct Sent {
     pub sequence: u32,
     pub cip: u16,
-    pub due: Due,
+    pub due: Option<u64>,
 }
 
 #[derive(Clone, Copy)]
@@ -116,8 +110,7 @@ pub struct Origin {
     pub peer: u32,
     pub local: u32,
     pub mask: u32,
-    pub given: bool,
-    pub socket: Socket,
+    pub socket: Option<Socket>,
     pub ioport: u16,
 }
 
@@ -149,10 +142,7 @@ pub enum Stop {
         ourminor: u8,
     },
     // 6.4: the last class, if any, is not 4; how many instances and points (4 for more); points that we do not have
-    ClassNotFour {
-        given: bool,
-        found: u32,
-    },
+    ClassNotFour(Option<u32>),
     NumberCount(usize),
     NoOutputPoint(u32),
     NoInputPoint(u32),
@@ -200,22 +190,21 @@ pub enum Stop {
     Full,
 }
 
-// The stream that an open joins: its T→O id, destination and RPI; or none, and it sends its own.
+// A stream that an open joins: its T→O id, destination and RPI.
 #[derive(Clone, Copy)]
-pub enum Stream {
-    Joins {
-        toid: ToId,
-        dest: Socket,
-        torpi: u32,
-    },
-    Own,
+pub struct Stream {
+    pub toid: ToId,
+    pub dest: Socket,
+    pub torpi: u32,
 }
 
-// Where an open's configuration data goes: into the assembly at a place of the setup's list, or there is none.
+// What the points of an open come to: the output counts for an owner only and is 0 for others.
 #[derive(Clone, Copy)]
-pub enum Stores {
-    Nothing,
-    Into(u8),
+pub struct Roles {
+    pub kind: Kind,
+    pub input: u8,
+    pub output: u8,
+    pub config: Option<u8>,
 }
 
 // What an open that passes every check comes to.
@@ -224,12 +213,21 @@ pub struct Plan {
     pub kind: Kind,
     pub input: u8,
     pub output: u8,
-    pub stores: Stores,
-    pub stream: Stream,
+    // the place in the setup's list of the assembly that takes the configuration data, if there is any
+    pub stores: Option<u8>,
+    // an open that joins none sends a stream of its own
+    pub stream: Option<Stream>,
 }
 
+// The reasons for no, but for a failed check of an open (chapter 2); that the lent state is of the wrong size or fails its test, No. 1, is said
+// where bytes are known.
 #[derive(Clone, Copy)]
-pub enum Verdict {
-    Stopped(Stop),
-    Planned(Plan),
+pub enum No {
+    BadSetup,
+    BadTime,
+    NotParsed,
+    NoAssembly,
+    TooLong,
+    NoRoom,
+    NothingThere,
 }

@@ -19,27 +19,20 @@ pub enum Fault {
     ObjectUnknown,
 }
 
-// The transfer before: its number, and the offset in the EDS at which it began; or there was none yet.
+// A transfer: its number, and the offset in the EDS at which it began.
 #[derive(Clone, Copy)]
-pub enum Last {
-    NoLast,
-    Was { number: u8, offset: u16 },
+pub struct Transfer {
+    pub number: u8,
+    pub offset: u16,
 }
 
-// An upload under way: the transfer size, the number and the offset of the next transfer, and the last one.
+// An upload under way: the transfer size, the number and the offset of the next transfer, and the last one, if there was one.
 #[derive(Clone, Copy)]
 pub struct Position {
     pub size: u8,
     pub next: u8,
     pub offset: u16,
-    pub last: Last,
-}
-
-// The upload of one session.
-#[derive(Clone, Copy)]
-pub enum Upload {
-    NoUpload,
-    Under(Position),
+    pub last: Option<Transfer>,
 }
 
 // What a transfer's number asks for: the last transfer again, which began at an offset; the next one; or neither.

@@ -1,9 +1,7 @@
 -- The table and the event list stay within their bounds: each kind of call keeps `Bounded`, and so every run does.
-use Rattle.std.specs.Prelude.{◌≡◌, List, [], ◌∷◌, Bool, ℕ, ◌≤◌, ◌<◌, ltb, length}
-use Rattle.std.proofs.Math.Option.{some}
+use Rattle.std.specs.Prelude.{◌≡◌, List, [], ◌∷◌, Bool, ℕ, ◌≤◌, ◌<◌, ltb, length, Some, Ok}
 use Rattle.std.proofs.Common.{arith, length-append, length-drop, ltb-true, ltb-false}
 use Rattle.std.proofs.lemmas.List.{length-map}
-use Rattle.rules.specs.declared.Verdict.TheVariants.{Planned}
 use Rattle.rules.specs.Lists.{find, without_first}
 use Rattle.rules_laws.specs.ListLaws
 use Rattle.rules_laws.specs.ListLaws.{by_cases}
@@ -40,7 +38,7 @@ read_bound : (es : Events) → length es.waiting ≤ 1024 → length (oldest_gon
 unfolding oldest_gone
 read_bound es h = simp length-drop (omega arith)
 
-room_left : (request : List ℕ) (q : ForwardOpen) (s : State) (p : Plan) → verdict_of request q s ≡ Planned p → length s.table < 32
+room_left : (request : List ℕ) (q : ForwardOpen) (s : State) (p : Plan) → verdict_of request q s ≡ Ok p → length s.table < 32
 unfolding verdict_of room_check
 room_left request q s p e =
     let x = CheckLaws.passed s.setup (fixeds s.table) q (asked_path request q) p e in
@@ -49,14 +47,14 @@ room_left request q s p e =
     let m = length-map s.table (λ c. c.fixed) in
     omega arith
 
-opening : (t : ℕ) (request : List ℕ) (q : ForwardOpen) (g : Origin) (p : Plan) (s : State) → verdict_of request q s ≡ Planned p → Bounded s →
+opening : (t : ℕ) (request : List ℕ) (q : ForwardOpen) (g : Origin) (p : Plan) (s : State) → verdict_of request q s ≡ Ok p → Bounded s →
     Bounded (opened t q g (config_bytes request q) p s)
 unfolding opened
 opening t request q g p s e h =
     let r = room_left request q s p e in
     record { connections = simp length-append (omega arith); events = pushed_all_bound _ s.events h.events }
 
-removing : (fault : Bool) (why : Info → Event) (p : Conn → Bool) (c : Conn) (s : State) → find p s.table ≡ some c → Bounded s →
+removing : (fault : Bool) (why : Info → Event) (p : Conn → Bool) (c : Conn) (s : State) → find p s.table ≡ Some c → Bounded s →
     Bounded (removed fault why c (without_first p s.table) s)
 unfolding removed
 removing fault why p c s e h =

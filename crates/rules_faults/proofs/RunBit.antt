@@ -1,9 +1,7 @@
 -- The run bit over every run: each kind of call keeps that what is in run is an output with an owner, and after an expiry call that owner
 -- is not silent.
-use Rattle.std.specs.Prelude.{◌≡◌, refl, List, [], ◌∷◌, ◌++◌, map, Bool, true, false, not, ◌&&◌, ◌||◌, ℕ, zero, suc, eqb, get_or}
+use Rattle.std.specs.Prelude.{◌≡◌, refl, List, [], ◌∷◌, ◌++◌, map, Bool, true, false, not, ◌&&◌, ◌||◌, ℕ, zero, suc, eqb, get_or, Option, Some, None}
 use Rattle.std.proofs.Common.{sym, ◌∙◌, ap, subst, eq-eqb}
-use Rattle.std.proofs.Math.Option.{some}
-use Rattle.rules.specs.declared.Stores.TheVariants.{Nothing, Into}
 use Rattle.rules.specs.Lists.{find, any, change_first, without_first, change_at, maybe}
 use Rattle.rules_laws.specs.ListLaws
 use Rattle.rules_laws.specs.ListLaws.{by_cases, clash, either_way, All, and_left, and_right, eqb_true}
@@ -22,7 +20,7 @@ use Rattle.rules_isolation.specs.Ends.{any_removal}
 use Rattle.rules_isolation.specs.Seen.{hear_fixed, send_fixed, taken_owner}
 use Rattle.rules_isolation.specs.Expiry.{owns_not}
 use Rattle.rules_isolation.specs.Sound.{Sound, sound_kept, fresh_sound, Owning}
-use Rattle.rules_steps.specs.Names.{ForwardOpen, Origin, Stores, Fixed, Conn, Info, Event, Plan}
+use Rattle.rules_steps.specs.Names.{ForwardOpen, Origin, Fixed, Conn, Info, Event, Plan}
 use Rattle.rules_steps.specs.Steps.{Kept}
 use Rattle.rules_steps.proofs.Steps.{kept, run_kept}
 use Rattle.rules_faults.specs.RunBit.{owner_of, InRun, Owned, at_change, none_silent}
@@ -37,10 +35,10 @@ more : (u : Setup) (l m : List Conn) → ((i : ℕ) → any (owner_of i) l ≡ t
 more u l m h i a k r = ((k r).0, h i (k r).1)
 
 -- OPEN
-stored_run : (u : Setup) (l : List Conn) (x : Stores) (bytes : List ℕ) (cs : List Content) → ((i : ℕ) → InRun u l i (get_or cs i no_content)) →
+stored_run : (u : Setup) (l : List Conn) (x : Option ℕ) (bytes : List ℕ) (cs : List Content) → ((i : ℕ) → InRun u l i (get_or cs i no_content)) →
     (i : ℕ) → InRun u l i (get_or (stored x bytes cs) i no_content)
-stored_run u l Nothing bytes cs h i = h i
-stored_run u l (Into j) bytes cs h i = at_change (InRun u l i) i j (holding bytes) cs (h i) (λ e. h i)
+stored_run u l None bytes cs h i = h i
+stored_run u l (Some j) bytes cs h i = at_change (InRun u l i) i j (holding bytes) cs (h i) (λ e. h i)
 
 opening : (t : ℕ) (request : List ℕ) (q : ForwardOpen) (g : Origin) (p : Plan) (s : State) → Owned s → Owned (opened t q g (config_bytes request q) p s)
 unfolding opened
@@ -51,7 +49,7 @@ opening t request q g p s h i =
     (get_or (stored p.stores bytes s.contents) i no_content) (stored_run s.setup s.table p.stores bytes s.contents h i)
 
 -- REMOVAL: an owner that is not the removed one is left
-owner_left : (i : ℕ) (p : Conn → Bool) (c : Conn) (l : List Conn) → find p l ≡ some c → owner_of i c ≡ false → any (owner_of i) l ≡ true →
+owner_left : (i : ℕ) (p : Conn → Bool) (c : Conn) (l : List Conn) → find p l ≡ Some c → owner_of i c ≡ false → any (owner_of i) l ≡ true →
     any (owner_of i) (after_removal c (without_first p l)) ≡ true
 owner_left i p c l e n y =
     let a = any_removal (owner_of i) (λ x s. refl) p c l e (ListLaws.all_from (λ x. is_listener x.fixed.kind ≡ true → owner_of i x ≡ false) (λ x z. owns_not i x z) l) in
@@ -70,7 +68,7 @@ lost_before i f l =
     either_way (λ x. (get_or x i no_content).run ≡ true → (get_or l i no_content).run ≡ true) (is_owner f.kind)
     (at_change (λ a. a.run ≡ true → (get_or l i no_content).run ≡ true) i f.output idle l (λ r. r) (λ e r. clash true refl (sym r))) (λ r. r)
 
-removing : (fault : Bool) (why : Info → Event) (p : Conn → Bool) (c : Conn) (s : State) → find p s.table ≡ some c → Owned s →
+removing : (fault : Bool) (why : Info → Event) (p : Conn → Bool) (c : Conn) (s : State) → find p s.table ≡ Some c → Owned s →
     Owned (removed fault why c (without_first p s.table) s)
 unfolding removed
 removing fault why p c s e h i r =

@@ -1,18 +1,15 @@
 -- Streams over every run: a removal, an open and a change of rows keep that every connection is fed, and so every call does.
-use Rattle.std.specs.Prelude.{◌≡◌, List, [], ◌∷◌, ◌++◌, map, Bool, cond, not, ◌&&◌, ◌||◌, ℕ}
+use Rattle.std.specs.Prelude.{◌≡◌, List, [], ◌∷◌, ◌++◌, map, Bool, cond, not, ◌&&◌, ◌||◌, ℕ, Option, Some, None, Ok}
 use Rattle.std.proofs.Math.Path.{refl, sym, ap}
 use Rattle.std.proofs.Common.{◌∙◌, ap₂, subst, eq-eqb}
-use Rattle.std.proofs.Math.Option.{Option, none, some}
 use Rattle.std.proofs.Math.Bool.{true, false}
 use Rattle.std.proofs.Math.Dec.{eqb, eqb_refl}
-use Rattle.rules.specs.declared.Stream.TheVariants.{Joins, Own}
-use Rattle.rules.specs.declared.Verdict.TheVariants.{Planned}
 use Rattle.rules.specs.Lists.{find, any, change_first, without_first}
 use Rattle.rules_laws.specs.ListLaws
 use Rattle.rules_laws.specs.ListLaws.{T_true, by_cases, clash, either_way, All, and_left, and_right}
 use Rattle.rules.specs.State.{Setup, State, with_sent, produces, fixeds, is_listener}
 use Rattle.rules.specs.Setup.{fresh}
-use Rattle.rules.specs.Checks.{Roles, asks_multicast, carries, stream_found, stream_of, joins, stream_check, roles_of, path_in, plan_of}
+use Rattle.rules.specs.Checks.{asks_multicast, carries, stream_found, stream_of, joins, stream_check, roles_of, path_in, plan_of}
 use Rattle.rules_laws.specs.CheckLaws
 use Rattle.rules.specs.Opening.{after_id, side_of, first_due, new_fixed, new_conn, opened, asked_path, verdict_of, config_bytes}
 use Rattle.rules.specs.Removal.{in_stream, feeds, hands_on, handed_over, ends_stream, without_listeners, after_removal, removed}
@@ -22,10 +19,11 @@ use Rattle.rules.specs.Host.{next_event_effect}
 use Rattle.rules.specs.Calls.{Call, run}
 use Rattle.rules_isolation.specs.Ends.{all_removal, to_id_is, in_stream_is}
 use Rattle.rules_isolation.specs.Seen.{hear_fixed, send_fixed}
-use Rattle.rules_steps.specs.Names.{ToId, Socket, ForwardOpen, Origin, Fixed, Due, Conn, Info, Event, Stream, Plan}
+use Rattle.rules_steps.specs.Names.{ToId, Socket, ForwardOpen, Origin, Fixed, Conn, Info, Event, Stream, Plan}
 use Rattle.rules_steps.specs.Steps.{Kept}
 use Rattle.rules_steps.proofs.Steps.{run_kept}
 use Rattle.rules_faults.specs.Streams.{source, Fed, AllFed}
+use Rattle.rules.specs.declared.Roles.{Roles}
 
 -- a connection is in one stream only
 one_stream : (j k : ToId) (y : Conn) → eqb j.0 k.0 ≡ false → in_stream j y ≡ true → in_stream k y ≡ false
@@ -79,7 +77,7 @@ module _ (c : Conn) (l : List Conn) where
       (ListLaws.any_keep f (λ x. not (in_stream k x)) (λ y i. ap not (one_stream j k y n (sub y i))) h) refl
 
 -- THE REMOVAL KEEPS IT
-module _ (p : Conn → Bool) (c : Conn) (l : List Conn) (e : find p l ≡ some c) where
+module _ (p : Conn → Bool) (c : Conn) (l : List Conn) (e : find p l ≡ Some c) where
   abbrev left_over : List Conn
   left_over = after_removal c (without_first p l)
 
@@ -168,7 +166,7 @@ record Admitted (q : ForwardOpen) (l : List Fixed) (p : Plan) : Type 0 where
   stream_is : p.stream ≡ stream_of q roles l
   stream_fits : not (is_listener roles.kind) || joins (stream_of q roles l) ≡ true
 
-admitted : (request : List ℕ) (q : ForwardOpen) (s : State) (p : Plan) → verdict_of request q s ≡ Planned p → Admitted q (fixeds s.table) p
+admitted : (request : List ℕ) (q : ForwardOpen) (s : State) (p : Plan) → verdict_of request q s ≡ Ok p → Admitted q (fixeds s.table) p
 unfolding verdict_of plan_of stream_check
 admitted request q s p e =
     let x = CheckLaws.passed s.setup (fixeds s.table) q (asked_path request q) p e in
@@ -176,12 +174,15 @@ admitted request q s p e =
     let f = CheckLaws.must_none (not (is_listener r.kind) || joins (stream_of q r (fixeds s.table))) _ x.0.stream in
     subst (Admitted q (fixeds s.table)) x.1 (record { roles = r; kind_is = refl; stream_is = refl; stream_fits = f })
 
+abbrev stream_record : Fixed → Stream
+stream_record f = record { toid = f.toid; dest = f.dest; torpi = f.torpi }
+
 -- a stream that is joined is a connection's
-joined_stream : {P : Type 0} (b : Bool) (x : Option Fixed) (toid : ToId) (dest : Socket) (torpi : ℕ) → cond b (stream_found x) Own ≡ Joins toid dest torpi →
-    ((f : Fixed) → b ≡ true → x ≡ some f → f.toid ≡ toid → P) → P
-joined_stream true (some f) toid dest torpi e k = k f refl refl (cc)
-joined_stream true none toid dest torpi e k = clash true refl (cc)
-joined_stream false x toid dest torpi e k = clash true refl (cc)
+joined_stream : {P : Type 0} (b : Bool) (x : Option Fixed) (y : Stream) → cond b (stream_found x) None ≡ Some y →
+    ((f : Fixed) → b ≡ true → x ≡ Some f → f.toid ≡ y.toid → P) → P
+joined_stream true (Some f) y e k = k f refl refl (let z : stream_record f ≡ y = cc in ap (λ (v : Stream). v.toid) z)
+joined_stream true None y e k = clash true refl (cc)
+joined_stream false x y e k = clash true refl (cc)
 
 -- the new connection: it joins a stream that is fed and sent, or sends its own
 module _ (now : ℕ) (q : ForwardOpen) (g : Origin) (l : List Conn) (n : ℕ) (p : Plan) (a : Admitted q (fixeds l) p) (fed : AllFed l) where
@@ -192,14 +193,14 @@ module _ (now : ℕ) (q : ForwardOpen) (g : Origin) (l : List Conn) (n : ℕ) (p
       let w = and_left (f.multicast && not (is_listener f.kind)) i (and_left (f.multicast && not (is_listener f.kind) && i) o y) in
       (and_left f.multicast (not (is_listener f.kind)) w, and_right f.multicast (not (is_listener f.kind)) w)
 
-  joined_fed : (f : Fixed) → find (carries q a.roles) (fixeds l) ≡ some f → any (feeds f.toid) l ≡ true
+  joined_fed : (f : Fixed) → find (carries q a.roles) (fixeds l) ≡ Some f → any (feeds f.toid) l ≡ true
   joined_fed f e =
       let c = carries_is f (ListLaws.find_passes (carries q a.roles) f (fixeds l) e) in
       let feeding : Fixed → Bool = λ x. x.multicast && eqb x.toid.0 f.toid.0 && not (is_listener x.kind) in
       sym (ListLaws.any_map (λ x. x.fixed) feeding (feeds f.toid) (λ x. refl) l) ∙
       ListLaws.find_any (carries q a.roles) feeding f (fixeds l) e (cc (c.0, c.1, T_true (eqb f.toid.0 f.toid.0) (eqb_refl f.toid.0)))
 
-  joined_sent : (f : Fixed) → find (carries q a.roles) (fixeds l) ≡ some f → any (source f.toid) l ≡ true
+  joined_sent : (f : Fixed) → find (carries q a.roles) (fixeds l) ≡ Some f → any (source f.toid) l ≡ true
   joined_sent f e =
       let c = carries_is f (ListLaws.find_passes (carries q a.roles) f (fixeds l) e) in
       ListLaws.all_find (λ x. x.multicast ≡ true → any (source x.toid) l ≡ true) (carries q a.roles) f (fixeds l) e
@@ -211,10 +212,10 @@ module _ (now : ℕ) (q : ForwardOpen) (g : Origin) (l : List Conn) (n : ℕ) (p
   last_one : (f : Conn → Bool) → f (new_conn now q g p n) ≡ true → any f (l ++ (new_conn now q g p n ∷ [])) ≡ true
   last_one f y = ListLaws.any_append f l (new_conn now q g p n ∷ []) ∙ by_cases (any f l) (λ z. rw z refl) (λ z. rw (z, y) refl)
 
-  new_fed : (x : Stream) → p.stream ≡ x → Fed (l ++ (new_conn now q g p n ∷ [])) (new_conn now q g p n)
+  new_fed : (x : Option Stream) → p.stream ≡ x → Fed (l ++ (new_conn now q g p n ∷ [])) (new_conn now q g p n)
   unfolding new_conn new_fixed side_of stream_of
-  new_fed Own e =
-      let own : stream_of q a.roles (fixeds l) ≡ Own = sym a.stream_is ∙ e in
+  new_fed None e =
+      let own : stream_of q a.roles (fixeds l) ≡ None = sym a.stream_is ∙ e in
       let w : joins (stream_of q a.roles (fixeds l)) ≡ false = ap joins own in
       let k : is_listener a.roles.kind ≡ false = by_cases (is_listener a.roles.kind) (λ z. clash true refl (cc a.stream_fits)) (λ z. z) in
       let quiet : is_listener p.kind ≡ false = ap is_listener a.kind_is ∙ k in
@@ -227,8 +228,8 @@ module _ (now : ℕ) (q : ForwardOpen) (g : Origin) (l : List Conn) (n : ℕ) (p
             (ap (λ b. b && eqb (new_conn now q g p n).fixed.toid.0 (new_conn now q g p n).fixed.toid.0 && produces (first_due now p.stream).due) y ∙
             ap (λ b. b && produces (first_due now p.stream).due) (T_true (eqb (new_conn now q g p n).fixed.toid.0 (new_conn now q g p n).fixed.toid.0) (eqb_refl (new_conn now q g p n).fixed.toid.0)) ∙ sends-it);
       }
-  new_fed (Joins toid dest torpi) e =
-      joined_stream (asks_multicast q) (find (carries q a.roles) (fixeds l)) toid dest torpi (sym a.stream_is ∙ e)
+  new_fed (Some y) e =
+      joined_stream (asks_multicast q) (find (carries q a.roles) (fixeds l)) y (sym a.stream_is ∙ e)
       (λ f m x t.
       let id : (new_conn now q g p n).fixed.toid ≡ f.toid = ap (λ x. (side_of q g (after_id n) x).toid) e ∙ sym t in
       record {
@@ -274,12 +275,12 @@ module _ (u : Conn → Conn) (same : (c : Conn) → (u c).fixed ≡ c.fixed) (sa
 abbrev FedState : State → Type 0
 FedState s = AllFed s.table
 
-opening : (t : ℕ) (request : List ℕ) (q : ForwardOpen) (g : Origin) (p : Plan) (s : State) → verdict_of request q s ≡ Planned p → FedState s →
+opening : (t : ℕ) (request : List ℕ) (q : ForwardOpen) (g : Origin) (p : Plan) (s : State) → verdict_of request q s ≡ Ok p → FedState s →
     FedState (opened t q g (config_bytes request q) p s)
 unfolding opened
 opening t request q g p s e a = open_fed t q g s.table s.next_id p (admitted request q s p e) a
 
-removing : (fault : Bool) (why : Info → Event) (p : Conn → Bool) (c : Conn) (s : State) → find p s.table ≡ some c → FedState s →
+removing : (fault : Bool) (why : Info → Event) (p : Conn → Bool) (c : Conn) (s : State) → find p s.table ≡ Some c → FedState s →
     FedState (removed fault why c (without_first p s.table) s)
 unfolding removed
 removing fault why p c s e a = removal_fed p c s.table e a
@@ -288,9 +289,9 @@ hear_sent : (now : ℕ) (f : Frame) (c : Conn) → produces (hear now f c).sent.
 unfolding hear
 hear_sent now f c = either_way (λ (x : Conn). produces x.sent.due ≡ produces c.sent.due) (newer c.heard f.sequence) refl refl
 
-still_produces : (t rpi : ℕ) (d : Due) → produces (next_due t rpi d) ≡ produces d
-still_produces t rpi Due.Never = refl
-still_produces t rpi (Due.At n) = refl
+still_produces : (t rpi : ℕ) (d : Option ℕ) → produces (next_due t rpi d) ≡ produces d
+still_produces t rpi None = refl
+still_produces t rpi (Some n) = refl
 
 sends_sent : (now : ℕ) (c : Conn) → produces (sends now c).sent.due ≡ produces c.sent.due
 unfolding sent

@@ -1,5 +1,6 @@
 -- No rewinding on examples: a point-to-point connection (serial number 3) whose T→O id is a live stream's is closed, or times out.
-use Rattle.std.specs.Prelude.{refl, List, [], ◌∷◌, ◌++◌, map, Bool, true, false, ℕ}
+use Rattle.std.specs.Prelude.{refl, List, [], ◌∷◌, ◌++◌, map, Bool, true, false, ℕ, Some}
+use Rattle.wire_rules.specs.declared.ConnectionPath.{ConnectionPath}
 use Rattle.base_cells.specs.Numbers.{le, le_of, le_bytes}
 use Rattle.base_cells.specs.BigEndian.{bytes_be}
 use Rattle.base_cells.specs.Records.{enc_fields}
@@ -21,7 +22,6 @@ use Rattle.rules.specs.Receiving.{newer, recorded, hear, taken, changes, deliver
 use Rattle.rules.specs.Producing.{sent, frame_sent, packet, packets, counters, produce_answer, produce_effect, produce_call}
 use Rattle.rules.specs.Host.{set_input_answer, set_input_effect, set_input_call, output_answer, output_effect, output_call, next_event_answer, next_event_effect, next_event_call}
 use Rattle.wire_rules.specs.Examples.{Example, ◌is◌, Hold}
-use Rattle.wire_rules.specs.declared.CloseAnswer.TheVariants.{Close}
 use Rattle.rules.specs.Answers.{answer_number, is_yes}
 use Rattle.rules.specs.Lists.{find, maybe}
 use Rattle.rules.specs.Removal.{expired}
@@ -42,7 +42,7 @@ look c = (c.fixed.toid.0, c.fixed.multicast, expired 50000 c)
 
 abbrev premises : List Example
 premises =
-    (close_of (ending 3) is Close third) ∷
+    (close_of (ending 3) is Some third) ∷
     (maybe true (λ c. c.fixed.multicast) (find (conn_triad third) beside.table) is false) ∷
     (is_yes (answer (Call.Close (ending 3) 10) beside) is true) ∷
     (map look beside.table is (6, true, false) ∷ (6, true, false) ∷ (6, false, true) ∷ []) ∷
@@ -50,7 +50,7 @@ premises =
 
 pub premises_met : Hold premises
 unfolding fresh setup_ok answer_number le le_of le_bytes bytes_be start_of step_at items_from items_of io_of io_frame port_at logical_at key_of key_at data_at seg_at
-    Segments.between Segments.step_at segs_from segs_of gather ConnectionPath.some last connection_path path_of params_at triad_at way_at place_at fields_of
+    Segments.between Segments.step_at segs_from segs_of gather ConnectionPath.some last ConnectionPath.final connection_path path_of params_at triad_at way_at place_at fields_of
     open_with width_of open_of close_of info_of info_record event_record oldest_gone appended pushed pushed_all open_reply triad_reply enc_fields must and_then
     transport_check path_check revision_ok key_stop key_check kind_of place_of points_check roles_of config_check rpi_check type_check ot_size_check to_size_check
     triad_check owner_check stream_of stream_check room_check plan_of verdict after_id point_dest group_dest side_of new_fixed new_heard new_conn opened verdict_of

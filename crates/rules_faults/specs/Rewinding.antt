@@ -1,10 +1,8 @@
 -- NO REWINDING: a close of a point-to-point connection, and an expiry call that finds only such, leave every other connection equal in
 -- every field.
-use Rattle.std.specs.Prelude.{◌≡◌, List, Bool, true, false, not, ℕ, length}
+use Rattle.std.specs.Prelude.{◌≡◌, List, Bool, true, false, not, ℕ, length, Some}
 use Rattle.std.proofs.Common.{sym, ◌∙◌, ap, subst, arith}
-use Rattle.std.proofs.Math.Option.{some}
 use Rattle.wire_rules.specs.Opens.{close_of}
-use Rattle.wire_rules.specs.declared.CloseAnswer.TheVariants.{Close}
 use Rattle.rules.specs.Lists.{find, keep, without_first}
 use Rattle.rules_laws.specs.ListLaws
 use Rattle.rules_laws.specs.ListLaws.{All}
@@ -31,8 +29,8 @@ unfolding removed
 no_rewinding fault why c rest s e = hands_on_none c rest e
 
 -- CLOSE: of the table it leaves out the connection that it finds, and changes nothing else of it
-pub close_rewinds_none : (request : List ℕ) (room : ℕ) (s : State) (k : Triad) (c : Conn) → close_of request ≡ Close k →
-    find (conn_triad k) s.table ≡ some c → c.fixed.multicast ≡ false → is_yes (answer (Calls.Close request room) s) ≡ true →
+pub close_rewinds_none : (request : List ℕ) (room : ℕ) (s : State) (k : Triad) (c : Conn) → close_of request ≡ Some k →
+    find (conn_triad k) s.table ≡ Some c → c.fixed.multicast ≡ false → is_yes (answer (Calls.Close request room) s) ≡ true →
     (next (Calls.Close request room) s).table ≡ without_first (conn_triad k) s.table
 unfolding close_call close_effect closed
 close_rewinds_none request room s k c q e m y = rw (y, q, e) (no_rewinding false _ c (without_first (conn_triad k) s.table) s m)

@@ -1,9 +1,8 @@
 -- DEMAND 3 PROVED. Two runs that differ in frames from one address look alike but for what that address sent: one call keeps it, and so
 -- does every pair of runs.
-use Rattle.std.specs.Prelude.{◌≡◌, List, [], ◌∷◌, map, Bool, true, false, not, ◌&&◌, ℕ, eqb, get_or}
+use Rattle.std.specs.Prelude.{◌≡◌, List, [], ◌∷◌, map, Bool, true, false, not, ◌&&◌, ℕ, eqb, get_or, Option, Some, None}
 use Rattle.std.proofs.Math.Path.{refl, ap, subst}
 use Rattle.std.proofs.Common.{sym, ◌∙◌, eq-eqb}
-use Rattle.std.proofs.Math.Option.{Option, none, some}
 use Rattle.rules.specs.Lists.{any, keep, maybe, joined}
 use Rattle.rules_laws.specs.ListLaws
 use Rattle.rules_laws.specs.ListLaws.{by_cases, clash, either_way, All, and_left, and_right, eqb_true}
@@ -56,18 +55,18 @@ module _ (A : ℕ) (o : ℕ → Bool) (u : Setup) (sparing : Sparing o u) where
   -- a read of an output: re-arming it is seen where the output is
   read_at : (s r : State) → Alike A o s r → (a b : Answer) → (x : Option ℕ) → (maybe true o x ≡ false → a ≡ b) →
       Alike A o (settled a (output_read s x) s).1 (settled b (output_read r x) r).1
-  read_at s r q a b none e = either_way (λ z. Alike A o z (settled b r r).1) (is_yes a) (either_way (Alike A o s) (is_yes b) q q) (either_way (Alike A o s) (is_yes b) q q)
-  read_at s r q a b (some i) e =
+  read_at s r q a b None e = either_way (λ z. Alike A o z (settled b r r).1) (is_yes a) (either_way (Alike A o s) (is_yes b) q q) (either_way (Alike A o s) (is_yes b) q q)
+  read_at s r q a b (Some i) e =
       by_cases (o i)
-      (λ y. let unseen : (z : State) → Alike A o (output_read z (some i)) z =
+      (λ y. let unseen : (z : State) → Alike A o (output_read z (Some i)) z =
       λ z. record { setup = refl; contents = change_unseen o i read z.contents y; table = refl; next_id = refl; counters = refl } in
       join (settled_unseen a (unseen s)) (join q (back (settled_unseen b (unseen r)))))
       (λ n. settled_alike a b (e n)
       (record { setup = q.setup; contents = change_alike o i read s.contents r.contents q.contents; table = q.table; next_id = q.next_id; counters = q.counters }) q)
 
   output_says : (room : ℕ) (s r : State) → Alike A o s r → (x : Option ℕ) → maybe true o x ≡ false → output_at room s x ≡ output_at room r x
-  output_says room s r q none e = refl
-  output_says room s r q (some i) e = ap (λ (a : Content). fitting room (output_bytes a) (Wrote (output_bytes a))) (content_alike o i s.contents r.contents q.contents e)
+  output_says room s r q None e = refl
+  output_says room s r q (Some i) e = ap (λ (a : Content). fitting room (output_bytes a) (Wrote (output_bytes a))) (content_alike o i s.contents r.contents q.contents e)
 
   read_call : (n room : ℕ) (s r : State) → Alike A o s r → Alike A o (next (Calls.ReadOutput n room) s) (next (Calls.ReadOutput n room) r)
   unfolding output_call output_answer output_effect

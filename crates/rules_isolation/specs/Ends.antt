@@ -1,7 +1,6 @@
 -- Removal repeated until none is left that passes a test, as a relation, and its laws.
-use Rattle.std.specs.Prelude.{◌≡◌, refl, List, [], ◌∷◌, map, Bool, true, false, not, ◌&&◌, ◌||◌, ℕ, zero, suc, ◌≤◌, eqb, length}
+use Rattle.std.specs.Prelude.{◌≡◌, refl, List, [], ◌∷◌, map, Bool, true, false, not, ◌&&◌, ◌||◌, ℕ, zero, suc, ◌≤◌, eqb, length, Option, Some, None}
 use Rattle.std.proofs.Common.{sym, ◌∙◌, ap, arith}
-use Rattle.std.proofs.Math.Option.{Option, none, some}
 use Rattle.rules.specs.Lists.{find, any, keep, without_first, repeat}
 use Rattle.rules_laws.specs.ListLaws
 use Rattle.rules_laws.specs.ListLaws.{by_cases, clash, either_way, of_cond, All, and_left, and_right, eqb_true}
@@ -10,8 +9,8 @@ use Rattle.rules_steps.specs.Names.{ToId, Fixed, Heard, Sent, Conn}
 use Rattle.rules.specs.Removal.{in_stream, feeds, hands_on, handed_over, ends_stream, without_listeners, after_removal, remove_first}
 
 pub data Ends (p : Conn → Bool) : List Conn → List Conn → Type 0 where
-  done : {l : List Conn} → find p l ≡ none → Ends p l l
-  step : {l r : List Conn} (c : Conn) → find p l ≡ some c → Ends p (remove_first p l) r → Ends p l r
+  done : {l : List Conn} → find p l ≡ None → Ends p l l
+  step : {l r : List Conn} (c : Conn) → find p l ≡ Some c → Ends p (remove_first p l) r → Ends p l r
 
 pub one_end : {p : Conn → Bool} {l r t : List Conn} → Ends p l r → Ends p l t → r ≡ t
 one_end (done e) (done f) = refl
@@ -52,7 +51,7 @@ stays_empty k {l = l} {r = r} d n =
 
 -- backwards: what is left, what went as the test says, and what went with its stream
 module _ (P : Conn → Type 0) (blind : Blind P) (p : Conn → Bool) (went : (c : Conn) → p c ≡ true → P c) where
-  pub back_removal : (c : Conn) (l : List Conn) → find p l ≡ some c →
+  pub back_removal : (c : Conn) (l : List Conn) → find p l ≡ Some c →
       ((x : Conn) → x.fixed.multicast ≡ true → any (in_stream x.fixed.toid) (remove_first p l) ≡ false → P x) →
       All P (remove_first p l) → All P l
   back_removal c l e orphan a =
@@ -126,7 +125,7 @@ module _ (κ : ToId → Bool) where
   removal_alone : (c : Conn) (l : List Conn) → c.fixed.multicast ≡ false → after_removal c l ≡ l
   removal_alone c l e = cc
 
-  module _ (p : Conn → Bool) (c : Conn) (l r : List Conn) (e : find p l ≡ some c) (before : Ends p (keep outside (remove_first p l)) (keep outside r)) where
+  module _ (p : Conn → Bool) (c : Conn) (l r : List Conn) (e : find p l ≡ Some c) (before : Ends p (keep outside (remove_first p l)) (keep outside r)) where
     step_in : outside c ≡ true → keep outside (after_removal c (without_first p l)) ≡ after_removal c (keep outside (without_first p l)) → Ends p (keep outside l) (keep outside r)
     step_in o h =
         let f = ListLaws.find_keep p outside c l e o in
@@ -151,13 +150,13 @@ module _ (κ : ToId → Bool) where
 
 -- another test that agrees on the table
 pub same_test : (p q : Conn → Bool) → Blind (λ c. p c ≡ q c) → {l r : List Conn} → Ends p l r → All (λ c. p c ≡ q c) l → Ends q l r
-same_test p q b (done {l = l} e) a = let n : find q l ≡ none = cc (ListLaws.find_same p q l a) in done n
+same_test p q b (done {l = l} e) a = let n : find q l ≡ None = cc (ListLaws.find_same p q l a) in done n
 same_test p q b (step {l = l} c e d) a =
     let f = ListLaws.find_same p q l a in
     let w = ListLaws.without_same p q l a in
     let same : remove_first p l ≡ remove_first q l = cc in
     let a₁ : All (λ c. p c ≡ q c) (remove_first p l) = rw e (all_removal (λ c. p c ≡ q c) b c (without_first p l) (ListLaws.all_without (λ c. p c ≡ q c) p l a)) in
-    let f₁ : find q l ≡ some c = cc in
+    let f₁ : find q l ≡ Some c = cc in
     step c f₁ (rw same at (same_test p q b d a₁))
 
 -- the same removals where something of what was heard is changed that the test does not see
@@ -183,17 +182,17 @@ module _ (w : Fixed → Heard → Heard) where
 
   module _ (q : Conn → Bool) (unseen : (c : Conn) → q (rehear c) ≡ q c) where
     remove_rehear_with : (l : List Conn) (o : Option Conn) → find q l ≡ o → map rehear (remove_first q l) ≡ remove_first q (map rehear l)
-    remove_rehear_with l none e = cc (ListLaws.find_map rehear q q unseen l)
-    remove_rehear_with l (some c) e =
+    remove_rehear_with l None e = cc (ListLaws.find_map rehear q q unseen l)
+    remove_rehear_with l (Some c) e =
         cc (ListLaws.find_map rehear q q unseen l, ListLaws.without_map rehear q q unseen l, removal_rehear c (without_first q l))
 
     pub remove_rehear : (l : List Conn) → map rehear (remove_first q l) ≡ remove_first q (map rehear l)
     remove_rehear l = remove_rehear_with l (find q l) refl
 
     pub ends_rehear : {l r : List Conn} → Ends q l r → Ends q (map rehear l) (map rehear r)
-    ends_rehear (done {l = l} e) = let n : find q (map rehear l) ≡ none = cc (ListLaws.find_map rehear q q unseen l) in done n
+    ends_rehear (done {l = l} e) = let n : find q (map rehear l) ≡ None = cc (ListLaws.find_map rehear q q unseen l) in done n
     ends_rehear (step {l = l} c e d) =
-        let f : find q (map rehear l) ≡ some (rehear c) = cc (ListLaws.find_map rehear q q unseen l) in
+        let f : find q (map rehear l) ≡ Some (rehear c) = cc (ListLaws.find_map rehear q q unseen l) in
         step (rehear c) f (rw (remove_rehear l) at (ends_rehear d))
 
 -- what no listener has is lost with the removed connection only
@@ -213,7 +212,7 @@ module _ (f : Conn → Bool) (blind : (c : Conn) (s : Sent) → f (with_sent s c
       (ListLaws.none_passes (feeds k) l (ListLaws.not_true (any (feeds k) l) (and_right (feeds k c) (not (any (feeds k) l)) e))) q)))
       (λ e. rw e refl)
 
-  pub any_removal : (p : Conn → Bool) (c : Conn) (l : List Conn) → find p l ≡ some c → All Mute l → any f l ≡ f c || any f (after_removal c (without_first p l))
+  pub any_removal : (p : Conn → Bool) (c : Conn) (l : List Conn) → find p l ≡ Some c → All Mute l → any f l ≡ f c || any f (after_removal c (without_first p l))
   any_removal p c l e q =
       let k = c.fixed.toid in
       let rest = without_first p l in
@@ -234,7 +233,7 @@ length_removal c l =
     either_way (λ t. length t ≤ length l) (ends_stream c (handed_over c l))
     (omega (arith, ListLaws.length_keep (λ x. not (in_stream c.fixed.toid x)) (handed_over c l))) h
 
-rests : (p : Conn → Bool) (n : ℕ) (l : List Conn) → find p l ≡ none → repeat n (remove_first p) l ≡ l
+rests : (p : Conn → Bool) (n : ℕ) (l : List Conn) → find p l ≡ None → repeat n (remove_first p) l ≡ l
 rests p zero l e = refl
 rests p (suc n) l e = let s : remove_first p l ≡ l = cc in rw s (rests p n l e)
 
@@ -243,11 +242,11 @@ empty [] h = refl
 empty (x ∷ xs) h = absurd (omega arith)
 
 pub reaches : (p : Conn → Bool) (n : ℕ) (l : List Conn) → length l ≤ n → Ends p l (repeat n (remove_first p) l)
-reaches p zero l h = let n : find p l ≡ none = cc (empty l h) in done n
+reaches p zero l h = let n : find p l ≡ None = cc (empty l h) in done n
 reaches p (suc n) l h = go (find p l) refl (reaches p n (remove_first p l))
   where
     go : (o : Option Conn) → find p l ≡ o → (length (remove_first p l) ≤ n → Ends p (remove_first p l) (repeat n (remove_first p) (remove_first p l))) →
         Ends p l (repeat n (remove_first p) (remove_first p l))
-    go none e r = let s : remove_first p l ≡ l = cc in rw (s, rests p n l e) (done e)
-    go (some c) e r =
+    go None e r = let s : remove_first p l ≡ l = cc in rw (s, rests p n l e) (done e)
+    go (Some c) e r =
         step c e (r (rw e (omega (arith, length_removal c (without_first p l), ListLaws.length_without p c l e))))

@@ -1,8 +1,7 @@
 -- Expiry on the whole state: its table is the repeated removal's, and the outputs that lose run are those of the expired owners.
-use Rattle.std.specs.Prelude.{◌≡◌, List, map, Bool, false, not, ◌&&◌, ◌||◌, eqb}
+use Rattle.std.specs.Prelude.{◌≡◌, List, map, Bool, false, not, ◌&&◌, ◌||◌, eqb, Option, Some, None}
 use Rattle.std.proofs.Math.Path.{refl, sym, ap, ap₂}
 use Rattle.std.proofs.Common.{◌∙◌, arith}
-use Rattle.std.proofs.Math.Option.{Option, none, some}
 use Rattle.std.proofs.Math.Bool.{true}
 use Prim.Native.Nat.{ℕ, zero, suc, ◌-◌, ◌≤◌}
 use Rattle.std.proofs.Math.ListN.{length}
@@ -35,8 +34,8 @@ module _ (now : ℕ) where
   gone_table : (s : State) (x : Option Conn) →
       (removed_if true TimedOut (expired now) s x).table ≡ maybe s.table (λ c. after_removal c (without_first (expired now) s.table)) x
   unfolding removed
-  gone_table s none = refl
-  gone_table s (some c) = refl
+  gone_table s None = refl
+  gone_table s (Some c) = refl
 
   pub expire_table : (n : ℕ) (s : State) → (repeat n (expired_first now) s).table ≡ repeat n (remove_first (expired now)) s.table
   unfolding expired_first
@@ -51,8 +50,8 @@ module _ (now : ℕ) where
 
   gone_left : (s : State) (x : Option Conn) → Left (removed_if true TimedOut (expired now) s x) s
   unfolding removed
-  gone_left s none = record { setup = refl; next_id = refl; counters = refl }
-  gone_left s (some c) = record { setup = refl; next_id = refl; counters = refl }
+  gone_left s None = record { setup = refl; next_id = refl; counters = refl }
+  gone_left s (Some c) = record { setup = refl; next_id = refl; counters = refl }
 
   pub expire_left : (n : ℕ) (s : State) → Left (repeat n (expired_first now) s) s
   unfolding expired_first
@@ -72,7 +71,7 @@ module _ (now : ℕ) where
   mute : (i : ℕ) (x : Conn) → is_listener x.fixed.kind ≡ true → ends_run i x ≡ false
   mute i x y = let n = owns_not i x y in by_cases (expired now x) (λ z. cc) (λ z. cc)
 
-  loses_step : (i : ℕ) (c : Conn) (l : List Conn) → find (expired now) l ≡ some c →
+  loses_step : (i : ℕ) (c : Conn) (l : List Conn) → find (expired now) l ≡ Some c →
       loses l i ≡ owns i c.fixed || loses (after_removal c (without_first (expired now) l)) i
   loses_step i c l e =
       let a =
@@ -81,10 +80,10 @@ module _ (now : ℕ) where
       let p = ListLaws.find_passes (expired now) c l e in
       a ∙ ap (λ b. b && owns i c.fixed || loses (after_removal c (without_first (expired now) l)) i) p
 
-  none_lost : (l : List Conn) → find (expired now) l ≡ none → (i : ℕ) → loses l i ≡ false
+  none_lost : (l : List Conn) → find (expired now) l ≡ None → (i : ℕ) → loses l i ≡ false
   none_lost l e i = ListLaws.none_is (ends_run i) l (ListLaws.all_to (λ c. expired now c ≡ false) (λ c. ends_run i c ≡ false) (λ c n. cc) l (ListLaws.none_found (expired now) l e))
 
-  stops : (n : ℕ) (s : State) → find (expired now) s.table ≡ none → repeat n (expired_first now) s ≡ s
+  stops : (n : ℕ) (s : State) → find (expired now) s.table ≡ None → repeat n (expired_first now) s ≡ s
   unfolding expired_first
   stops zero s e = refl
   stops (suc n) s e = let k : expired_first now s ≡ s = rw e in ap (repeat n (expired_first now)) k ∙ stops n s e
@@ -99,9 +98,9 @@ module _ (now : ℕ) where
       go : (x : Option Conn) → find (expired now) s.table ≡ x →
           ((t : State) → length t.table ≤ n → (repeat n (expired_first now) t).contents ≡ idle_by (loses t.table) t.contents) →
           (repeat n (expired_first now) (expired_first now s)).contents ≡ idle_by (loses s.table) s.contents
-      go none e ih = ap (λ (t : State). t.contents) (stops (suc n) s e) ∙ sym (idle_none (loses s.table) (none_lost s.table e) s.contents)
-      go (some c) e ih =
-          let t = removed_if true TimedOut (expired now) s (some c) in
+      go None e ih = ap (λ (t : State). t.contents) (stops (suc n) s e) ∙ sym (idle_none (loses s.table) (none_lost s.table e) s.contents)
+      go (Some c) e ih =
+          let t = removed_if true TimedOut (expired now) s (Some c) in
           let is : expired_first now s ≡ t = rw e in
           let rest = without_first (expired now) s.table in
           ap (λ x. (repeat n (expired_first now) x).contents) is ∙

@@ -1,18 +1,15 @@
 -- What can be seen of a state apart from one address: its connections without what they heard, the outputs that it may own without what
 -- they hold. Each call's lemma: states that look alike stay so, and answer alike.
-use Rattle.std.specs.Prelude.{◌≡◌, List, [], ◌∷◌, ◌++◌, map, Bool, cond, not, ◌&&◌, ℕ, eqb, leb, length}
+use Rattle.std.specs.Prelude.{◌≡◌, List, [], ◌∷◌, ◌++◌, map, Bool, cond, not, ◌&&◌, ℕ, eqb, leb, length, Option, Some, None, Result, Ok, Err}
+use Rattle.base_ids.specs.declared.Triad.{Triad}
+use Rattle.rules.specs.declared.Stop.{Stop}
 use Rattle.std.proofs.Math.Path.{refl, sym, ap, ap₂, subst}
 use Rattle.std.proofs.Common.{◌∙◌}
-use Rattle.std.proofs.Math.Option.{Option, none, some}
 use Rattle.std.proofs.Math.Bool.{true, false}
 use Rattle.std.proofs.lemmas.List.{length-map}
-use Rattle.wire_rules.specs.declared.OpenAnswer.TheVariants.{Open, NoOpen}
-use Rattle.wire_rules.specs.declared.CloseAnswer.TheVariants.{Close, NoClose}
 use Rattle.wire_rules.specs.Frames.{io_of}
 use Rattle.wire_rules.specs.Opens.{close_of}
 use Rattle.rules.specs.declared.AssemblyKind.TheVariants.{Input, Output, Config}
-use Rattle.rules.specs.declared.Stores.TheVariants.{Nothing, Into}
-use Rattle.rules.specs.declared.Verdict.TheVariants.{Stopped, Planned}
 use Rattle.rules.specs.declared.Event.TheVariants.{Closed}
 use Rattle.rules.specs.Lists.{find, any, keep, change_first, without_first, change_at, maybe, joined}
 use Rattle.rules_laws.specs.ListLaws
@@ -27,7 +24,7 @@ use Rattle.rules.specs.Receiving.{Frame, meant_for, newer, has_cip, repeats, rig
 use Rattle.rules.specs.Producing
 use Rattle.rules.specs.Producing.{due, late_by, delays, sent, sends, packet, packets, input_bytes, counters, produce_answer, produce_effect}
 use Rattle.rules.specs.Host.{filled, input_set, set_input_answer, set_input_effect, next_event_effect}
-use Rattle.rules_steps.specs.Names.{AssemblyKind, ForwardOpen, OpenAnswer, CloseAnswer, Origin, Fixed, Heard, Conn, Info, Event, Stores, Plan, Verdict}
+use Rattle.rules_steps.specs.Names.{AssemblyKind, ForwardOpen, Origin, Fixed, Heard, Conn, Info, Event, Plan}
 use Rattle.rules_isolation.specs.Ends.{rehear, removal_rehear}
 use Rattle.rules_isolation.specs.Contents.{cover, change_alike, change_unseen, content_alike, idles_alike, run_lost_lem}
 
@@ -142,9 +139,9 @@ module _ (A : ℕ) (o : ℕ → Bool) (s t : State) (r : Alike A o s t) where
   unfolding verdict_of
   verdict_alike request q = cc (r.setup, fixeds_alike A s.table t.table r.table)
 
-  stored_alike : (x : Stores) (bytes : List ℕ) → cover o (stored x bytes s.contents) ≡ cover o (stored x bytes t.contents)
-  stored_alike Nothing bytes = r.contents
-  stored_alike (Into i) bytes = change_alike o i _ s.contents t.contents r.contents
+  stored_alike : (x : Option ℕ) (bytes : List ℕ) → cover o (stored x bytes s.contents) ≡ cover o (stored x bytes t.contents)
+  stored_alike None bytes = r.contents
+  stored_alike (Some i) bytes = change_alike o i _ s.contents t.contents r.contents
 
   opened_alike : (now : ℕ) (q : ForwardOpen) (g : Origin) (bytes : List ℕ) (p : Plan) → Alike A o (opened now q g bytes p s) (opened now q g bytes p t)
   unfolding opened
@@ -159,17 +156,17 @@ module _ (A : ℕ) (o : ℕ → Bool) (s t : State) (r : Alike A o s t) where
         counters = r.counters;
       }
 
-  plan_alike : (now : ℕ) (q : ForwardOpen) (g : Origin) (bytes : List ℕ) (v : Verdict) → Alike A o (plan_effect now q g bytes s v) (plan_effect now q g bytes t v)
-  plan_alike now q g bytes (Stopped x) = r
-  plan_alike now q g bytes (Planned p) = opened_alike now q g bytes p
+  plan_alike : (now : ℕ) (q : ForwardOpen) (g : Origin) (bytes : List ℕ) (v : Result Plan Stop) → Alike A o (plan_effect now q g bytes s v) (plan_effect now q g bytes t v)
+  plan_alike now q g bytes (Err x) = r
+  plan_alike now q g bytes (Ok p) = opened_alike now q g bytes p
 
-  request_alike : (now : ℕ) (g : Origin) (request : List ℕ) (x : OpenAnswer) → Alike A o (asked_effect now g request s x) (asked_effect now g request t x)
-  request_alike now g request NoOpen = r
-  request_alike now g request (Open q) = rw (verdict_alike request q) (plan_alike now q g (config_bytes request q) (verdict_of request q t))
+  request_alike : (now : ℕ) (g : Origin) (request : List ℕ) (x : Option ForwardOpen) → Alike A o (asked_effect now g request s x) (asked_effect now g request t x)
+  request_alike now g request None = r
+  request_alike now g request (Some q) = rw (verdict_alike request q) (plan_alike now q g (config_bytes request q) (verdict_of request q t))
 
-  request_says_alike : (g : Origin) (request : List ℕ) (room : ℕ) (x : OpenAnswer) → asked_answer g request room s x ≡ asked_answer g request room t x
-  request_says_alike g request room NoOpen = refl
-  request_says_alike g request room (Open q) = ap₂ (λ n v. plan_answer q g n room v) r.next_id (verdict_alike request q)
+  request_says_alike : (g : Origin) (request : List ℕ) (room : ℕ) (x : Option ForwardOpen) → asked_answer g request room s x ≡ asked_answer g request room t x
+  request_says_alike g request room None = refl
+  request_says_alike g request room (Some q) = ap₂ (λ n v. plan_answer q g n room v) r.next_id (verdict_alike request q)
 
   pub open_says_alike : (now service : ℕ) (request : List ℕ) (g : Origin) (room : ℕ) → open_answer now service request g room s ≡ open_answer now service request g room t
   unfolding open_answer
@@ -180,9 +177,9 @@ module _ (A : ℕ) (o : ℕ → Bool) (s t : State) (r : Alike A o s t) where
   open_alike now service request g = request_alike now g request (open_asked service request)
 
   -- CLOSE
-  close_for_alike : (room : ℕ) (x : CloseAnswer) → close_for room s x ≡ close_for room t x
-  close_for_alike room NoClose = refl
-  close_for_alike room (Close d) =
+  close_for_alike : (room : ℕ) (x : Option Triad) → close_for room s x ≡ close_for room t x
+  close_for_alike room None = refl
+  close_for_alike room (Some d) =
       let e = blind_alike A (any (conn_triad d)) (λ l. ListLaws.any_map (hide A) (conn_triad d) (conn_triad d) (λ x. refl) l) s.table t.table r.table in
       rw e refl
 
@@ -193,10 +190,10 @@ module _ (A : ℕ) (o : ℕ → Bool) (s t : State) (r : Alike A o s t) where
   removed_alike : (fault : Bool) (why : Info → Event) (p : Conn → Bool) → ((c : Conn) → p (hide A c) ≡ p c) → (x y : Option Conn) →
       option_map (hide A) x ≡ option_map (hide A) y → Alike A o (removed_if fault why p s x) (removed_if fault why p t y)
   unfolding removed
-  removed_alike fault why p u none none e = r
-  removed_alike fault why p u none (some d) e = clash true refl (cc)
-  removed_alike fault why p u (some c) none e = clash true refl (cc)
-  removed_alike fault why p u (some c) (some d) e =
+  removed_alike fault why p u None None e = r
+  removed_alike fault why p u None (Some d) e = clash true refl (cc)
+  removed_alike fault why p u (Some c) None e = clash true refl (cc)
+  removed_alike fault why p u (Some c) (Some d) e =
       let h : hide A c ≡ hide A d = cc in
       record {
         setup = r.setup;
@@ -212,10 +209,10 @@ module _ (A : ℕ) (o : ℕ → Bool) (s t : State) (r : Alike A o s t) where
         counters = r.counters;
       }
 
-  close_by_alike : (x : CloseAnswer) → Alike A o (close_by s x) (close_by t x)
+  close_by_alike : (x : Option Triad) → Alike A o (close_by s x) (close_by t x)
   unfolding closed
-  close_by_alike NoClose = r
-  close_by_alike (Close d) =
+  close_by_alike None = r
+  close_by_alike (Some d) =
       removed_alike false Closed (conn_triad d) (λ c. refl) (find (conn_triad d) s.table) (find (conn_triad d) t.table)
       (sym (ListLaws.find_map (hide A) (conn_triad d) (conn_triad d) (λ c. refl) s.table) ∙
       ap (find (conn_triad d)) r.table ∙ ListLaws.find_map (hide A) (conn_triad d) (conn_triad d) (λ c. refl) t.table)
@@ -281,8 +278,8 @@ module _ (A : ℕ) (o : ℕ → Bool) (s t : State) (r : Alike A o s t) where
   set_input_says_alike n bytes = ap (set_input_answer n bytes) r.setup
 
   input_set_alike : (bytes : List ℕ) (x : Option ℕ) → Alike A o (input_set bytes s x) (input_set bytes t x)
-  input_set_alike bytes none = r
-  input_set_alike bytes (some i) =
+  input_set_alike bytes None = r
+  input_set_alike bytes (Some i) =
       with_alike _ _
       (change_alike o i (filled (shape_at s.setup i).size bytes) s.contents t.contents r.contents ∙
       ap (λ u. cover o (change_at i (filled (shape_at u i).size bytes) t.contents)) r.setup)
@@ -309,8 +306,8 @@ module _ (A : ℕ) (o : ℕ → Bool) (s t : State) (r : Alike A o s t) where
 
     delivered_alike : (x : Option Conn) →
         cover o (maybe s.contents (λ c. delivered s.setup f c s.contents) x) ≡ cover o (maybe t.contents (λ c. delivered t.setup f c t.contents) x)
-    delivered_alike none = r.contents
-    delivered_alike (some c) =
+    delivered_alike None = r.contents
+    delivered_alike (Some c) =
         ap (λ u. cover o (delivered u f c s.contents)) r.setup ∙
         by_cases (taken t.setup f c)
         (λ e. rw e (change_alike o c.fixed.output (deliver f) s.contents t.contents r.contents))
@@ -331,8 +328,8 @@ module _ (A : ℕ) (o : ℕ → Bool) (s t : State) (r : Alike A o s t) where
         }
 
   frame_alike : (now from : ℕ) → eqb from A ≡ false → (x : Option Frame) → Alike A o (maybe s (λ f. received now from f s) x) (maybe t (λ f. received now from f t) x)
-  frame_alike now from n none = r
-  frame_alike now from n (some f) = received_alike now from f n
+  frame_alike now from n None = r
+  frame_alike now from n (Some f) = received_alike now from f n
 
   pub receive_alike : (now from : ℕ) (bytes : List ℕ) → eqb from A ≡ false → Alike A o (receive_effect now from bytes s) (receive_effect now from bytes t)
   unfolding receive_effect
@@ -379,8 +376,8 @@ module _ (A : ℕ) (o : ℕ → Bool) (now from : ℕ) (that : eqb from A ≡ tr
         }
 
   frame_unseen : (x : Option Frame) → Alike A o (maybe s (λ f. received now from f s) x) s
-  frame_unseen none = itself A o s
-  frame_unseen (some f) = received_unseen f
+  frame_unseen None = itself A o s
+  frame_unseen (Some f) = received_unseen f
 
   pub receive_unseen : (bytes : List ℕ) → Alike A o (receive_effect now from bytes s) s
   unfolding receive_effect

@@ -1,9 +1,7 @@
 -- What every state that the calls reach has: its setup, no triad twice, inputs that are inputs and outputs that are outputs.
-use Rattle.std.specs.Prelude.{◌≡◌, refl, List, map, Bool, true, false, ℕ}
+use Rattle.std.specs.Prelude.{◌≡◌, refl, List, map, Bool, true, false, ℕ, Some, Ok}
 use Rattle.std.proofs.Common.{sym, ◌∙◌}
 use Rattle.std.proofs.Math.Path.{subst}
-use Rattle.std.proofs.Math.Option.{some}
-use Rattle.rules.specs.declared.Verdict.TheVariants.{Planned}
 use Rattle.rules.specs.Lists.{find, any, change_first, without_first}
 use Rattle.rules_laws.specs.ListLaws
 use Rattle.rules_laws.specs.ListLaws.{All}
@@ -55,7 +53,7 @@ pub record Accepted (s : State) (q : ForwardOpen) (p : Plan) : Type 0 where
   pub input : is_input (shape_at s.setup p.input).kind ≡ true
   pub output : is_owner p.kind ≡ true → is_output (shape_at s.setup p.output).kind ≡ true
 
-pub accepted : (request : List ℕ) (q : ForwardOpen) (s : State) (p : Plan) → verdict_of request q s ≡ Planned p → Accepted s q p
+pub accepted : (request : List ℕ) (q : ForwardOpen) (s : State) (p : Plan) → verdict_of request q s ≡ Ok p → Accepted s q p
 unfolding verdict_of plan_of
 accepted request q s p e =
     let x = CheckLaws.passed s.setup (fixeds s.table) q (asked_path request q) p e in
@@ -89,7 +87,7 @@ module _ (u : Setup) where
             (λ y. subst (λ v. is_output (shape_at v p.output).kind ≡ true) h.setup (a.output y));
       }
 
-  removing : (fault : Bool) (why : Info → Event) (p : Conn → Bool) (c : Conn) (s : State) → find p s.table ≡ some c → Sound u s →
+  removing : (fault : Bool) (why : Info → Event) (p : Conn → Bool) (c : Conn) (s : State) → find p s.table ≡ Some c → Sound u s →
       Sound u (removed fault why c (without_first p s.table) s)
   unfolding removed
   removing fault why p c s e h =

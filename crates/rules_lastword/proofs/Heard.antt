@@ -1,10 +1,8 @@
 -- HEARD MEANS HEARD: a connection lives until the time of the last frame in order from it, of its open before any, plus its timeout; told
 -- from the calls and their answers alone.
-use Rattle.std.specs.Prelude.{◌≡◌, List, [], ◌∷◌, true, false, ℕ, ◌+◌, ◌^◌, ◌<◌, eqb, ltb}
+use Rattle.std.specs.Prelude.{◌≡◌, List, [], ◌∷◌, true, false, ℕ, ◌+◌, ◌^◌, ◌<◌, eqb, ltb, Option, Some, None, Ok}
 use Rattle.std.proofs.Math.Path.{refl, subst}
 use Rattle.std.proofs.Common.{sym, ◌∙◌, ap}
-use Rattle.std.proofs.Math.Option.{Option, none, some}
-use Rattle.rules.specs.declared.Verdict.TheVariants.{Planned}
 use Rattle.rules.specs.Lists.{any, maybe}
 use Rattle.rules_laws.specs.ListLaws
 use Rattle.rules_laws.specs.ListLaws.{All}
@@ -33,7 +31,7 @@ module _ (u : Setup) (seed : ℕ) (small : seed < 2 ^ 32) where
     abbrev Stands : ℕ × Option Contact → State → Type 0
     Stands w s = Ground u seed w.0 s × (early w.0 ≡ true → Knows (has_triad k) w.1 s)
 
-    opening : (t : ℕ) (request : List ℕ) (q : ForwardOpen) (g : Origin) (p : Plan) (s : State) (w : Option Contact) → verdict_of request q s ≡ Planned p →
+    opening : (t : ℕ) (request : List ℕ) (q : ForwardOpen) (g : Origin) (p : Plan) (s : State) (w : Option Contact) → verdict_of request q s ≡ Ok p →
         any (λ c. eqb c.fixed.otid.0 s.next_id) s.table ≡ false → Knows (has_triad k) w s →
         Knows (has_triad k) ((contact_of (asks_as k)).on_open t request q g (acceptance q g p s.next_id) w) (opened t q g (config_bytes request q) p s)
     unfolding new_fixed
@@ -65,14 +63,14 @@ module _ (u : Setup) (seed : ℕ) (small : seed < 2 ^ 32) where
           hearing = λ t from f s w h. (ground.hearing t from f s w.0 h.0, (λ y. knows_hearing (has_triad k) (asks_as k) t from f s w.1 (h.1 y)));
         }
 
-    fresh_knows : Knows (has_triad k) none (fresh u seed)
+    fresh_knows : Knows (has_triad k) None (fresh u seed)
     unfolding fresh
     fresh_knows = record { apart = tt; known = tt }
 
     known : (cs : List Call) → early (history opens (log cs (fresh u seed)) 0) ≡ true → Knows (has_triad k) (contact u seed small k cs) (run cs (fresh u seed))
     known cs y =
-        let a = run_follows (both opens (contact_of (asks_as k))) Stands stands cs (fresh u seed) (0, none) (fresh_ground u seed small, (λ z. fresh_knows)) in
-        let e = both_history opens (contact_of (asks_as k)) (log cs (fresh u seed)) (0, none) in
+        let a = run_follows (both opens (contact_of (asks_as k))) Stands stands cs (fresh u seed) (0, None) (fresh_ground u seed small, (λ z. fresh_knows)) in
+        let e = both_history opens (contact_of (asks_as k)) (log cs (fresh u seed)) (0, None) in
         (subst (λ (w : ℕ × Option Contact). Stands w (run cs (fresh u seed))) e a).1 y
 
   spread : (R : Triad → Conn → Type 0) (l : List Conn) → ((k : Triad) → All (λ c. conn_triad k c ≡ true → R k c) l) → All (λ c. R (triad_of c) c) l
@@ -84,8 +82,8 @@ module _ (u : Setup) (seed : ℕ) (small : seed < 2 ^ 32) where
   all_known cs y = spread (λ k c. Known (contact u seed small k cs) c) (run cs (fresh u seed)).table (λ k. (known k cs y).known)
 
   until_told : (w : Option Contact) (c : Conn) → Known w c → c.heard.until ≡ maybe 0 (λ m. m.at) w + timeout c
-  until_told none c h = absurd h
-  until_told (some m) c h = h.until ∙ ap (λ n. m.at + n) (sym h.timeout)
+  until_told None c h = absurd h
+  until_told (Some m) c h = h.until ∙ ap (λ n. m.at + n) (sym h.timeout)
 
   -- HEARD MEANS HEARD
   pub heard_is_heard : (cs : List Call) → early (history opens (log cs (fresh u seed)) 0) ≡ true →

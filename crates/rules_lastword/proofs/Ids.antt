@@ -1,9 +1,7 @@
 -- Every step keeps the ground on which a history stands: an open draws one id or two, behind all of the table, and nothing else draws any.
-use Rattle.std.specs.Prelude.{◌≡◌, refl, List, false, ℕ, suc, ◌+◌, ◌*◌, ◌-◌, ◌%◌, ◌^◌, ◌≤◌, ◌<◌, eqb, leb}
+use Rattle.std.specs.Prelude.{◌≡◌, refl, List, false, ℕ, suc, ◌+◌, ◌*◌, ◌-◌, ◌%◌, ◌^◌, ◌≤◌, ◌<◌, eqb, leb, Ok, Some, None, Option}
 use Rattle.std.proofs.Common.{arith}
 use borrow.Author.Tests.{leb-true, leb-false, le-leb, lt-leb, ltb-true}
-use Rattle.rules.specs.declared.Verdict.TheVariants.{Planned}
-use Rattle.rules.specs.declared.Stream.TheVariants.{Joins, Own}
 use Rattle.rules.specs.Lists.{without_first}
 use Rattle.rules_laws.specs.ListLaws
 use Rattle.rules_laws.specs.ListLaws.{by_cases, either_way, eqb_true}
@@ -41,13 +39,13 @@ along_next first n h k =
     rw (y, a, lt-leb first (n + 1) (omega arith)) (omega arith)))
 
 -- an open draws one id or two
-one_or_two : (P : ℕ → Type 0) (q : ForwardOpen) (g : Origin) (n : ℕ) → P n → P (after_id n) → (x : Stream) → P (side_of q g n x).next
+one_or_two : (P : ℕ → Type 0) (q : ForwardOpen) (g : Origin) (n : ℕ) → P n → P (after_id n) → (x : Option Stream) → P (side_of q g n x).next
 unfolding side_of
-one_or_two P q g n a b (Joins toid dest torpi) = a
-one_or_two P q g n a b Own = either_way (λ (y : Side). P y.next) (asks_multicast q) b a
+one_or_two P q g n a b (Some x) = a
+one_or_two P q g n a b None = either_way (λ (y : Side). P y.next) (asks_multicast q) b a
 
 module _ (first : ℕ) (small : first < 2 ^ 32) where
-  drawn : (n d : ℕ) (q : ForwardOpen) (g : Origin) (x : Stream) → along first n ≤ first + 2 * d → suc d < few →
+  drawn : (n d : ℕ) (q : ForwardOpen) (g : Origin) (x : Option Stream) → along first n ≤ first + 2 * d → suc d < few →
       (along first (side_of q g (after_id n) x).next ≤ first + 2 * suc d) × (along first n < along first (side_of q g (after_id n) x).next)
   drawn n d q g x h k =
       let a = along_next first n small (omega arith) in
@@ -110,7 +108,7 @@ module _ (u : Setup) (seed : ℕ) (small : seed < 2 ^ 32) where
   ground_noting d s h =
       record { sound = (sound_kept u).quiet.noting s h.sound; ids = λ y. let n = h.ids y in record { upto = n.upto; ids = n.ids } }
 
-  ground_opening : (t : ℕ) (request : List ℕ) (q : ForwardOpen) (g : Origin) (p : Plan) (s : State) (d : ℕ) → verdict_of request q s ≡ Planned p → Ground u seed d s →
+  ground_opening : (t : ℕ) (request : List ℕ) (q : ForwardOpen) (g : Origin) (p : Plan) (s : State) (d : ℕ) → verdict_of request q s ≡ Ok p → Ground u seed d s →
       Ground u seed (suc d) (opened t q g (config_bytes request q) p s)
   ground_opening t request q g p s d e h =
       record {

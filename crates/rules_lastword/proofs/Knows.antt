@@ -1,9 +1,8 @@
 -- What the state tests of a connection is what the history tests of it; and an expiry and a frame keep it known.
-use Rattle.std.specs.Prelude.{◌≡◌, Bool, true, cond, not, ◌&&◌, ◌||◌, ℕ, ◌+◌, ◌-◌, ◌%◌, ◌^◌, leb, ltb, length}
+use Rattle.std.specs.Prelude.{◌≡◌, Bool, true, cond, not, ◌&&◌, ◌||◌, ℕ, ◌+◌, ◌-◌, ◌%◌, ◌^◌, leb, ltb, length, Option, Some, None}
 use Rattle.std.proofs.Math.Path.{refl, sym, ap, ap₂, subst}
 use Rattle.std.proofs.Common.{◌∙◌, eq-eqb}
 use mathlib.Core.List.{List, [], ◌∷◌}
-use Rattle.std.proofs.Math.Option.{Option, none, some}
 use Rattle.std.proofs.Math.Bool.{false}
 use Rattle.std.proofs.Math.Dec.{eqb}
 use Rattle.base_cells.specs.Numbers.{le}
@@ -47,7 +46,7 @@ pub silent_is : (m : Contact) (t : ℕ) (c : Conn) → Ear m c → expired t c �
 silent_is m t c h = ap (λ n. ltb n t) h.until ∙ sym (same_test m.timeout m.at t)
 
 -- ---- a frame that is recorded
-cip_told : (o b a : Bool) (x y : ℕ) (z : Option ℕ) → o ≡ true → optional a y ≡ z → optional (o && b || a) (cond (o && b) x y) ≡ cond b (some x) z
+cip_told : (o b a : Bool) (x y : ℕ) (z : Option ℕ) → o ≡ true → optional a y ≡ z → optional (o && b || a) (cond (o && b) x y) ≡ cond b (Some x) z
 cip_told true true a x y z k e = refl
 cip_told true false a x y z k e = e
 cip_told false b a x y z k e = clash true refl (sym k)
@@ -73,11 +72,11 @@ module _ (g : Fixed → Bool) where
   module _ (asks : List ℕ → ForwardOpen → Bool) where
     -- AN EXPIRY: a connection that was silent for too long is gone
     silent_known : (t : ℕ) (w : Option Contact) (l : List Conn) → All (λ c. expired t c ≡ false) l → All (Ears g w) l →
-        All (Ears g (maybe none (λ m. cond (silent t m) none (some m)) w)) l
-    silent_known t none l n a = a
-    silent_known t (some m) l n a =
+        All (Ears g (maybe None (λ m. cond (silent t m) None (Some m)) w)) l
+    silent_known t None l n a = a
+    silent_known t (Some m) l n a =
         by_cases (silent t m)
-        (λ y. rw y (ListLaws.all_two (λ c. expired t c ≡ false) (Ears g (some m)) (Ears g none) (λ c z h v. clash (expired t c) (silent_is m t c (h v) ∙ y) z) l n a))
+        (λ y. rw y (ListLaws.all_two (λ c. expired t c ≡ false) (Ears g (Some m)) (Ears g None) (λ c z h v. clash (expired t c) (silent_is m t c (h v) ∙ y) z) l n a))
         (λ y. rw y a)
 
     pub knows_expiring : (t : ℕ) (s : State) (w : Option Contact) → Knows g w s → Knows g ((contact_of asks).on_expire t w) (expire_effect t s)
@@ -118,14 +117,14 @@ module _ (g : Fixed → Bool) where
         clash (crowds g x.fixed y.fixed) yes n)
         (λ z. z)
 
-    heard_known : (t from : ℕ) (f : Frame) (m : Contact) (l : List Conn) → Apart (crowds g) l → All (Ears g (some m)) l →
-        All (Ears g (some (told t from f m))) (change_first (meant_for from f) (hear t f) l)
+    heard_known : (t from : ℕ) (f : Frame) (m : Contact) (l : List Conn) → Apart (crowds g) l → All (Ears g (Some m)) l →
+        All (Ears g (Some (told t from f m))) (change_first (meant_for from f) (hear t f) l)
     heard_known t from f m [] d a = tt
     heard_known t from f m (x ∷ xs) d a =
         by_cases (meant_for from f x)
         (λ e. rw e (
           (λ y. heard_one t from f m x e (a.0 (sym (ap g (hear_fixed t f x)) ∙ y))),
-          ListLaws.all_two (λ y. crowds g x.fixed y.fixed ≡ false) (Ears g (some m)) (Ears g (some (told t from f m)))
+          ListLaws.all_two (λ y. crowds g x.fixed y.fixed ≡ false) (Ears g (Some m)) (Ears g (Some (told t from f m)))
               (λ y n h v. subst (λ b. Ear b y) (sym (not_from t from f m (shadowed from f m x y e n v (h v)))) (h v)) xs
               (ListLaws.none_passes (λ y. crowds g x.fixed y.fixed) xs d.0) a.1,
         ))
@@ -136,8 +135,8 @@ module _ (g : Fixed → Bool) where
 
     heard_any : (t from : ℕ) (f : Frame) (w : Option Contact) (l : List Conn) → Apart (crowds g) l → All (Ears g w) l →
         All (Ears g ((contact_of asks).on_frame t from f w)) (change_first (meant_for from f) (hear t f) l)
-    heard_any t from f none l d a = ListLaws.all_change (Ears g none) (meant_for from f) (hear t f) (λ x h y. h (sym (ap g (hear_fixed t f x)) ∙ y)) l a
-    heard_any t from f (some m) l d a = heard_known t from f m l d a
+    heard_any t from f None l d a = ListLaws.all_change (Ears g None) (meant_for from f) (hear t f) (λ x h y. h (sym (ap g (hear_fixed t f x)) ∙ y)) l a
+    heard_any t from f (Some m) l d a = heard_known t from f m l d a
 
     pub knows_hearing : (t from : ℕ) (f : Frame) (s : State) (w : Option Contact) → Knows g w s → Knows g ((contact_of asks).on_frame t from f w) (received t from f s)
     unfolding received
@@ -150,8 +149,8 @@ module _ (g : Fixed → Bool) where
     -- whom a frame is for: the one that is known, exactly where the frame is from it
     pub found_is_met : (from : ℕ) (f : Frame) (w : Option Contact) (l : List Conn) → Apart (crowds g) l → All (Ears g w) l → is_some w ≡ any (passes g) l →
         maybe false (is_for from f) w ≡ maybe false (passes g) (find (meant_for from f) l)
-    found_is_met from f none [] d a e = refl
-    found_is_met from f (some m) [] d a e = clash true refl e
+    found_is_met from f None [] d a e = refl
+    found_is_met from f (Some m) [] d a e = clash true refl e
     found_is_met from f w (x ∷ xs) d a e =
         by_cases (meant_for from f x)
         (λ y. rw y (first w d.0 a.0 a.1 e y))
@@ -163,22 +162,22 @@ module _ (g : Fixed → Bool) where
         unmet l z = ListLaws.found_is false (passes g) (meant_for from f) (λ c. passes g c ≡ false) (λ b. b ≡ false) refl (λ c k h. h) l (ListLaws.none_passes (passes g) l z)
 
         other : (w : Option Contact) → Known w x → meant_for from f x ≡ false → maybe false (is_for from f) w ≡ false
-        other none h n = absurd h
-        other (some m) h n = sym (meant_is m from f x h) ∙ n
+        other None h n = absurd h
+        other (Some m) h n = sym (meant_is m from f x h) ∙ n
 
-        hidden : (m : Contact) → any (λ y. crowds g x.fixed y.fixed) xs ≡ false → All (Ears g (some m)) xs → meant_for from f x ≡ true → any (passes g) xs ≡ true → is_for from f m ≡ false
+        hidden : (m : Contact) → any (λ y. crowds g x.fixed y.fixed) xs ≡ false → All (Ears g (Some m)) xs → meant_for from f x ≡ true → any (passes g) xs ≡ true → is_for from f m ≡ false
         hidden m n a y z =
             by_cases (is_for from f m)
             (λ i. clash (any (passes g) xs) z (ListLaws.none_is (passes g) xs
-            (ListLaws.all_two (λ y. crowds g x.fixed y.fixed ≡ false) (Ears g (some m)) (λ y. passes g y ≡ false)
+            (ListLaws.all_two (λ y. crowds g x.fixed y.fixed ≡ false) (Ears g (Some m)) (λ y. passes g y ≡ false)
             (λ c k h. by_cases (passes g c) (λ v. clash (is_for from f m) i (shadowed from f m x c y k v (h v))) (λ v. v)) xs
             (ListLaws.none_passes (λ y. crowds g x.fixed y.fixed) xs n) a)))
             (λ i. i)
 
         first : (w : Option Contact) → any (λ y. crowds g x.fixed y.fixed) xs ≡ false → Ears g w x → All (Ears g w) xs → is_some w ≡ passes g x || any (passes g) xs →
             meant_for from f x ≡ true → maybe false (is_for from f) w ≡ passes g x
-        first none n h a e y = by_cases (passes g x) (λ v. clash true refl (sym (e ∙ ap (λ b. b || any (passes g) xs) v))) (λ v. sym v)
-        first (some m) n h a e y =
+        first None n h a e y = by_cases (passes g x) (λ v. clash true refl (sym (e ∙ ap (λ b. b || any (passes g) xs) v))) (λ v. sym v)
+        first (Some m) n h a e y =
             by_cases (passes g x)
             (λ v. sym (meant_is m from f x (h v)) ∙ y ∙ sym v)
             (λ v. hidden m n a y (sym (e ∙ ap (λ b. b || any (passes g) xs) v)) ∙ sym v)

@@ -1,17 +1,14 @@
 -- THE LANE OBEYS ITS LIVE OWNER'S LAST WORD: over every run, an output is in run exactly where it has a live owner and the last frame taken
 -- from that owner had bit 0 of its header set, and it holds that frame's data; told from the calls and their answers alone.
-use Rattle.std.specs.Prelude.{◌≡◌, Bool, true, cond, ◌&&◌, ◌||◌, ℕ, ◌^◌, ◌<◌, eqb, get_or, replicate}
+use Rattle.std.specs.Prelude.{◌≡◌, Bool, true, cond, ◌&&◌, ◌||◌, ℕ, ◌^◌, ◌<◌, eqb, get_or, replicate, Option, Some, None, Ok}
 use Rattle.std.proofs.Math.Path.{refl, sym, ap, subst}
 use Rattle.std.proofs.Common.{◌∙◌, ap₂, eq-eqb}
 use mathlib.Core.List.{List, [], ◌∷◌, ◌++◌, map}
-use Rattle.std.proofs.Math.Option.{Option, none, some}
 use Rattle.std.proofs.Math.Bool.{false}
 use Rattle.std.proofs.Math.ListN.{length, get_or-map}
 use Rattle.std.proofs.lemmas.List.{length-map}
 use Rattle.base_cells.specs.Records.{of_bool}
-use Rattle.rules.specs.declared.Stores.TheVariants.{Nothing, Into}
 use Rattle.rules.specs.declared.Event.TheVariants.{Closed}
-use Rattle.rules.specs.declared.Verdict.TheVariants.{Planned}
 use Rattle.rules.specs.Lists.{find, any, without_first, change_at, maybe, is_some}
 use Rattle.rules_laws.specs.ListLaws
 use Rattle.rules_laws.specs.ListLaws.{by_cases, clash, either_way, All, and_left, and_right, eqb_true}
@@ -32,7 +29,7 @@ use Rattle.rules_isolation.specs.Survive.{Distinct}
 use Rattle.rules_isolation.specs.Seen.{hear_fixed, send_fixed, taken_owner, input_no_output}
 use Rattle.rules_isolation.specs.Expiry.{owns_not}
 use Rattle.rules_faults.specs.RunBit.{owner_of, at_change}
-use Rattle.rules_steps.specs.Names.{Triad, ForwardOpen, Origin, Stores, Fixed, Conn, Plan}
+use Rattle.rules_steps.specs.Names.{Triad, ForwardOpen, Origin, Fixed, Conn, Plan}
 use Rattle.rules_steps.specs.Steps.{log, both, both_history, Removing, Follows, acceptance}
 use Rattle.rules_steps.proofs.Steps.{run_follows, expiry_keeps}
 use Rattle.rules_lastword.specs.Words.{Contact, met, is_for, counts, Word, asks_for, says_run, data_in, takes, word_of, no_word, holds, opens, early, contact_of}
@@ -47,7 +44,7 @@ use Rattle.rules_lastword.proofs.Outputs.{taken_is, as_said, not_taken}
 use Rattle.rules_lastword.specs.LastWord.{accepted, word, Obeys, word_bytes}
 
 -- ---- one output: of instance number n, at place i of the setup's list
-module _ (u : Setup) (n i : ℕ) (there : place_of is_output u n ≡ some i) where
+module _ (u : Setup) (n i : ℕ) (there : place_of is_output u n ≡ Some i) where
   abbrev size : ℕ
   size = (shape_at u i).size
 
@@ -100,7 +97,7 @@ module _ (u : Setup) (n i : ℕ) (there : place_of is_output u n ≡ some i) whe
   lost_bytes c l =
       either_way (λ (x : List Content). (here x).bytes ≡ (here l).bytes) (is_owner c.fixed.kind) (at_change (λ a. a.bytes ≡ (here l).bytes) i c.fixed.output idle l refl (λ e. refl)) refl
 
-  no_owner_left : (p : Conn → Bool) (c : Conn) (l : List Conn) → find p l ≡ some c → owner_of i c ≡ true → Apart (crowds (owns i)) l →
+  no_owner_left : (p : Conn → Bool) (c : Conn) (l : List Conn) → find p l ≡ Some c → owner_of i c ≡ true → Apart (crowds (owns i)) l →
       any (owner_of i) (after_removal c (without_first p l)) ≡ false
   no_owner_left p c l e y d =
       ListLaws.none_is (owner_of i) (after_removal c (without_first p l))
@@ -122,7 +119,7 @@ module _ (u : Setup) (n i : ℕ) (there : place_of is_output u n ≡ some i) whe
         },
       )
 
-  closing : (k : Triad) (c : Conn) (s : State) (w : Word) → Distinct s.table → find (conn_triad k) s.table ≡ some c → Agrees w s →
+  closing : (k : Triad) (c : Conn) (s : State) (w : Word) → Distinct s.table → find (conn_triad k) s.table ≡ Some c → Agrees w s →
       Agrees ((word_of u n size).on_close k w) (removed false Closed c (without_first (conn_triad k) s.table) s)
   unfolding removed
   closing k c s w d e h =
@@ -144,15 +141,15 @@ module _ (u : Setup) (n i : ℕ) (there : place_of is_output u n ≡ some i) whe
       }
 
   -- AN OPEN
-  stored_else : (x : Stores) (bytes : List ℕ) (l : List Content) → ((j : ℕ) → x ≡ Into j → is_config (shape_at u j).kind ≡ true) → here (stored x bytes l) ≡ here l
-  stored_else Nothing bytes l k = refl
-  stored_else (Into j) bytes l k = elsewhere j (holding bytes) l (config_no_output (shape_at u j).kind (k j refl))
+  stored_else : (x : Option ℕ) (bytes : List ℕ) (l : List Content) → ((j : ℕ) → x ≡ Some j → is_config (shape_at u j).kind ≡ true) → here (stored x bytes l) ≡ here l
+  stored_else None bytes l k = refl
+  stored_else (Some j) bytes l k = elsewhere j (holding bytes) l (config_no_output (shape_at u j).kind (k j refl))
 
-  stored_there : (x : Stores) (bytes : List ℕ) (l : List Content) → i < length l → i < length (stored x bytes l)
-  stored_there Nothing bytes l h = h
-  stored_there (Into j) bytes l h = still_there j (holding bytes) l h
+  stored_there : (x : Option ℕ) (bytes : List ℕ) (l : List Content) → i < length l → i < length (stored x bytes l)
+  stored_there None bytes l h = h
+  stored_there (Some j) bytes l h = still_there j (holding bytes) l h
 
-  opening : (t : ℕ) (request : List ℕ) (q : ForwardOpen) (g : Origin) (p : Plan) (s : State) (w : Word) → verdict_of request q s ≡ Planned p → s.setup ≡ u →
+  opening : (t : ℕ) (request : List ℕ) (q : ForwardOpen) (g : Origin) (p : Plan) (s : State) (w : Word) → verdict_of request q s ≡ Ok p → s.setup ≡ u →
       any (λ c. eqb c.fixed.otid.0 s.next_id) s.table ≡ false → Agrees w s →
       Agrees ((word_of u n size).on_open t request q g (acceptance q g p s.next_id) w) (opened t q g (config_bytes request q) p s)
   unfolding opened new_conn new_fixed
@@ -166,13 +163,13 @@ module _ (u : Setup) (n i : ℕ) (there : place_of is_output u n ≡ some i) whe
       let m = met t q g (acceptance q g p s.next_id) in
       record {
         knows = knows_opening (owns i) (asks_for u n) t request q g bytes p s w.owner a.asks a.lone new h.knows;
-        present = subst (λ o. is_some (cond o (some m) w.owner) ≡ any (owner_of i) (l ++ (c ∷ []))) a.asks
+        present = subst (λ o. is_some (cond o (Some m) w.owner) ≡ any (owner_of i) (l ++ (c ∷ []))) a.asks
             (opened_present w.owner m (any (owner_of i) l) (owner_of i c) h.present ∙ sym more);
         body = record {
           inside = stored_there p.stores bytes s.contents h.body.inside;
-          run = subst (λ o. (here (stored p.stores bytes s.contents)).run ≡ any (owner_of i) (l ++ (c ∷ [])) && maybe false says_run (cond o none w.said)) a.asks
+          run = subst (λ o. (here (stored p.stores bytes s.contents)).run ≡ any (owner_of i) (l ++ (c ∷ [])) && maybe false says_run (cond o None w.said)) a.asks
               (ap (λ (x : Content). x.run) k ∙ opened_run (here s.contents).run (any (owner_of i) l) (owner_of i c) w.said h.body.run a.lone ∙
-              ap (λ b. b && maybe false says_run (cond (owner_of i c) none w.said)) (sym more));
+              ap (λ b. b && maybe false says_run (cond (owner_of i c) None w.said)) (sym more));
           holds = ap (λ (x : Content). x.bytes) k ∙ h.body.holds;
         };
       }
@@ -182,8 +179,8 @@ module _ (u : Setup) (n i : ℕ) (there : place_of is_output u n ≡ some i) whe
   delivered_there f c l h = either_way (λ (x : List Content). i < length x) (taken u f c) (still_there c.fixed.output (deliver f) l h) h
 
   found_there : (f : Frame) (cs : List Content) → i < length cs → (x : Option Conn) → i < length (maybe cs (λ c. delivered u f c cs) x)
-  found_there f cs h none = h
-  found_there f cs h (some c) = delivered_there f c cs h
+  found_there f cs h None = h
+  found_there f cs h (Some c) = delivered_there f c cs h
 
   taken_there : (f : Frame) (c : Conn) (l : List Content) → i < length l → owner_of i c ≡ true → taken u f c ≡ true → here (delivered u f c l) ≡ deliver f (here l)
   taken_there f c l h y t =
@@ -202,12 +199,12 @@ module _ (u : Setup) (n i : ℕ) (there : place_of is_output u n ≡ some i) whe
 
   -- what it holds after a frame that counts, or does not
   abbrev Held : Frame → Word → List Conn → Content → Bool → Type 0
-  Held f w l a b = (a.run ≡ any (owner_of i) l && maybe false says_run (cond b (some f) w.said)) × (a.bytes ≡ maybe zeros data_in (cond b (some f) w.taken))
+  Held f w l a b = (a.run ≡ any (owner_of i) l && maybe false says_run (cond b (Some f) w.said)) × (a.bytes ≡ maybe zeros data_in (cond b (Some f) w.taken))
 
   owner_held : (from : ℕ) (f : Frame) (w : Word) (l : List Conn) (cs : List Content) (c : Conn) → i < length cs → any (owner_of i) l ≡ true → Held f w l (here cs) false →
       owner_of i c ≡ true → (o : Option Contact) → Known o c → meant_for from f c ≡ true → Held f w l (here (delivered u f c cs)) (maybe false (counts size from f) o)
-  owner_held from f w l cs c h some-owner before y none ear e = absurd ear
-  owner_held from f w l cs c h some-owner before y (some m) ear e =
+  owner_held from f w l cs c h some-owner before y None ear e = absurd ear
+  owner_held from f w l cs c h some-owner before y (Some m) ear e =
       let t = taken_is u i from f c m out ear y (sym (meant_is m from f c ear) ∙ e) in
       by_cases (counts size from f m)
       (λ k. let said = as_said f (here cs) in
@@ -218,16 +215,16 @@ module _ (u : Setup) (n i : ℕ) (there : place_of is_output u n ≡ some i) whe
   found_held : (from : ℕ) (f : Frame) (w : Word) (l : List Conn) (cs : List Content) → i < length cs → All (λ c. owns i c.fixed ≡ true → Known w.owner c) l →
       Held f w l (here cs) false → (x : Option Conn) → find (meant_for from f) l ≡ x → maybe false (is_for from f) w.owner ≡ maybe false (owner_of i) x →
       Held f w l (here (maybe cs (λ c. delivered u f c cs) x)) (takes size from f w)
-  found_held from f w l cs h known before none e m = subst (λ q. Held f w l (here cs) q) (sym (not_taken size from f w.owner m)) before
-  found_held from f w l cs h known before (some c) e m =
+  found_held from f w l cs h known before None e m = subst (λ q. Held f w l (here cs) q) (sym (not_taken size from f w.owner m)) before
+  found_held from f w l cs h known before (Some c) e m =
       by_cases (owner_of i c)
       (λ y. owner_held from f w l cs c h (ListLaws.find_any (meant_for from f) (owner_of i) c l e y) before y w.owner
       (ListLaws.all_find (λ c. owns i c.fixed ≡ true → Known w.owner c) (meant_for from f) c l e known y) (ListLaws.find_passes (meant_for from f) c l e))
       (λ y. subst (λ q. Held f w l (here (delivered u f c cs)) q) (sym (not_taken size from f w.owner (m ∙ y))) (subst (λ q. Held f w l q false) (sym (taken_else f c cs y)) before))
 
   heard_present : (t from : ℕ) (f : Frame) (o : Option Contact) → is_some ((contact_of (asks_for u n)).on_frame t from f o) ≡ is_some o
-  heard_present t from f none = refl
-  heard_present t from f (some m) = refl
+  heard_present t from f None = refl
+  heard_present t from f (Some m) = refl
 
   hearing : (t from : ℕ) (f : Frame) (s : State) (w : Word) → s.setup ≡ u → Agrees w s → Agrees ((word_of u n size).on_frame t from f w) (received t from f s)
   unfolding received
@@ -243,7 +240,7 @@ module _ (u : Setup) (n i : ℕ) (there : place_of is_output u n ≡ some i) whe
         present = heard_present t from f w.owner ∙ h.present ∙ sym same;
         body = record {
           inside = subst (λ v. i < length (maybe s.contents (λ c. delivered v f c s.contents) x)) (sym e) (found_there f s.contents h.body.inside x);
-          run = a.0 ∙ ap (λ b. b && maybe false says_run (cond (takes size from f w) (some f) w.said)) (sym same);
+          run = a.0 ∙ ap (λ b. b && maybe false says_run (cond (takes size from f w) (Some f) w.said)) (sym same);
           holds = a.1;
         };
       }
@@ -268,10 +265,10 @@ module _ (u : Setup) (n i : ℕ) (there : place_of is_output u n ≡ some i) whe
         body = record { inside = h.body.inside; run = h.body.run; holds = h.body.holds };
       }
 
-  setting : (w : Word) (m j : ℕ) (bytes : List ℕ) (s : State) → s.setup ≡ u → place_of is_input s.setup m ≡ some j → Agrees w s →
+  setting : (w : Word) (m j : ℕ) (bytes : List ℕ) (s : State) → s.setup ≡ u → place_of is_input s.setup m ≡ Some j → Agrees w s →
       Agrees w (with_contents (change_at j (filled (shape_at s.setup j).size bytes) s.contents) s)
   setting w m j bytes s v e h =
-      let input = (at_place is_input u m j (subst (λ v. place_of is_input v m ≡ some j) v e)).0 in
+      let input = (at_place is_input u m j (subst (λ v. place_of is_input v m ≡ Some j) v e)).0 in
       let k = elsewhere j (filled (shape_at s.setup j).size bytes) s.contents (input_no_output (shape_at u j).kind input) in
       record {
         knows = record { apart = h.knows.apart; known = h.knows.known };

@@ -1,8 +1,7 @@
 -- What a frame comes to for an output: which frames are taken, and what a taken frame leaves.
-use Rattle.std.specs.Prelude.{◌≡◌, refl, List, [], ◌∷◌, Bool, true, false, ◌&&◌, ℕ, ◌+◌, eqb, leb, ltb, length}
+use Rattle.std.specs.Prelude.{◌≡◌, refl, List, [], ◌∷◌, Bool, true, false, ◌&&◌, ℕ, ◌+◌, eqb, leb, ltb, length, Option, Some, None}
 use Rattle.std.proofs.Math.Path.{sym, subst}
 use Rattle.std.proofs.Common.{◌∙◌, ap, ap₂, arith, le-leb, lt-ltb}
-use Rattle.std.proofs.Math.Option.{Option, none, some}
 use Rattle.std.proofs.Math.Bool.{not}
 use Rattle.std.specs.Bool.{beq}
 use Rattle.base_cells.specs.Numbers.{le}
@@ -81,5 +80,5 @@ unfolding deliver
 as_said f a = by_cases (changes f a) (λ y. rw y (refl, refl)) (λ n. rw n (unchanged f a n))
 
 pub not_taken : (size from : ℕ) (f : Frame) (o : Option Contact) → maybe false (is_for from f) o ≡ false → maybe false (counts size from f) o ≡ false
-not_taken size from f none h = refl
-not_taken size from f (some m) h = ap (λ b. b && in_order m.last f && is_news m.cip f && fits size f) h
+not_taken size from f None h = refl
+not_taken size from f (Some m) h = ap (λ b. b && in_order m.last f && is_news m.cip f && fits size f) h

@@ -1,8 +1,7 @@
 -- Who is known is there, after an expiry too: where no listener passes the test, a connection leaves by its own silence.
-use Rattle.std.specs.Prelude.{◌≡◌, refl, List, Bool, true, false, cond, ◌||◌, ℕ, length}
+use Rattle.std.specs.Prelude.{◌≡◌, refl, List, Bool, true, false, cond, ◌||◌, ℕ, length, Option, Some, None}
 use Rattle.std.proofs.Math.Path.{sym, ap}
 use Rattle.std.proofs.Common.{◌∙◌, subst, arith}
-use Rattle.std.proofs.Math.Option.{Option, none, some}
 use Rattle.rules.specs.Lists.{any, without_first, maybe, is_some}
 use Rattle.rules_laws.specs.ListLaws
 use Rattle.rules_laws.specs.ListLaws.{by_cases, clash, All}
@@ -32,16 +31,16 @@ module _ (g : Fixed → Bool) (mute : (c : Conn) → is_listener c.fixed.kind �
       any_left g mute (expired t) c l e ∙ ap (λ z. z || any (passes g) (after_removal c rest)) other ∙ sym (ap (any (passes g)) is) ∙ any_ends t d b
 
   pub present_expiring : (t : ℕ) (s : State) (w : Option Contact) → All (λ c. g c.fixed ≡ true → Known w c) s.table →
-      let w' = maybe none (λ m. cond (silent t m) none (some m)) w in
+      let w' = maybe None (λ m. cond (silent t m) None (Some m)) w in
       All (λ c. g c.fixed ≡ true → Known w' c) (expire_effect t s).table → is_some w ≡ any (passes g) s.table →
       is_some w' ≡ any (passes g) (expire_effect t s).table
   unfolding expire_effect
-  present_expiring t s none a b h = sym (none_known g (expire_effect t s).table b)
-  present_expiring t s (some m) a b h =
+  present_expiring t s None a b h = sym (none_known g (expire_effect t s).table b)
+  present_expiring t s (Some m) a b h =
       by_cases (silent t m)
-      (λ y. ap (λ b. is_some (cond b none (some m))) y ∙ sym (none_known g (expire_effect t s).table (subst (λ b. All (Ears g (cond b none (some m))) (expire_effect t s).table) y b)))
+      (λ y. ap (λ b. is_some (cond b None (Some m))) y ∙ sym (none_known g (expire_effect t s).table (subst (λ b. All (Ears g (cond b None (Some m))) (expire_effect t s).table) y b)))
       (λ n. let heard : All (spared t) s.table =
-      ListLaws.all_to (Ears g (some m)) (spared t)
+      ListLaws.all_to (Ears g (Some m)) (spared t)
       (λ c k x. by_cases (passes g c) (λ v. clash (silent t m) (sym (silent_is m t c (k v)) ∙ x) n) (λ v. v)) s.table a in
-      ap (λ b. is_some (cond b none (some m))) n ∙ h ∙ any_ends t (reaches (expired t) (length s.table) s.table (omega arith)) heard ∙
+      ap (λ b. is_some (cond b None (Some m))) n ∙ h ∙ any_ends t (reaches (expired t) (length s.table) s.table (omega arith)) heard ∙
       sym (ap (any (passes g)) (expire_table t (length s.table) s)))

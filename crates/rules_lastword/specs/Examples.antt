@@ -1,6 +1,6 @@
 -- The history on examples: a day's word, and that each premise of the theorems is met.
-use Rattle.std.specs.Prelude.{refl, List, [], ◌∷◌, ◌++◌, map, true, false, ℕ, length}
-use Rattle.std.proofs.Math.Option.{Option, none, some}
+use Rattle.std.specs.Prelude.{refl, List, [], ◌∷◌, ◌++◌, map, true, false, ℕ, length, Option, Some, None}
+use Rattle.wire_rules.specs.declared.ConnectionPath.{ConnectionPath}
 use Rattle.base_cells.specs.Numbers.{le, le_of, le_bytes}
 use Rattle.base_cells.specs.BigEndian.{bytes_be}
 use Rattle.base_cells.specs.Records.{enc_fields}
@@ -55,7 +55,7 @@ abbrev triad : ℕ → Triad
 triad n = record { serial = n; vendor = 1; originator = 1 }
 
 abbrev whose : ℕ → List Call → List ℕ
-whose n cs = short (history (contact_of (asks_as (triad n))) (log cs start) none)
+whose n cs = short (history (contact_of (asks_as (triad n))) (log cs start) None)
 
 abbrev code : Event → ℕ
 code (Opened i) = 1
@@ -73,7 +73,7 @@ day =
     -- few opens
     (history Words.opens (log noon start) 0 is 2) ∷
     (early 2 is true) ∷
-    (place_of is_output setup 150 is some 0) ∷
+    (place_of is_output setup 150 is Some 0) ∷
     -- at noon the output obeys the frame of 2000; its owner is known by the reply's id, its address, its timeout and that time
     (short (word noon).owner is 5 ∷ 8 ∷ 40000 ∷ 2000 ∷ []) ∷
     (in_run (word noon) is true) ∷
@@ -121,7 +121,7 @@ day =
 
 pub day_holds : Hold day
 unfolding fresh setup_ok answer_number le le_of le_bytes bytes_be start_of step_at items_from items_of io_of io_frame port_at logical_at key_of key_at data_at seg_at
-    Segments.between Segments.step_at segs_from segs_of gather ConnectionPath.some last connection_path path_of params_at triad_at way_at place_at fields_of
+    Segments.between Segments.step_at segs_from segs_of gather ConnectionPath.some last ConnectionPath.final connection_path path_of params_at triad_at way_at place_at fields_of
     open_with width_of open_of close_of info_of info_record event_record oldest_gone appended pushed pushed_all open_reply triad_reply enc_fields must and_then
     transport_check path_check revision_ok key_stop key_check kind_of place_of points_check roles_of config_check rpi_check type_check ot_size_check to_size_check
     triad_check owner_check stream_of stream_check room_check plan_of verdict after_id point_dest group_dest side_of new_fixed new_heard new_conn opened verdict_of

@@ -1,6 +1,5 @@
 -- WHAT IS HEARD of a connection, told from the calls and their answers alone. That heard means heard stands in proofs/Heard.antt.
-use Rattle.std.specs.Prelude.{List, Bool, ℕ, ◌^◌, ◌<◌}
-use Rattle.std.proofs.Math.Option.{Option, none}
+use Rattle.std.specs.Prelude.{List, Bool, ℕ, ◌^◌, ◌<◌, Option, None}
 use Rattle.rules.specs.Lists.{maybe}
 use Rattle.rules.specs.State.{Setup, triad_is}
 use Rattle.rules.specs.Setup.{fresh}
@@ -16,7 +15,7 @@ asks_as k request q = triad_is k q.triad
 module _ (u : Setup) (seed : ℕ) (small : seed < 2 ^ 32) where
   -- what the calls and answers tell of the connection last opened under a triad
   abbrev pub contact : Triad → List Call → Option Contact
-  contact k cs = history (contact_of (asks_as k)) (log cs (fresh u seed)) none
+  contact k cs = history (contact_of (asks_as k)) (log cs (fresh u seed)) None
 
   -- when it was heard last
   abbrev pub heard_at : Triad → List Call → ℕ

@@ -1,11 +1,10 @@
 -- WHAT THE STATE KEEPS of a connection is what the history knows of it: for the one connection that passes a test of its fixed part (an
 -- output's owner, a triad's), each step keeps that so.
 -- What the state tests, a frame and an expiry stand in proofs/Knows.antt.
-use Rattle.std.specs.Prelude.{◌≡◌, Bool, true, cond, ◌&&◌, ◌||◌, ℕ, ◌+◌}
+use Rattle.std.specs.Prelude.{◌≡◌, Bool, true, cond, ◌&&◌, ◌||◌, ℕ, ◌+◌, Option, Some, None}
 use Rattle.std.proofs.Math.Path.{refl, sym, ap, ap₂, subst}
 use Rattle.std.proofs.Common.{◌∙◌}
 use mathlib.Core.List.{List, [], ◌∷◌}
-use Rattle.std.proofs.Math.Option.{Option, none, some}
 use Rattle.std.proofs.Math.Bool.{false}
 use Rattle.std.proofs.Math.Dec.{eqb}
 use Rattle.base_cells.specs.Numbers.{le}
@@ -38,7 +37,7 @@ and_no true = refl
 and_no false = refl
 
 abbrev pub optional : Bool → ℕ → Option ℕ
-optional b n = cond b (some n) none
+optional b n = cond b (Some n) None
 
 -- a connection of the table is as known; of one that does not own, the CIP sequence is not kept
 pub record Ear (m : Contact) (c : Conn) : Type 0 where
@@ -51,12 +50,12 @@ pub record Ear (m : Contact) (c : Conn) : Type 0 where
   pub cip : is_owner c.fixed.kind ≡ true → optional c.heard.anycip c.heard.cip ≡ m.cip
 
 abbrev pub Known : Option Contact → Conn → Type 0
-Known none c = ⊥
-Known (some m) c = Ear m c
+Known None c = ⊥
+Known (Some m) c = Ear m c
 
 known_sent : (w : Option Contact) (c : Conn) (x : Sent) → Known w c → Known w (with_sent x c)
-known_sent none c x h = h
-known_sent (some m) c x h =
+known_sent None c x h = h
+known_sent (Some m) c x h =
     record { triad = h.triad; id = h.id; sender = h.sender; timeout = h.timeout; until = h.until; last = h.last; cip = h.cip }
 
 -- ---- the O→T id stands in the reply
@@ -96,8 +95,8 @@ module _ (g : Fixed → Bool) where
   vacuous : (w : Option Contact) (l : List Conn) → any passes l ≡ false → All (Ears w) l
   vacuous w l n = ListLaws.all_to (λ c. passes c ≡ false) (Ears w) (λ c z y. clash (passes c) y z) l (ListLaws.none_passes passes l n)
 
-  pub none_known : (l : List Conn) → All (λ c. g c.fixed ≡ true → Known none c) l → any passes l ≡ false
-  none_known l a = ListLaws.none_is passes l (ListLaws.all_to (Ears none) (λ c. passes c ≡ false) (λ c h. by_cases (passes c) (λ y. absurd (h y)) (λ n. n)) l a)
+  pub none_known : (l : List Conn) → All (λ c. g c.fixed ≡ true → Known None c) l → any passes l ≡ false
+  none_known l a = ListLaws.none_is passes l (ListLaws.all_to (Ears None) (λ c. passes c ≡ false) (λ c h. by_cases (passes c) (λ y. absurd (h y)) (λ n. n)) l a)
 
   -- of two that pass none stands apart
   pub sole : (x : Conn) (xs : List Conn) → any (λ y. crowds x.fixed y.fixed) xs ≡ false → passes x ≡ true → any passes xs ≡ false
@@ -109,12 +108,12 @@ module _ (g : Fixed → Bool) where
       (λ z. z)) xs (ListLaws.none_passes (λ y. crowds x.fixed y.fixed) xs n))
 
   -- once it is gone none passes
-  pub gone : (p : Conn → Bool) (c : Conn) (l : List Conn) → find p l ≡ some c → passes c ≡ true → Apart crowds l → any passes (without_first p l) ≡ false
+  pub gone : (p : Conn → Bool) (c : Conn) (l : List Conn) → find p l ≡ Some c → passes c ≡ true → Apart crowds l → any passes (without_first p l) ≡ false
   gone p c [] e y d = refl
   gone p c (x ∷ xs) e y d =
       by_cases (p x)
-      (λ k. let s : some x ≡ some c = rw k at e in let z : x ≡ c = cc in rw k (sole x xs d.0 (ap passes z ∙ y)))
-      (λ k. let f : find p xs ≡ some c = rw k at e in
+      (λ k. let s : Some x ≡ Some c = rw k at e in let z : x ≡ c = cc in rw k (sole x xs d.0 (ap passes z ∙ y)))
+      (λ k. let f : find p xs ≡ Some c = rw k at e in
       let n : passes x ≡ false = by_cases (passes x) (λ z. clash (any passes xs) (ListLaws.find_any p passes c xs f y) (sole x xs d.0 z)) (λ z. z) in
       rw (k, n) (gone p c xs f y d.1))
 
@@ -129,11 +128,11 @@ module _ (g : Fixed → Bool) where
 
   -- A CLOSE: of its own connection nothing is known any more
   closed_known : (k : Triad) (w : Option Contact) (l : List Conn) → any (conn_triad k) l ≡ false → All (Ears w) l →
-      All (Ears (maybe none (λ m. cond (triad_is k m.triad) none (some m)) w)) l
-  closed_known k none l n a = a
-  closed_known k (some m) l n a =
+      All (Ears (maybe None (λ m. cond (triad_is k m.triad) None (Some m)) w)) l
+  closed_known k None l n a = a
+  closed_known k (Some m) l n a =
       by_cases (triad_is k m.triad)
-      (λ y. rw y (ListLaws.all_two (λ c. conn_triad k c ≡ false) (Ears (some m)) (Ears none)
+      (λ y. rw y (ListLaws.all_two (λ c. conn_triad k c ≡ false) (Ears (Some m)) (Ears None)
       (λ c z h v. clash (conn_triad k c) (ap (triad_is k) (h v).triad ∙ y) z) l (ListLaws.none_passes (conn_triad k) l n) a))
       (λ y. rw y a)
 
@@ -143,7 +142,7 @@ module _ (g : Fixed → Bool) where
       (all_removal (λ x. conn_triad k x ≡ false) (λ x z h. h) c (without_first (conn_triad k) l) (ListLaws.none_passes (conn_triad k) (without_first (conn_triad k) l) (gone_triad k l d)))
 
   module _ (asks : List ℕ → ForwardOpen → Bool) where
-    pub knows_closing : (k : Triad) (c : Conn) (s : State) (w : Option Contact) → Distinct s.table → find (conn_triad k) s.table ≡ some c → Knows w s →
+    pub knows_closing : (k : Triad) (c : Conn) (s : State) (w : Option Contact) → Distinct s.table → find (conn_triad k) s.table ≡ Some c → Knows w s →
         Knows ((contact_of asks).on_close k w) (removed false Closed c (without_first (conn_triad k) s.table) s)
     unfolding removed
     knows_closing k c s w d e h =
@@ -165,13 +164,13 @@ module _ (g : Fixed → Bool) where
         let l = s.table in
         by_cases (passes c)
         (λ y. let a = lone y in
-        let now = some (met t q o (acceptance q o p s.next_id)) in
+        let now = Some (met t q o (acceptance q o p s.next_id)) in
         subst (λ b. Knows (cond b now w) (opened t q o bytes p s)) (sym (sym same ∙ y))
         (record {
           apart = apart_append crowds c l (alone c l a new) h.apart;
           known = ListLaws.all_append (Ears now) l c (vacuous now l a) (λ z. new_ear t q o p s.next_id);
         }))
-        (λ n. subst (λ b. Knows (cond b (some (met t q o (acceptance q o p s.next_id))) w) (opened t q o bytes p s)) (sym (sym same ∙ n))
+        (λ n. subst (λ b. Knows (cond b (Some (met t q o (acceptance q o p s.next_id))) w) (opened t q o bytes p s)) (sym (sym same ∙ n))
         (record {
           apart = apart_append crowds c l (ListLaws.none_is (λ x. crowds x.fixed c.fixed) l (ListLaws.all_from (λ x. crowds x.fixed c.fixed ≡ false) (λ x. ap (λ b. b && (passes x || same_id x.fixed c.fixed)) n) l)) h.apart;
           known = ListLaws.all_append (Ears w) l c h.known (λ z. clash (passes c) z n);

@@ -1,8 +1,7 @@
 -- WHAT AN OUTPUT'S LAST WORD IS, told from the calls and their answers alone, and what it is that a lane obeys it. That every lane does
 -- stands in proofs/LastWord.antt.
-use Rattle.std.specs.Prelude.{◌≡◌, ℕ, ◌^◌, ◌<◌, replicate}
+use Rattle.std.specs.Prelude.{◌≡◌, ℕ, ◌^◌, ◌<◌, replicate, Some}
 use mathlib.Core.List.{List, ◌∷◌}
-use Rattle.std.proofs.Math.Option.{some}
 use Rattle.base_cells.specs.Records.{of_bool}
 use Rattle.rules.specs.Lists.{any, is_some}
 use Rattle.rules.specs.State.{Setup, shape_at, content_at, State, is_output}
@@ -14,7 +13,7 @@ use Rattle.rules_steps.specs.Steps.{log, history}
 use Rattle.rules_lastword.specs.Words.{Word, word_of, no_word, in_run, holds, opens}
 
 -- ---- one output: of instance number n, at place i of the setup's list
-module _ (u : Setup) (n i : ℕ) (there : place_of is_output u n ≡ some i) where
+module _ (u : Setup) (n i : ℕ) (there : place_of is_output u n ≡ Some i) where
   module _ (seed : ℕ) (small : seed < 2 ^ 32) where
     -- what the calls and answers of a run tell: how many opens were accepted, and the output's word
     abbrev pub accepted : List Call → ℕ

@@ -1,19 +1,16 @@
 -- What an accepted open comes to for an output: which open asks for it; and small laws of words. Which frames are taken stands in
 -- proofs/Outputs.antt.
-use Rattle.std.specs.Prelude.{◌≡◌, refl, List, [], ◌∷◌, Bool, true, false, cond, ◌&&◌, ◌||◌, ℕ, zero, suc, ◌<◌, eqb, ltb, length, get_or}
+use Rattle.std.specs.Prelude.{◌≡◌, refl, List, [], ◌∷◌, Bool, true, false, cond, ◌&&◌, ◌||◌, ℕ, zero, suc, ◌<◌, eqb, ltb, length, get_or, Option, Some, None, Ok}
 use Rattle.std.proofs.Math.Path.{sym, subst}
 use Rattle.std.proofs.Common.{◌∙◌, ap, arith, eq-eqb, ltb-true, ltb-false}
-use Rattle.std.proofs.Math.Option.{Option, none, some}
 use Rattle.std.proofs.Math.Bool.{not}
 use Rattle.std.proofs.Math.ListN.{get_or-eq_default}
 use Rattle.rules.specs.declared.AssemblyKind.TheVariants.{Input, Output, Config}
-use Rattle.rules.specs.declared.Verdict.TheVariants.{Planned}
-use Rattle.rules.specs.declared.Stores.TheVariants.{Nothing, Into}
 use Rattle.rules.specs.Lists.{any, change_at, maybe, is_some}
 use Rattle.rules_laws.specs.ListLaws
 use Rattle.rules_laws.specs.ListLaws.{by_cases, clash, and_left, and_right, eqb_true, not_true}
 use Rattle.rules.specs.State.{Setup, Shape, no_shape, shape_at, Content, no_content, State, fixeds, is_output, is_config, is_owner}
-use Rattle.rules.specs.Checks.{owns, is_at, place_of, place_or0, kind_of, ot_point, points_check, plan_of, roles_of, owner_check, stores_into, path_in, has_config, config_point, verdict}
+use Rattle.rules.specs.Checks.{owns, is_at, place_of, place_or0, kind_of, ot_point, points_check, plan_of, roles_of, owner_check, path_in, has_config, config_point, verdict}
 use Rattle.rules_laws.specs.CheckLaws
 use Rattle.rules.specs.Opening.{asked_path, verdict_of}
 use Rattle.rules.specs.Receiving.{Frame}
@@ -22,7 +19,7 @@ use Rattle.rules_steps.specs.Names.{AssemblyKind, ConnectionPath, ForwardOpen, C
 use Rattle.rules_lastword.specs.Words.{Contact, asks_for, says_run}
 
 -- ---- PLACES
-pub at_place : (is : AssemblyKind → Bool) (u : Setup) (m j : ℕ) → place_of is u m ≡ some j → (is (shape_at u j).kind ≡ true) × ((shape_at u j).instance ≡ m)
+pub at_place : (is : AssemblyKind → Bool) (u : Setup) (m j : ℕ) → place_of is u m ≡ Some j → (is (shape_at u j).kind ≡ true) × ((shape_at u j).instance ≡ m)
 unfolding place_of
 at_place is u m j e =
     let a : is_at is m (shape_at u j) ≡ true =
@@ -42,14 +39,14 @@ kind_owner u point =
     by_cases (eqb point u.input_only) (λ y. rw y refl) (λ n. by_cases (eqb point u.listen_only) (λ y. rw (n, y) refl) (λ z. rw (n, z) refl))
 
 -- the place that a point comes to is the output's exactly where the point is its number
-place_is_number : (u : Setup) (n i point : ℕ) → place_of is_output u n ≡ some i → (x : Option ℕ) → place_of is_output u point ≡ x → is_some x ≡ true → eqb (place_or0 x) i ≡ eqb point n
-place_is_number u n i point there none e y = clash true refl (sym y)
-place_is_number u n i point there (some j) e y =
+place_is_number : (u : Setup) (n i point : ℕ) → place_of is_output u n ≡ Some i → (x : Option ℕ) → place_of is_output u point ≡ x → is_some x ≡ true → eqb (place_or0 x) i ≡ eqb point n
+place_is_number u n i point there None e y = clash true refl (sym y)
+place_is_number u n i point there (Some j) e y =
     let a = (at_place is_output u point j e).1 in
     let b = (at_place is_output u n i there).1 in
     by_cases (eqb point n)
     (λ z. let k = eqb_true point n z in
-    let s : some j ≡ some i = sym e ∙ ap (place_of is_output u) k ∙ there in
+    let s : Some j ≡ Some i = sym e ∙ ap (place_of is_output u) k ∙ there in
     let q : j ≡ i = cc in
     eq-eqb j i q ∙ sym z)
     (λ z. by_cases (eqb j i)
@@ -63,13 +60,13 @@ asked_same false x n h = refl
 pub record Admits (u : Setup) (n i : ℕ) (request : List ℕ) (q : ForwardOpen) (s : State) (p : Plan) : Type 0 where
   pub asks : is_owner p.kind && eqb p.output i ≡ asks_for u n request q
   pub lone : is_owner p.kind && eqb p.output i ≡ true → any (owner_of i) s.table ≡ false
-  pub config : (j : ℕ) → p.stores ≡ Into j → is_config (shape_at u j).kind ≡ true
+  pub config : (j : ℕ) → p.stores ≡ Some j → is_config (shape_at u j).kind ≡ true
 
-stores_at : (b h : Bool) (x : Option ℕ) (j : ℕ) → cond b Nothing (stores_into (cond h x none)) ≡ Into j → x ≡ some j
+stores_at : (b h : Bool) (x : Option ℕ) (j : ℕ) → cond b None (cond h x None) ≡ Some j → x ≡ Some j
 stores_at true h x j e = clash true refl (cc)
 stores_at false false x j e = clash true refl (cc)
-stores_at false true none j e = clash true refl (cc)
-stores_at false true (some k) j e = cc
+stores_at false true None j e = clash true refl (cc)
+stores_at false true (Some k) j e = cc
 
 lone_owner : (i : ℕ) (l : List Conn) (o : Bool) (j : ℕ) → not (o && any (owns j) (fixeds l)) ≡ true → o && eqb j i ≡ true → any (owner_of i) l ≡ false
 lone_owner i l o j h y =
@@ -78,7 +75,7 @@ lone_owner i l o j h y =
     let m : any (owns j) (fixeds l) ≡ false = sym (ap (λ b. b && any (owns j) (fixeds l)) (and_left o (eqb j i) y)) ∙ n in
     subst (λ j. any (owner_of j) l ≡ false) k (sym (ListLaws.any_map (λ c. c.fixed) (owns j) (owner_of j) (λ c. refl) l) ∙ m)
 
-module _ (u : Setup) (n i : ℕ) (there : place_of is_output u n ≡ some i) where
+module _ (u : Setup) (n i : ℕ) (there : place_of is_output u n ≡ Some i) where
   asks_is : (a : ConnectionPath) → (is_owner (kind_of u (ot_point a)) ≡ true → is_some (place_of is_output u (ot_point a)) ≡ true) →
       is_owner (kind_of u (ot_point a)) && eqb (cond (is_owner (kind_of u (ot_point a))) (place_or0 (place_of is_output u (ot_point a))) 0) i ≡
       not (eqb (ot_point a) u.input_only) && not (eqb (ot_point a) u.listen_only) && eqb (ot_point a) n
@@ -89,10 +86,10 @@ module _ (u : Setup) (n i : ℕ) (there : place_of is_output u n ≡ some i) whe
       (λ y. ap (λ b. eqb (cond b (place_or0 (place_of is_output u point)) 0) i) y ∙ place_is_number u n i point there (place_of is_output u point) refl (h y)) ∙
       ap (λ b. b && eqb point n) (kind_owner u point)
 
-  pub admits : (request : List ℕ) (q : ForwardOpen) (s : State) (p : Plan) → s.setup ≡ u → verdict_of request q s ≡ Planned p → Admits u n i request q s p
+  pub admits : (request : List ℕ) (q : ForwardOpen) (s : State) (p : Plan) → s.setup ≡ u → verdict_of request q s ≡ Ok p → Admits u n i request q s p
   unfolding verdict_of plan_of owner_check roles_of points_check
   admits request q s p v e =
-      let e' = subst (λ w. verdict w (fixeds s.table) q (asked_path request q) ≡ Planned p) v e in
+      let e' = subst (λ w. verdict w (fixeds s.table) q (asked_path request q) ≡ Ok p) v e in
       let x = CheckLaws.passed u (fixeds s.table) q (asked_path request q) p e' in
       let a = path_in (asked_path request q) in
       let points = (CheckLaws.then_none _ _ (CheckLaws.then_none _ _ (CheckLaws.then_none _ _ x.0.points).1).1).0 in
@@ -121,18 +118,18 @@ config_no_output Output e = sym e
 config_no_output Config e = refl
 
 -- where an owner comes nothing was taken from it
-pub opened_run : (r a o : Bool) (x : Option Frame) → r ≡ a && maybe false says_run x → (o ≡ true → a ≡ false) → r ≡ (a || (o || false)) && maybe false says_run (cond o none x)
+pub opened_run : (r a o : Bool) (x : Option Frame) → r ≡ a && maybe false says_run x → (o ≡ true → a ≡ false) → r ≡ (a || (o || false)) && maybe false says_run (cond o None x)
 opened_run r true true x e k = clash true refl (k refl)
 opened_run r true false x e k = e
 opened_run r false true x e k = e
 opened_run r false false x e k = e
 
-pub opened_present : (x : Option Contact) (m : Contact) (a o : Bool) → is_some x ≡ a → is_some (cond o (some m) x) ≡ a || (o || false)
+pub opened_present : (x : Option Contact) (m : Contact) (a o : Bool) → is_some x ≡ a → is_some (cond o (Some m) x) ≡ a || (o || false)
 opened_present x m true true e = refl
 opened_present x m true false e = e
 opened_present x m false true e = refl
 opened_present x m false false e = e
 
 pub in_run_is : (o : Option Contact) (b : Bool) → is_some o && b ≡ maybe false (λ m. b) o
-in_run_is none b = refl
-in_run_is (some m) b = refl
+in_run_is None b = refl
+in_run_is (Some m) b = refl

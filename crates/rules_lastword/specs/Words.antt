@@ -1,7 +1,6 @@
 -- THE HISTORY'S WORDS: what the calls and their answers alone tell of a connection, and of an output. Nothing here reads a state, and of the
 -- rules for frames in nothing is cited but the frame taken apart: the wording is this file's own.
-use Rattle.std.specs.Prelude.{List, Bool, true, false, cond, not, ◌&&◌, ℕ, suc, ◌+◌, ◌-◌, ◌%◌, ◌^◌, eqb, leb, ltb, length, drop, get_or}
-use Rattle.std.proofs.Math.Option.{Option, none, some}
+use Rattle.std.specs.Prelude.{List, Bool, true, false, cond, not, ◌&&◌, ℕ, suc, ◌+◌, ◌-◌, ◌%◌, ◌^◌, eqb, leb, ltb, length, drop, get_or, Option, Some, None}
 use Rattle.base_cells.specs.Numbers.{le}
 use Rattle.wire_rules.specs.Timeout.{timeout_of}
 use Rattle.rules.specs.Lists.{maybe}
@@ -35,8 +34,8 @@ met t q g a =
       sender = g.peer;
       timeout = timeout_of q.ot.rpi q.multiplier;
       at = t;
-      last = none;
-      cip = none;
+      last = None;
+      cip = None;
     }
 
 -- a frame is from it: its O→T id, from its address
@@ -45,13 +44,13 @@ is_for from f m = eqb m.id f.id.0 && eqb m.sender from
 
 -- the first frame, or 1 to 0x7FFFFFFF ahead of the last in order, modulo 2^32
 abbrev pub in_order : Option ℕ → Frame → Bool
-in_order none f = true
-in_order (some n) f = leb 1 ((f.sequence + 2 ^ 32 - n) % 2 ^ 32) && leb ((f.sequence + 2 ^ 32 - n) % 2 ^ 32) 0x7FFFFFFF
+in_order None f = true
+in_order (Some n) f = leb 1 ((f.sequence + 2 ^ 32 - n) % 2 ^ 32) && leb ((f.sequence + 2 ^ 32 - n) % 2 ^ 32) 0x7FFFFFFF
 
 -- the CIP sequence, the payload's first two bytes, is not the last again
 abbrev pub is_news : Option ℕ → Frame → Bool
-is_news none f = true
-is_news (some n) f = not (eqb n (le 2 f.payload 0))
+is_news None f = true
+is_news (Some n) f = not (eqb n (le 2 f.payload 0))
 
 abbrev pub speaks : ℕ → Frame → Contact → Bool
 speaks from f m = is_for from f m && in_order m.last f
@@ -65,8 +64,8 @@ noted t f m =
       sender = m.sender;
       timeout = m.timeout;
       at = t;
-      last = some f.sequence;
-      cip = cond (leb 2 (length f.payload)) (some (le 2 f.payload 0)) m.cip;
+      last = Some f.sequence;
+      cip = cond (leb 2 (length f.payload)) (Some (le 2 f.payload 0)) m.cip;
     }
 
 -- more than its timeout has gone by since it was heard last; a clock behind that time counts as 0
@@ -77,10 +76,10 @@ silent t m = ltb m.timeout (t - m.at)
 abbrev pub contact_of : (List ℕ → ForwardOpen → Bool) → Reading (Option Contact)
 contact_of asks =
     record {
-      on_open = λ t request q g a w. cond (asks request q) (some (met t q g a)) w;
-      on_close = λ k w. maybe none (λ m. cond (triad_is k m.triad) none (some m)) w;
-      on_frame = λ t from f w. maybe none (λ m. some (cond (speaks from f m) (noted t f m) m)) w;
-      on_expire = λ t w. maybe none (λ m. cond (silent t m) none (some m)) w;
+      on_open = λ t request q g a w. cond (asks request q) (Some (met t q g a)) w;
+      on_close = λ k w. maybe None (λ m. cond (triad_is k m.triad) None (Some m)) w;
+      on_frame = λ t from f w. maybe None (λ m. Some (cond (speaks from f m) (noted t f m) m)) w;
+      on_expire = λ t w. maybe None (λ m. cond (silent t m) None (Some m)) w;
     }
 
 -- ---- an output
@@ -119,21 +118,21 @@ abbrev pub word_of : Setup → ℕ → ℕ → Reading Word
 word_of u n size =
     let owner = contact_of (asks_for u n) in
     record {
-      on_open = λ t request q g a w. record { owner = owner.on_open t request q g a w.owner; said = cond (asks_for u n request q) none w.said; taken = w.taken };
+      on_open = λ t request q g a w. record { owner = owner.on_open t request q g a w.owner; said = cond (asks_for u n request q) None w.said; taken = w.taken };
       on_close = λ k w. record { owner = owner.on_close k w.owner; said = w.said; taken = w.taken };
       on_frame =
           λ t from f w.
           record {
             owner = owner.on_frame t from f w.owner;
-            said = cond (takes size from f w) (some f) w.said;
-            taken = cond (takes size from f w) (some f) w.taken;
+            said = cond (takes size from f w) (Some f) w.said;
+            taken = cond (takes size from f w) (Some f) w.taken;
           };
       on_expire = λ t w. record { owner = owner.on_expire t w.owner; said = w.said; taken = w.taken };
     }
 
 -- before any call
 abbrev pub no_word : Word
-no_word = record { owner = none; said = none; taken = none }
+no_word = record { owner = None; said = None; taken = None }
 
 -- IN RUN: it has a live owner, and the last frame taken from that owner had bit 0 of its header set
 abbrev pub in_run : Word → Bool

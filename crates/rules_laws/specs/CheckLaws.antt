@@ -1,59 +1,57 @@
 -- What an open that is accepted has passed, and what its plan names.
-use Rattle.std.specs.Prelude.{◌≡◌, List, [], ◌∷◌, Bool, false, not, ◌||◌, ℕ, suc, eqb, get_or}
+use Rattle.std.specs.Prelude.{◌≡◌, List, [], ◌∷◌, Bool, false, not, ◌||◌, ℕ, suc, eqb, get_or, Option, Some, None, Result, Ok, Err}
 use Rattle.std.proofs.Math.Path.{refl}
 use Rattle.std.proofs.Common.{sym, ◌∙◌}
-use Rattle.std.proofs.Math.Option.{Option, none, some}
 use Rattle.std.proofs.Math.Bool.{true}
 use Rattle.wire_rules.specs.declared.ForwardOpen.{ForwardOpen}
 use Rattle.wire_rules.specs.declared.ConnectionPath.{ConnectionPath}
-use Rattle.wire_rules.specs.declared.PathAnswer.{PathAnswer}
 use Rattle.rules.specs.Lists.{place, any, maybe, is_some}
 use Rattle.rules_laws.specs.ListLaws.{by_cases, clash, and_left, All}
 use Rattle.rules.specs.declared.AssemblyKind.{AssemblyKind}
 use Rattle.rules.specs.declared.Fixed.{Fixed}
 use Rattle.rules.specs.declared.Stop.{Stop}
 use Rattle.rules.specs.declared.Plan.{Plan}
-use Rattle.rules.specs.declared.Verdict.TheVariants.{Stopped, Planned}
 use Rattle.rules.specs.State.{is_input, is_output, is_owner, no_shape, Setup, shape_at}
+use Rattle.rules.specs.declared.Roles.{Roles}
 use Rattle.rules.specs.Checks
 
-pub must_none : (b : Bool) (s : Stop) → Checks.must b s ≡ none → b ≡ true
+pub must_none : (b : Bool) (s : Stop) → Checks.must b s ≡ None → b ≡ true
 unfolding Checks.must
 must_none true s e = refl
 must_none false s e = clash true refl (cc)
 
-pub then_none : (a b : Option Stop) → Checks.and_then a b ≡ none → (a ≡ none) × (b ≡ none)
+pub then_none : (a b : Option Stop) → Checks.and_then a b ≡ None → (a ≡ None) × (b ≡ None)
 unfolding Checks.and_then
-then_none none b e = (refl, e)
-then_none (some s) b e = clash true refl (cc)
+then_none None b e = (refl, e)
+then_none (Some s) b e = clash true refl (cc)
 
-first_none : (cs : List (Option Stop)) → Checks.first_stop cs ≡ none → All (λ c. c ≡ none) cs
+first_none : (cs : List (Option Stop)) → Checks.first_stop cs ≡ None → All (λ c. c ≡ None) cs
 first_none [] e = tt
-first_none (none ∷ cs) e = (refl, first_none cs e)
-first_none (some s ∷ cs) e = clash true refl (cc)
+first_none (None ∷ cs) e = (refl, first_none cs e)
+first_none (Some s ∷ cs) e = clash true refl (cc)
 
-planned_is : (x : Option Stop) (q p : Plan) → maybe (Planned q) Stopped x ≡ Planned p → (x ≡ none) × (q ≡ p)
-planned_is none q p e = (refl, cc)
-planned_is (some s) q p e = clash true refl (cc)
+planned_is : (x : Option Stop) (q p : Plan) → maybe (Ok q) Err x ≡ Ok p → (x ≡ None) × (q ≡ p)
+planned_is None q p e = (refl, cc)
+planned_is (Some s) q p e = clash true refl (cc)
 
 -- every check holds
-pub record Passed (u : Setup) (table : List Fixed) (o : ForwardOpen) (answer : PathAnswer) : Type 0 where
-  pub transport : Checks.transport_check o ≡ none
-  pub path : Checks.path_check answer ≡ none
-  pub key : Checks.key_check u.identity (Checks.path_in answer) ≡ none
-  pub points : Checks.points_check u (Checks.path_in answer) ≡ none
-  pub config : Checks.config_check u (Checks.path_in answer) (Checks.roles_of u (Checks.path_in answer)) ≡ none
-  pub rpi : Checks.rpi_check u o ≡ none
-  pub type : Checks.type_check o ≡ none
-  pub ot_size : Checks.ot_size_check u o (Checks.roles_of u (Checks.path_in answer)) ≡ none
-  pub to_size : Checks.to_size_check u o (Checks.roles_of u (Checks.path_in answer)) ≡ none
-  pub triad : Checks.triad_check o table ≡ none
-  pub owner : Checks.owner_check u (Checks.roles_of u (Checks.path_in answer)) table ≡ none
-  pub stream : Checks.stream_check o (Checks.roles_of u (Checks.path_in answer)) table ≡ none
-  pub room : Checks.room_check table ≡ none
+pub record Passed (u : Setup) (table : List Fixed) (o : ForwardOpen) (answer : Result ConnectionPath ℕ) : Type 0 where
+  pub transport : Checks.transport_check o ≡ None
+  pub path : Checks.path_check answer ≡ None
+  pub key : Checks.key_check u.identity (Checks.path_in answer) ≡ None
+  pub points : Checks.points_check u (Checks.path_in answer) ≡ None
+  pub config : Checks.config_check u (Checks.path_in answer) (Checks.roles_of u (Checks.path_in answer)) ≡ None
+  pub rpi : Checks.rpi_check u o ≡ None
+  pub type : Checks.type_check o ≡ None
+  pub ot_size : Checks.ot_size_check u o (Checks.roles_of u (Checks.path_in answer)) ≡ None
+  pub to_size : Checks.to_size_check u o (Checks.roles_of u (Checks.path_in answer)) ≡ None
+  pub triad : Checks.triad_check o table ≡ None
+  pub owner : Checks.owner_check u (Checks.roles_of u (Checks.path_in answer)) table ≡ None
+  pub stream : Checks.stream_check o (Checks.roles_of u (Checks.path_in answer)) table ≡ None
+  pub room : Checks.room_check table ≡ None
 
 -- an open that is accepted has passed every check, and its plan is the one that the points give
-pub passed : (u : Setup) (table : List Fixed) (o : ForwardOpen) (answer : PathAnswer) (p : Plan) → Checks.verdict u table o answer ≡ Planned p →
+pub passed : (u : Setup) (table : List Fixed) (o : ForwardOpen) (answer : Result ConnectionPath ℕ) (p : Plan) → Checks.verdict u table o answer ≡ Ok p →
     Passed u table o answer × (Checks.plan_of u table o (Checks.path_in answer) ≡ p)
 unfolding Checks.verdict
 passed u table o answer p e =
@@ -78,13 +76,13 @@ passed u table o answer p e =
     )
 
 -- what is at the place that was found
-place_next : (x : Option ℕ) → is_some (maybe none (λ i. some (suc i)) x) ≡ is_some x
-place_next none = refl
-place_next (some i) = refl
+place_next : (x : Option ℕ) → is_some (maybe None (λ i. Some (suc i)) x) ≡ is_some x
+place_next None = refl
+place_next (Some i) = refl
 
-next_place : (x : Option ℕ) → is_some x ≡ true → Checks.place_or0 (maybe none (λ i. some (suc i)) x) ≡ suc (Checks.place_or0 x)
-next_place none e = clash true refl (sym e)
-next_place (some i) e = refl
+next_place : (x : Option ℕ) → is_some x ≡ true → Checks.place_or0 (maybe None (λ i. Some (suc i)) x) ≡ suc (Checks.place_or0 x)
+next_place None e = clash true refl (sym e)
+next_place (Some i) e = refl
 
 pub place_is : {A : Type 0} (p : A → Bool) (l : List A) (d : A) → is_some (place p l) ≡ true → p (get_or l (Checks.place_or0 (place p l)) d) ≡ true
 place_is p [] d e = clash true refl (sym e)
@@ -99,8 +97,8 @@ placed is u n e =
     let a = shape_at u (Checks.place_or0 (Checks.place_of is u n)) in
     and_left (is a.kind) (eqb a.instance n) (place_is (Checks.is_at is n) u.assemblies no_shape e)
 
-module _ (u : Setup) (table : List Fixed) (o : ForwardOpen) (answer : PathAnswer) (a : Passed u table o answer) where
-  abbrev the_roles : Checks.Roles
+module _ (u : Setup) (table : List Fixed) (o : ForwardOpen) (answer : Result ConnectionPath ℕ) (a : Passed u table o answer) where
+  abbrev the_roles : Roles
   the_roles = Checks.roles_of u (Checks.path_in answer)
 
   abbrev p : ConnectionPath

@@ -1,7 +1,6 @@
 -- Laws of lists under Boolean tests.
-use Rattle.std.specs.Prelude.{◌≡◌, refl, List, [], ◌∷◌, ◌++◌, map, Bool, true, false, cond, not, ◌&&◌, ◌||◌, ℕ, suc, ◌+◌, ◌≤◌, length, T, eqb}
+use Rattle.std.specs.Prelude.{◌≡◌, refl, List, [], ◌∷◌, ◌++◌, map, Bool, true, false, cond, not, ◌&&◌, ◌||◌, ℕ, suc, ◌+◌, ◌≤◌, length, T, eqb, Option, Some, None}
 use Rattle.std.proofs.Common.{sym, subst, arith, eqb→eq}
-use Rattle.std.proofs.Math.Option.{Option, none, some}
 use Rattle.rules.specs.Lists.{maybe, find, any, keep, change_first, without_first}
 
 -- what is shown of both values of a test
@@ -13,8 +12,8 @@ pub clash {ℓ} : {P : Type ℓ} (b : Bool) → b ≡ true → b ≡ false → P
 clash b t f = absurd (let z : ◌≡◌ {A = ℕ} 0 1 = cc in omega arith)
 
 abbrev pub option_map : {A B : Type 0} → (A → B) → Option A → Option B
-option_map f none = none
-option_map f (some a) = some (f a)
+option_map f None = None
+option_map f (Some a) = Some (f a)
 
 -- a property of both branches
 pub either_way : {X : Type 0} (Q : X → Type 0) (b : Bool) {x y : X} → Q x → Q y → Q (cond b x y)
@@ -90,31 +89,31 @@ module _ {A : Type 0} where
         by_cases (s x) (λ e. cc (h x e, same x)) (λ e. by_cases (g x) (λ k. cc) (λ k. cc))
 
   module _ (p g : A → Bool) (c : A) where
-    pub find_keep : (l : List A) → find p l ≡ some c → g c ≡ true → find p (keep g l) ≡ some c
+    pub find_keep : (l : List A) → find p l ≡ Some c → g c ≡ true → find p (keep g l) ≡ Some c
     find_keep [] f k = f
     find_keep (x ∷ xs) f k =
-        by_cases (p x) (λ e. let f : some x ≡ some c = cc in cc) (λ e. let f : find p xs ≡ some c = cc in let r = find_keep xs f k in by_cases (g x) (λ h. cc) (λ h. cc))
+        by_cases (p x) (λ e. let f : Some x ≡ Some c = cc in cc) (λ e. let f : find p xs ≡ Some c = cc in let r = find_keep xs f k in by_cases (g x) (λ h. cc) (λ h. cc))
 
-    pub without_keep_in : (l : List A) → find p l ≡ some c → g c ≡ true → keep g (without_first p l) ≡ without_first p (keep g l)
+    pub without_keep_in : (l : List A) → find p l ≡ Some c → g c ≡ true → keep g (without_first p l) ≡ without_first p (keep g l)
     without_keep_in [] f k = refl
     without_keep_in (x ∷ xs) f k =
-        by_cases (p x) (λ e. let f : some x ≡ some c = cc in cc) (λ e. let f : find p xs ≡ some c = cc in let r = without_keep_in xs f k in by_cases (g x) (λ h. cc) (λ h. cc))
+        by_cases (p x) (λ e. let f : Some x ≡ Some c = cc in cc) (λ e. let f : find p xs ≡ Some c = cc in let r = without_keep_in xs f k in by_cases (g x) (λ h. cc) (λ h. cc))
 
-    pub without_keep_out : (l : List A) → find p l ≡ some c → g c ≡ false → keep g (without_first p l) ≡ keep g l
+    pub without_keep_out : (l : List A) → find p l ≡ Some c → g c ≡ false → keep g (without_first p l) ≡ keep g l
     without_keep_out [] f k = refl
     without_keep_out (x ∷ xs) f k =
-        by_cases (p x) (λ e. let f : some x ≡ some c = cc in cc) (λ e. let f : find p xs ≡ some c = cc in let r = without_keep_out xs f k in by_cases (g x) (λ h. cc) (λ h. cc))
+        by_cases (p x) (λ e. let f : Some x ≡ Some c = cc in cc) (λ e. let f : find p xs ≡ Some c = cc in let r = without_keep_out xs f k in by_cases (g x) (λ h. cc) (λ h. cc))
 
-  pub find_none_keep : (p g : A → Bool) (l : List A) → find p l ≡ none → find p (keep g l) ≡ none
+  pub find_none_keep : (p g : A → Bool) (l : List A) → find p l ≡ None → find p (keep g l) ≡ None
   find_none_keep p g [] f = refl
   find_none_keep p g (x ∷ xs) f =
-      by_cases (p x) (λ e. clash true refl (cc)) (λ e. let f : find p xs ≡ none = cc in let r = find_none_keep p g xs f in by_cases (g x) (λ h. cc) (λ h. cc))
+      by_cases (p x) (λ e. clash true refl (cc)) (λ e. let f : find p xs ≡ None = cc in let r = find_none_keep p g xs f in by_cases (g x) (λ h. cc) (λ h. cc))
 
-  pub find_any : (p f : A → Bool) (c : A) (l : List A) → find p l ≡ some c → f c ≡ true → any f l ≡ true
+  pub find_any : (p f : A → Bool) (c : A) (l : List A) → find p l ≡ Some c → f c ≡ true → any f l ≡ true
   find_any p f c [] e y = clash true refl (cc)
   find_any p f c (x ∷ xs) e y = by_cases (p x) (λ k. cc) (λ k. let r = find_any p f c xs (cc) y in by_cases (f x) (λ z. cc) (λ z. cc))
 
-  pub find_passes : (p : A → Bool) (c : A) (l : List A) → find p l ≡ some c → p c ≡ true
+  pub find_passes : (p : A → Bool) (c : A) (l : List A) → find p l ≡ Some c → p c ≡ true
   find_passes p c [] f = cc
   find_passes p c (x ∷ xs) f = by_cases (p x) (λ e. cc) (λ e. find_passes p c xs (cc))
 
@@ -140,7 +139,7 @@ module _ {A : Type 0} where
     all_append [] c a k = (k, tt)
     all_append (x ∷ xs) c a k = (a.0, all_append xs c a.1 k)
 
-    pub all_find : (p : A → Bool) (c : A) (l : List A) → find p l ≡ some c → All P l → P c
+    pub all_find : (p : A → Bool) (c : A) (l : List A) → find p l ≡ Some c → All P l → P c
     all_find p c [] e a = clash true refl (cc)
     all_find p c (x ∷ xs) e a = by_cases (p x) (λ k. let s : x ≡ c = cc in subst P s a.0) (λ k. all_find p c xs (cc) a.1)
 
@@ -173,7 +172,7 @@ module _ {A : Type 0} where
   none_is p [] a = refl
   none_is p (x ∷ xs) a = cc (a.0, none_is p xs a.1)
 
-  pub none_found : (p : A → Bool) (l : List A) → find p l ≡ none → All (λ x. p x ≡ false) l
+  pub none_found : (p : A → Bool) (l : List A) → find p l ≡ None → All (λ x. p x ≡ false) l
   none_found p [] e = tt
   none_found p (x ∷ xs) e = by_cases (p x) (λ k. clash true refl (cc)) (λ k. (k, none_found p xs (cc)))
 
@@ -192,7 +191,7 @@ module _ {A : Type 0} where
     any_same (x ∷ xs) a = cc (a.0, any_same xs a.1)
 
   -- `any` after a change
-  pub any_without : (f p : A → Bool) (c : A) (l : List A) → find p l ≡ some c → any f l ≡ f c || any f (without_first p l)
+  pub any_without : (f p : A → Bool) (c : A) (l : List A) → find p l ≡ Some c → any f l ≡ f c || any f (without_first p l)
   any_without f p c [] e = clash true refl (cc)
   any_without f p c (x ∷ xs) e =
       by_cases (p x) (λ t. cc) (λ n. let r = any_without f p c xs (cc) in by_cases (f x) (λ y. by_cases (f c) (λ z. cc) (λ z. cc)) (λ y. by_cases (f c) (λ z. cc) (λ z. cc)))
@@ -226,7 +225,7 @@ module _ {A : Type 0} where
   length_change p u [] = refl
   length_change p u (x ∷ xs) = by_cases (p x) (λ e. cc) (λ e. cc (length_change p u xs))
 
-  pub length_without : (p : A → Bool) (c : A) (l : List A) → find p l ≡ some c → suc (length (without_first p l)) ≡ length l
+  pub length_without : (p : A → Bool) (c : A) (l : List A) → find p l ≡ Some c → suc (length (without_first p l)) ≡ length l
   length_without p c [] f = clash true refl (cc)
   length_without p c (x ∷ xs) f = by_cases (p x) (λ e. cc) (λ e. cc (length_without p c xs (cc)))
 

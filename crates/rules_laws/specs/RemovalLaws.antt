@@ -1,6 +1,5 @@
 -- What `removedFirst` comes to, once its search is done: for proofs that go by what was found.
-use Rattle.std.proofs.Math.Option.{Option}
-use Rattle.std.specs.Prelude.{Bool}
+use Rattle.std.specs.Prelude.{Bool, Option}
 use Rattle.rules.specs.Lists.{without_first, maybe}
 use Rattle.rules.specs.declared.Info.{Info}
 use Rattle.rules.specs.declared.Conn.{Conn}

@@ -1,6 +1,6 @@
 -- A client that uploads the EDS, transfer after transfer and each as often as it likes, gets exactly the EDS and its checksum.
 use mathlib.Core.List.{List, [], ◌∷◌, ◌++◌, append_assoc, append-nil}
-use Rattle.std.specs.Prelude.{Bool, false, cond, ◌||◌, ◌≡◌, leb, length, get_or, take, drop}
+use Rattle.std.specs.Prelude.{Bool, false, cond, ◌||◌, ◌≡◌, leb, length, get_or, take, drop, Option, Some, None}
 use Rattle.std.proofs.Math.Bool.{true}
 use Rattle.std.proofs.Math.Path.{refl, ap}
 use Rattle.std.proofs.Common.{sym, ◌∙◌}
@@ -12,14 +12,11 @@ use borrow.Author.Tests.{leb-true, leb-false, eqb-true, eq-eqb, ne_eqb}
 use Rattle.base_cells.specs.Numbers.{le_bytes}
 use Rattle.rules.specs.declared.objects.Fault.{Fault}
 use Rattle.rules.specs.Attributes.{Outcome, Gives, Fails}
-use Rattle.rules.specs.declared.objects.Last.{Last}
-use Rattle.rules.specs.declared.objects.Last.TheVariants.{NoLast, Was}
+use Rattle.rules.specs.declared.objects.Transfer.{Transfer}
 use Rattle.rules.specs.declared.objects.Position.{Position}
-use Rattle.rules.specs.declared.objects.Upload.{Upload}
-use Rattle.rules.specs.declared.objects.Upload.TheVariants.{NoUpload, Under}
 use Rattle.rules.specs.declared.objects.Turn.{Turn}
 use Rattle.rules.specs.declared.objects.Turn.TheVariants.{Repeat, InTurn, OutOfTurn}
-use Rattle.rules.specs.Upload.{checksum, clamped, started, next_turn, turn_after, turn_of, advanced, reaches_end, transfer_type, transfer_bytes, transfer_reply, transfer_for, transfer}
+use Rattle.rules.specs.Upload.{checksum, clamped, started, next_turn, turn_after, turn_of, advanced, reaches_end, transfer_type, transfer_bytes, transfer_reply, transfer_for, transfer, was}
 
 -- ---- one transfer
 
@@ -30,11 +27,11 @@ next_number next number e = by (eqb number next) refl e
     by true q h = eqb-true number next q
     by false q h = absurd (let z : ◌≡◌ {A = ℕ} 0 1 = cc in omega arith)
 
-turn_number : (last : Last) (next number : ℕ) → turn_after last next number ≡ InTurn → number ≡ next
-turn_number NoLast next number e = next_number next number e
-turn_number (Was before offset) next number e = by (eqb before number) e
+turn_number : (last : Option Transfer) (next number : ℕ) → turn_after last next number ≡ InTurn → number ≡ next
+turn_number None next number e = next_number next number e
+turn_number (Some before) next number e = by (eqb before.number number) e
   where
-    by : (b : Bool) → cond b (Repeat offset) (next_turn next number) ≡ InTurn → number ≡ next
+    by : (b : Bool) → cond b (Repeat before.offset) (next_turn next number) ≡ InTurn → number ≡ next
     by true h = absurd (let z : ◌≡◌ {A = ℕ} 0 1 = cc in omega arith)
     by false h = next_number next number h
 
@@ -43,21 +40,21 @@ no_bytes e = absurd (let z : ◌≡◌ {A = ℕ} 0 1 = cc in omega arith)
 
 -- what was answered with bytes is answered with the same bytes when it is asked for again, and the position stays where it is
 module _ (eds : List ℕ) where
-  asked_turn : (p : Position) (number : ℕ) (t : Turn) → turn_of p number ≡ t → (bytes : List ℕ) (up : Upload)
+  asked_turn : (p : Position) (number : ℕ) (t : Turn) → turn_of p number ≡ t → (bytes : List ℕ) (up : Option Position)
       → transfer_for eds p number t ≡ (Gives bytes, up) → transfer eds up (number ∷ []) ≡ (Gives bytes, up)
   unfolding transfer turn_of advanced
   asked_turn p number (Repeat offset) h bytes up e =
-      ap (λ (u : Upload). transfer eds u (number ∷ [])) (sym (ap (λ (r : Outcome × Upload). r.1) e)) ∙ ap (transfer_for eds p number) h ∙ e
+      ap (λ (u : Option Position). transfer eds u (number ∷ [])) (sym (ap (λ (r : Outcome × Option Position). r.1) e)) ∙ ap (transfer_for eds p number) h ∙ e
   asked_turn p number InTurn h bytes up e =
       let n : eqb p.next number ≡ true = eq-eqb p.next number (sym (turn_number p.last p.next number h)) in
-      ap (λ (u : Upload). transfer eds u (number ∷ [])) (sym (ap (λ (r : Outcome × Upload). r.1) e)) ∙ rw n e
-  asked_turn p number OutOfTurn h bytes up e = no_bytes (ap (λ (r : Outcome × Upload). r.0) e)
+      ap (λ (u : Option Position). transfer eds u (number ∷ [])) (sym (ap (λ (r : Outcome × Option Position). r.1) e)) ∙ rw n e
+  asked_turn p number OutOfTurn h bytes up e = no_bytes (ap (λ (r : Outcome × Option Position). r.0) e)
 
-  pub asked_again : (before up : Upload) (number : ℕ) (bytes : List ℕ)
+  pub asked_again : (before up : Option Position) (number : ℕ) (bytes : List ℕ)
       → transfer eds before (number ∷ []) ≡ (Gives bytes, up) → transfer eds up (number ∷ []) ≡ (Gives bytes, up)
   unfolding transfer
-  asked_again NoUpload up number bytes e = no_bytes (ap (λ (r : Outcome × Upload). r.0) e)
-  asked_again (Under p) up number bytes e = asked_turn p number (turn_of p number) refl bytes up e
+  asked_again None up number bytes e = no_bytes (ap (λ (r : Outcome × Option Position). r.0) e)
+  asked_again (Some p) up number bytes e = asked_turn p number (turn_of p number) refl bytes up e
 
 -- ---- the client
 
@@ -68,12 +65,12 @@ pub data Move : Type 0 where
 -- what it holds: the position that the adapter keeps for it; how many transfers it has asked for in turn; the bytes of all but
 -- the last of these; and the newest reply, which a repeat replaces
 pub record Client : Type 0 where
-  pub position : Upload
+  pub position : Option Position
   pub turns : ℕ
   pub before : List ℕ
   pub newest : List ℕ
 
-abbrev pub client : Upload → ℕ → List ℕ → List ℕ → Client
+abbrev pub client : Option Position → ℕ → List ℕ → List ℕ → Client
 client position turns before newest = record { position = position; turns = turns; before = before; newest = newest }
 
 -- a reply is a number, a type and bytes: all that it got
@@ -89,7 +86,7 @@ ended c = is_last (get_or c.newest 1 0)
 
 -- how the adapter answers a transfer of a number: a reply, and the position that it keeps
 abbrev pub Ask : Type 0
-Ask = ℕ → Upload → List ℕ × Upload
+Ask = ℕ → Option Position → List ℕ × Option Position
 
 -- transfers are numbered from 0, and numbers wrap at 256
 abbrev pub asks_next : Ask → Client → Client
@@ -125,12 +122,12 @@ step eds number up = (reply_in (transfer eds up (number ∷ [])).0, (transfer ed
 
 -- it begins with the position that initiate leaves
 abbrev pub begins : ℕ → Client
-begins size = client (Under (started size)) 0 [] []
+begins size = client (Some (started size)) 0 [] []
 
 -- ---- what the client holds after n turns
 
-abbrev held : ℕ → ℕ → ℕ → ℕ → ℕ → Upload
-held size next offset number before = Under (record { size = size; next = next; offset = offset; last = Was number before })
+abbrev held : ℕ → ℕ → ℕ → ℕ → ℕ → Option Position
+held size next offset number before = Some (record { size = size; next = next; offset = offset; last = was number before })
 
 last_type : (first last : Bool) → is_last (transfer_type first last) ≡ last
 last_type true false = refl
@@ -165,7 +162,7 @@ module _ (eds : List ℕ) (size : ℕ) where
   unfolding transfer turn_of advanced
   in_turn next offset number before h = simp (ne_eqb number next h, eq-eqb next next refl)
 
-  first_turn : step eds 0 (Under (started size)) ≡ (transfer_reply eds size 0 0, held size 1 (min (0 + size) (length eds)) 0 0)
+  first_turn : step eds 0 (Some (started size)) ≡ (transfer_reply eds size 0 0, held size 1 (min (0 + size) (length eds)) 0 0)
   unfolding transfer turn_of advanced
   first_turn = refl
 
@@ -173,7 +170,7 @@ module _ (eds : List ℕ) (size : ℕ) where
   again_after zero = refl
   again_after (suc k) =
       let e = repeat_turn (suc k % 256) (min (k * size + size) (length eds)) (k % 256) (k * size) in
-      ap (λ (r : List ℕ × Upload). client r.1 (suc k) (take (k * size) eds) r.0) e
+      ap (λ (r : List ℕ × Option Position). client r.1 (suc k) (take (k * size) eds) r.0) e
 
   -- the bytes of the transfers so far
   so_far : (at : ℕ) → leb (length eds) (at + size) ≡ false → take at eds ++ transfer_bytes eds size at ≡ take (at + size) eds
@@ -187,14 +184,14 @@ module _ (eds : List ℕ) (size : ℕ) where
   next_after : (n : ℕ) → ended (after n) ≡ false → asks_next (step eds) (after n) ≡ after (suc n)
   next_after zero e =
       let z : 0 * size ≡ 0 = omega arith in
-      ap (λ (r : List ℕ × Upload). client r.1 1 [] r.0) first_turn ∙ rw z
+      ap (λ (r : List ℕ × Option Position). client r.1 1 [] r.0) first_turn ∙ rw z
   next_after (suc k) e =
       let f : leb (length eds) (k * size + size) ≡ false = sym (ended_after k) ∙ e in
       let l : k * size + size < length eds = leb-false _ _ f in
       let at : min (k * size + size) (length eds) ≡ suc k * size = omega arith in
       let wrap : (suc k % 256 + 1) % 256 ≡ suc (suc k) % 256 = omega arith in
       let b : got (after (suc k)) ≡ take (suc k * size) eds = before_next k f in
-      ap (λ (r : List ℕ × Upload). client r.1 (suc (suc k)) (got (after (suc k))) r.0)
+      ap (λ (r : List ℕ × Option Position). client r.1 (suc (suc k)) (got (after (suc k))) r.0)
       (in_turn (suc k % 256) (min (k * size + size) (length eds)) (k % 256) (k * size) (λ q. omega arith))
       ∙ rw (at, wrap, b)
 

@@ -1,16 +1,13 @@
 -- The upload by messages: what a client gets that sends Initiate_Upload and Upload_Transfer to File, instance 0xC8.
-use Rattle.std.specs.Prelude.{List, [], ◌∷◌, ◌++◌, true, ◌≡◌, refl, ℕ, zero, suc, ◌*◌, ◌≤◌, length, drop}
-use Rattle.std.proofs.Math.Option.{some}
+use Rattle.std.specs.Prelude.{List, [], ◌∷◌, ◌++◌, true, ◌≡◌, refl, ℕ, zero, suc, ◌*◌, ◌≤◌, length, drop, Option, Some, None, Ok}
+use Rattle.rules.specs.declared.objects.Position.{Position}
 use Rattle.std.proofs.Common.{ap, sym, ◌∙◌}
 use Rattle.base_cells.specs.Numbers.{le_bytes}
 use Rattle.wire_rules.specs.Segments.{logical_at, between, seg_at, step_at, segs_from, segs_of}
 use Rattle.wire_rules.specs.ConnectionPath.{gather}
-use Rattle.wire_rules.specs.declared.Object.TheVariants.{Named}
-use Rattle.wire_rules.specs.declared.RequestAnswer.TheVariants.{Parsed}
-use Rattle.wire_rules.specs.Requests.{attribute_in, request_with, request_of}
+use Rattle.wire_rules.specs.Requests.{attribute_in, request_with, request_of, object_named}
 use Rattle.rules.specs.State.{State}
-use Rattle.rules.specs.Attributes.{NoAttribute, Outcome, Gives, Fails}
-use Rattle.rules.specs.declared.objects.Upload.{Upload}
+use Rattle.rules.specs.Attributes.{Outcome, Gives, Fails}
 use Rattle.rules.specs.Upload.{checksum, clamped, initiate_reply, initiate, transfer}
 use Rattle.rules.specs.Objects.{eds_file, file}
 use Rattle.rules.specs.Message.{reply_head, reply_to, of_class, message_outcome, message_reply}
@@ -32,7 +29,7 @@ by_message st local mask number up =
     (drop 4 (message_reply st local mask (transfer_message number) up), (message_outcome st local mask (transfer_message number) up).1)
 
 file_request : (service byte : ℕ)
-    → request_of (to_file service byte) ≡ Parsed (record { service = service; object = Named 0x37 0xC8; attribute = NoAttribute; datastart = 6 })
+    → request_of (to_file service byte) ≡ Ok (record { service = service; object = object_named 0x37 0xC8; attribute = None; datastart = 6 })
 unfolding request_of request_with segs_of segs_from step_at seg_at between logical_at gather attribute_in
 file_request service byte = refl
 
@@ -42,7 +39,7 @@ behind_head service (Gives bytes) = refl
 behind_head service (Fails f) = refl
 
 -- moves are the same where the answers are
-module _ (ask ask' : Ask) (same : (number : ℕ) (up : Upload) → ask number up ≡ ask' number up) where
+module _ (ask ask' : Ask) (same : (number : ℕ) (up : Option Position) → ask number up ≡ ask' number up) where
   again_same : (c : Client) (n : ℕ) → asks_again ask c n ≡ asks_again ask' c n
   again_same c zero = refl
   again_same c (suc k) = rw same
@@ -55,21 +52,21 @@ module _ (ask ask' : Ask) (same : (number : ℕ) (up : Upload) → ask number up
   moves_same [] c = refl
   moves_same (m ∷ ms) c = rw (move_same m c) (moves_same ms (move ask' m c))
 
-module _ (st : State) (local mask : ℕ) (eds : List ℕ) (present : st.setup.eds ≡ some eds) where
-  transfer_message_lem : (number : ℕ) (up : Upload) → message_outcome st local mask (transfer_message number) up ≡ transfer eds up (number ∷ [])
+module _ (st : State) (local mask : ℕ) (eds : List ℕ) (present : st.setup.eds ≡ Some eds) where
+  transfer_message_lem : (number : ℕ) (up : Option Position) → message_outcome st local mask (transfer_message number) up ≡ transfer eds up (number ∷ [])
   unfolding message_outcome of_class file eds_file
   transfer_message_lem number up = rw (file_request 0x4F number, present)
 
-  initiate_message_lem : (wanted : ℕ) (up : Upload)
+  initiate_message_lem : (wanted : ℕ) (up : Option Position)
       → message_outcome st local mask (initiate_message wanted) up ≡ initiate st.setup.transfer_limit eds up (wanted ∷ [])
   unfolding message_outcome of_class file eds_file
   initiate_message_lem wanted up = rw (file_request 0x4B wanted, present)
 
-  by_step : (number : ℕ) (up : Upload) → by_message st local mask number up ≡ step eds number up
+  by_step : (number : ℕ) (up : Option Position) → by_message st local mask number up ≡ step eds number up
   unfolding message_reply
   by_step number up = rw (behind_head, transfer_message_lem number up)
 
-  module _ (wanted : ℕ) (earlier : Upload) (ms : List Move) where
+  module _ (wanted : ℕ) (earlier : Option Position) (ms : List Move) where
     -- a session: Initiate_Upload, whatever position an earlier upload left, then transfers as the client moves
     abbrev pub session : Client
     session = moves (by_message st local mask) ms (client (message_outcome st local mask (initiate_message wanted) earlier).1 0 [] [])

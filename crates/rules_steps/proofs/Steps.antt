@@ -1,16 +1,15 @@
 -- THE INDUCTION. What keeps the seven obligations is kept by each of the fourteen calls, and by every run; so is what a history has taught.
-use Rattle.std.specs.Prelude.{◌≡◌, List, [], ◌∷◌, Bool, cond, leb, length}
+use Rattle.std.specs.Prelude.{◌≡◌, List, [], ◌∷◌, Bool, cond, leb, length, Option, Some, None, Result, Ok, Err}
+use Rattle.base_ids.specs.declared.Triad.{Triad}
+use Rattle.rules.specs.declared.Plan.{Plan}
+use Rattle.rules.specs.declared.Stop.{Stop}
 use Rattle.std.proofs.Math.Path.{refl}
 use Rattle.std.proofs.Common.{sym}
-use Rattle.std.proofs.Math.Option.{Option, none, some}
 use Rattle.std.proofs.Math.Bool.{true, false}
 use Prim.Native.Nat.{ℕ, zero, suc}
 use Rattle.wire_rules.specs.Frames.{io_of}
 use Rattle.wire_rules.specs.Opens.{close_of}
 use Rattle.wire_rules.specs.Replies.{close_reply}
-use Rattle.wire_rules.specs.declared.OpenAnswer.TheVariants.{Open, NoOpen}
-use Rattle.wire_rules.specs.declared.CloseAnswer.TheVariants.{Close, NoClose}
-use Rattle.rules.specs.declared.Verdict.TheVariants.{Stopped, Planned}
 use Rattle.rules.specs.declared.Event.TheVariants.{Closed, TimedOut}
 use Rattle.rules.specs.Lists.{find, any, without_first, maybe, repeat}
 use Rattle.rules_laws.specs.ListLaws
@@ -26,10 +25,10 @@ use Rattle.rules.specs.Producing.{produce_answer, produce_effect, produce_call}
 use Rattle.rules.specs.Host.{input_set, set_input_answer, set_input_effect, set_input_call, output_read, output_answer, output_effect, output_call, next_event_answer, next_event_effect, next_event_call}
 use Rattle.rules.specs.Calls
 use Rattle.rules.specs.Calls.{Call, answer, next, run}
-use Rattle.rules_steps.specs.Names.{ForwardOpen, OpenAnswer, CloseAnswer, Origin, Conn, Info, Event, Verdict}
+use Rattle.rules_steps.specs.Names.{ForwardOpen, Origin, Conn, Info, Event}
 use Rattle.rules_steps.specs.Steps.{log, News, Opening, Closing, Nothing, asked_news, close_news, frame_news, news, Reading, learnt, history, Removing, Kept, Follows}
 
-found : {A : Type 0} (p : A → Bool) (l : List A) → any p l ≡ true → {Q : Type 0} → ((c : A) → find p l ≡ some c → Q) → Q
+found : {A : Type 0} (p : A → Bool) (l : List A) → any p l ≡ true → {Q : Type 0} → ((c : A) → find p l ≡ Some c → Q) → Q
 found p [] y k = ListLaws.clash true refl (sym y)
 found p (x ∷ xs) y k =
     by_cases (p x)
@@ -42,19 +41,19 @@ module _ {G : Type 0} (r : Reading G) (P : G → State → Type 0) (k : Follows 
   Step s w a n s' = P (learnt r (cond (is_yes a) n Nothing) w) (cond (is_yes a) s' s)
 
   -- OPEN
-  plan_follows : (t : ℕ) (request : List ℕ) (q : ForwardOpen) (g : Origin) (room : ℕ) (s : State) (w : G) → P w s → (v : Verdict) → verdict_of request q s ≡ v →
+  plan_follows : (t : ℕ) (request : List ℕ) (q : ForwardOpen) (g : Origin) (room : ℕ) (s : State) (w : G) → P w s → (v : Result Plan Stop) → verdict_of request q s ≡ v →
       let a = plan_answer q g s.next_id room v in
       Step s w a (Opening t request q g a) (plan_effect t q g (config_bytes request q) s v)
-  plan_follows t request q g room s w h (Stopped x) e = h
-  plan_follows t request q g room s w h (Planned p) e =
+  plan_follows t request q g room s w h (Err x) e = h
+  plan_follows t request q g room s w h (Ok p) e =
       either_way (λ a. Step s w a (Opening t request q g a) (opened t q g (config_bytes request q) p s)) (leb (length (reply_of q g p s.next_id)) room)
       (k.opening t request q g p s w e h) h
 
-  asked_follows : (t : ℕ) (request : List ℕ) (g : Origin) (room : ℕ) (s : State) (w : G) → P w s → (x : OpenAnswer) →
+  asked_follows : (t : ℕ) (request : List ℕ) (g : Origin) (room : ℕ) (s : State) (w : G) → P w s → (x : Option ForwardOpen) →
       let a = asked_answer g request room s x in
       Step s w a (asked_news t request g a x) (asked_effect t g request s x)
-  asked_follows t request g room s w h NoOpen = h
-  asked_follows t request g room s w h (Open q) = plan_follows t request q g room s w h (verdict_of request q s) refl
+  asked_follows t request g room s w h None = h
+  asked_follows t request g room s w h (Some q) = plan_follows t request q g room s w h (verdict_of request q s) refl
 
   open_follows : (t service : ℕ) (request : List ℕ) (g : Origin) (room : ℕ) (s : State) (w : G) → P w s →
       let c = Calls.Open t service request g room in P (learnt r (news c (answer c s)) w) (next c s)
@@ -63,10 +62,10 @@ module _ {G : Type 0} (r : Reading G) (P : G → State → Type 0) (k : Follows 
       by_cases (timely t) (λ y. rw y (asked_follows t request g room s w h (open_asked service request))) (λ n. rw n h)
 
   -- CLOSE
-  close_for_follows : (room : ℕ) (s : State) (w : G) → P w s → (x : CloseAnswer) → Step s w (close_for room s x) (close_news x) (close_by s x)
+  close_for_follows : (room : ℕ) (s : State) (w : G) → P w s → (x : Option Triad) → Step s w (close_for room s x) (close_news x) (close_by s x)
   unfolding closed
-  close_for_follows room s w h NoClose = h
-  close_for_follows room s w h (Close d) =
+  close_for_follows room s w h None = h
+  close_for_follows room s w h (Some d) =
       by_cases (any (conn_triad d) s.table)
       (λ y. found (conn_triad d) s.table y
       (λ c e. rw (y, e) (either_way (λ a. Step s w a (Closing d) (removed false Closed c (without_first (conn_triad d) s.table) s)) (leb (length (close_reply d)) room)
@@ -80,8 +79,8 @@ module _ {G : Type 0} (r : Reading G) (P : G → State → Type 0) (k : Follows 
 
   -- RECEIVE
   frame_follows : (t from : ℕ) (s : State) (w : G) → P w s → (x : Option Frame) → P (learnt r (frame_news t from x) w) (maybe s (λ f. received t from f s) x)
-  frame_follows t from s w h none = h
-  frame_follows t from s w h (some f) = k.hearing t from f s w h
+  frame_follows t from s w h None = h
+  frame_follows t from s w h (Some f) = k.hearing t from f s w h
 
   receive_follows : (t from : ℕ) (frame : List ℕ) (s : State) (w : G) → P w s →
       let c = Calls.Receive t from frame in P (learnt r (news c (answer c s)) w) (next c s)
@@ -104,12 +103,12 @@ module _ {G : Type 0} (r : Reading G) (P : G → State → Type 0) (k : Follows 
 
   -- the host's
   input_follows : (n : ℕ) (bytes : List ℕ) (s : State) (w : G) → P w s → (x : Option ℕ) → place_of is_input s.setup n ≡ x → P w (input_set bytes s x)
-  input_follows n bytes s w h none e = h
-  input_follows n bytes s w h (some i) e = (k.quiet w).setting n i bytes s e h
+  input_follows n bytes s w h None e = h
+  input_follows n bytes s w h (Some i) e = (k.quiet w).setting n i bytes s e h
 
   output_follows : (n : ℕ) (s : State) (w : G) → P w s → (x : Option ℕ) → place_of is_output s.setup n ≡ x → P w (output_read s x)
-  output_follows n s w h none e = h
-  output_follows n s w h (some i) e = (k.quiet w).reading n i s e h
+  output_follows n s w h None e = h
+  output_follows n s w h (Some i) e = (k.quiet w).reading n i s e h
 
   -- EVERY CALL
   pub follows : (c : Call) (s : State) (w : G) → P w s → P (learnt r (news c (answer c s)) w) (next c s)
@@ -143,8 +142,8 @@ unlearnt = record { on_open = λ t request q g a w. w; on_close = λ k w. w; on_
 -- an expiry is so many removals
 module _ (P : State → Type 0) (removing : Removing P) where
   gone : (fault : Bool) (why : Info → Event) (p : Conn → Bool) (s : State) (x : Option Conn) → find p s.table ≡ x → P s → P (removed_if fault why p s x)
-  gone fault why p s none e h = h
-  gone fault why p s (some c) e h = removing fault why p c s e h
+  gone fault why p s None e h = h
+  gone fault why p s (Some c) e h = removing fault why p c s e h
 
   expired_kept : (t n : ℕ) (s : State) → P s → P (repeat n (expired_first t) s)
   unfolding expired_first

@@ -1,12 +1,11 @@
 -- THE LAW: the list that a call leaves is the list before, less the event that was read, with what the call tells pushed onto it.
-use Rattle.std.specs.Prelude.{◌≡◌, refl, List, [], ◌∷◌, ◌++◌, Bool, true, false, cond, ℕ, zero, suc, length}
+use Rattle.std.specs.Prelude.{◌≡◌, refl, List, [], ◌∷◌, ◌++◌, Bool, true, false, cond, ℕ, zero, suc, length, Option, Some, None, Result, Ok, Err}
+use Rattle.base_ids.specs.declared.Triad.{Triad}
+use Rattle.rules.specs.declared.Plan.{Plan}
+use Rattle.rules.specs.declared.Stop.{Stop}
 use Rattle.std.proofs.Common.{sym, ◌∙◌, ap}
-use Rattle.std.proofs.Math.Option.{Option, none, some}
 use Rattle.wire_rules.specs.Frames.{io_of}
 use Rattle.wire_rules.specs.Opens.{close_of}
-use Rattle.wire_rules.specs.declared.OpenAnswer.TheVariants.{Open, NoOpen}
-use Rattle.wire_rules.specs.declared.CloseAnswer.TheVariants.{Close, NoClose}
-use Rattle.rules.specs.declared.Verdict.TheVariants.{Stopped, Planned}
 use Rattle.rules.specs.declared.Event.TheVariants.{Closed, TimedOut}
 use Rattle.rules.specs.Lists.{find, without_first, maybe, repeat}
 use Rattle.rules_laws.specs.ListLaws.{by_cases}
@@ -22,7 +21,7 @@ use Rattle.rules.specs.Producing.{produce_answer, produce_effect, produce_call}
 use Rattle.rules.specs.Host.{input_set, set_input_answer, set_input_effect, set_input_call, output_read, output_answer, output_effect, output_call, next_event_answer, next_event_effect, next_event_call}
 use Rattle.rules.specs.Calls
 use Rattle.rules.specs.Calls.{Call, answer, next}
-use Rattle.rules_steps.specs.Names.{ForwardOpen, OpenAnswer, CloseAnswer, Origin, Conn, Info, Event, Verdict}
+use Rattle.rules_steps.specs.Names.{ForwardOpen, Origin, Conn, Info, Event}
 use Rattle.rules_steps.specs.Told.{plan_told, asked_told, removal_told, gone_told, close_told, expire_told, frame_told, told, unread}
 
 pub pushed_append : (l m : List Event) (es : Events) → pushed_all (l ++ m) es ≡ pushed_all m (pushed_all l es)
@@ -37,8 +36,8 @@ removal_tells fault why c rest s = sym (pushed_append (closed_events s.setup (li
 
 gone_tells : (fault : Bool) (why : Info → Event) (p : Conn → Bool) (s : State) (x : Option Conn) → (removed_if fault why p s x).events ≡ pushed_all (gone_told why p s x) s.events
 unfolding pushed_all
-gone_tells fault why p s none = refl
-gone_tells fault why p s (some c) = removal_tells fault why c (without_first p s.table) s
+gone_tells fault why p s None = refl
+gone_tells fault why p s (Some c) = removal_tells fault why c (without_first p s.table) s
 
 expiry_tells : (t n : ℕ) (s : State) → (repeat n (expired_first t) s).events ≡ pushed_all (expire_told t n s) s.events
 unfolding expired_first pushed_all
@@ -48,33 +47,33 @@ expiry_tells t (suc n) s =
     expiry_tells t n (expired_first t s) ∙ ap (pushed_all (expire_told t n (expired_first t s))) (gone_tells true TimedOut (expired t) s x) ∙
     sym (pushed_append (gone_told TimedOut (expired t) s x) (expire_told t n (expired_first t s)) s.events)
 
-plan_tells : (t : ℕ) (q : ForwardOpen) (g : Origin) (bytes : List ℕ) (s : State) (v : Verdict) → (plan_effect t q g bytes s v).events ≡ pushed_all (plan_told s q g bytes v) s.events
+plan_tells : (t : ℕ) (q : ForwardOpen) (g : Origin) (bytes : List ℕ) (s : State) (v : Result Plan Stop) → (plan_effect t q g bytes s v).events ≡ pushed_all (plan_told s q g bytes v) s.events
 unfolding opened pushed_all
-plan_tells t q g bytes s (Stopped x) = refl
-plan_tells t q g bytes s (Planned p) = refl
+plan_tells t q g bytes s (Err x) = refl
+plan_tells t q g bytes s (Ok p) = refl
 
-asked_tells : (t : ℕ) (g : Origin) (request : List ℕ) (s : State) (x : OpenAnswer) → (asked_effect t g request s x).events ≡ pushed_all (asked_told g request s x) s.events
+asked_tells : (t : ℕ) (g : Origin) (request : List ℕ) (s : State) (x : Option ForwardOpen) → (asked_effect t g request s x).events ≡ pushed_all (asked_told g request s x) s.events
 unfolding pushed_all
-asked_tells t g request s NoOpen = refl
-asked_tells t g request s (Open q) = plan_tells t q g (config_bytes request q) s (verdict_of request q s)
+asked_tells t g request s None = refl
+asked_tells t g request s (Some q) = plan_tells t q g (config_bytes request q) s (verdict_of request q s)
 
-close_tells : (s : State) (x : CloseAnswer) → (close_by s x).events ≡ pushed_all (close_told s x) s.events
+close_tells : (s : State) (x : Option Triad) → (close_by s x).events ≡ pushed_all (close_told s x) s.events
 unfolding closed pushed_all
-close_tells s NoClose = refl
-close_tells s (Close k) = gone_tells false Closed (conn_triad k) s (find (conn_triad k) s.table)
+close_tells s None = refl
+close_tells s (Some k) = gone_tells false Closed (conn_triad k) s (find (conn_triad k) s.table)
 
 frame_tells : (t from : ℕ) (s : State) (x : Option Frame) → (maybe s (λ f. received t from f s) x).events ≡ pushed_all (frame_told from s x) s.events
 unfolding received pushed_all
-frame_tells t from s none = refl
-frame_tells t from s (some f) = refl
+frame_tells t from s None = refl
+frame_tells t from s (Some f) = refl
 
 input_tells : (bytes : List ℕ) (s : State) (x : Option ℕ) → (input_set bytes s x).events ≡ s.events
-input_tells bytes s none = refl
-input_tells bytes s (some i) = refl
+input_tells bytes s None = refl
+input_tells bytes s (Some i) = refl
 
 output_tells : (s : State) (x : Option ℕ) → (output_read s x).events ≡ s.events
-output_tells s none = refl
-output_tells s (some i) = refl
+output_tells s None = refl
+output_tells s (Some i) = refl
 
 settle : (b : Bool) (s' s : State) (l : List Event) → s'.events ≡ pushed_all l s.events → (cond b s' s).events ≡ pushed_all (cond b l []) s.events
 unfolding pushed_all

@@ -3,16 +3,12 @@ pub use Rattle.base_ids.specs.declared.OtId.{OtId}
 pub use Rattle.base_ids.specs.declared.ToId.{ToId}
 pub use Rattle.base_ids.specs.declared.Triad.{Triad}
 pub use Rattle.wire_rules.specs.declared.ForwardOpen.{ForwardOpen}
-pub use Rattle.wire_rules.specs.declared.OpenAnswer.{OpenAnswer}
-pub use Rattle.wire_rules.specs.declared.CloseAnswer.{CloseAnswer}
 pub use Rattle.wire_rules.specs.declared.ConnectionPath.{ConnectionPath}
-pub use Rattle.wire_rules.specs.declared.PathAnswer.{PathAnswer}
 pub use Rattle.rules.specs.declared.AssemblyKind.{AssemblyKind}
 pub use Rattle.rules.specs.declared.Kind.{Kind}
 pub use Rattle.rules.specs.declared.Socket.{Socket}
 pub use Rattle.rules.specs.declared.Fixed.{Fixed}
 pub use Rattle.rules.specs.declared.Heard.{Heard}
-pub use Rattle.rules.specs.declared.Due.{Due}
 pub use Rattle.rules.specs.declared.Sent.{Sent}
 pub use Rattle.rules.specs.declared.Conn.{Conn}
 pub use Rattle.rules.specs.declared.Info.{Info}
@@ -20,6 +16,4 @@ pub use Rattle.rules.specs.declared.Event.{Event}
 pub use Rattle.rules.specs.declared.Origin.{Origin}
 pub use Rattle.rules.specs.declared.Stop.{Stop}
 pub use Rattle.rules.specs.declared.Stream.{Stream}
-pub use Rattle.rules.specs.declared.Stores.{Stores}
 pub use Rattle.rules.specs.declared.Plan.{Plan}
-pub use Rattle.rules.specs.declared.Verdict.{Verdict}

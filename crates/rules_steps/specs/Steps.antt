@@ -1,16 +1,12 @@
 -- ONE INDUCTION OVER A RUN. What seven kinds of steps keep, each of the fourteen calls keeps, and so does every run. The same with what a
 -- history of calls and answers has taught: a history never reads the state. Here the notions; proofs/Steps.antt has the induction.
-use Rattle.std.specs.Prelude.{◌≡◌, List, [], ◌∷◌, ◌++◌, Bool, cond}
+use Rattle.std.specs.Prelude.{◌≡◌, List, [], ◌∷◌, ◌++◌, Bool, cond, Option, Some, None, Ok}
 use Rattle.std.proofs.Math.Path.{refl}
 use Rattle.std.proofs.Common.{◌∙◌, ap}
-use Rattle.std.proofs.Math.Option.{Option, none, some}
 use Rattle.std.proofs.Math.Bool.{false}
 use Prim.Native.Nat.{ℕ}
 use Rattle.wire_rules.specs.Frames.{io_of}
 use Rattle.wire_rules.specs.Opens.{close_of}
-use Rattle.wire_rules.specs.declared.OpenAnswer.TheVariants.{Open, NoOpen}
-use Rattle.wire_rules.specs.declared.CloseAnswer.TheVariants.{Close, NoClose}
-use Rattle.rules.specs.declared.Verdict.TheVariants.{Planned}
 use Rattle.rules.specs.declared.Event.TheVariants.{Closed}
 use Rattle.rules.specs.Lists.{find, without_first, change_at}
 use Rattle.rules.specs.State.{State, shape_at, with_contents, is_input, is_output}
@@ -23,7 +19,7 @@ use Rattle.rules.specs.Producing.{produce_effect}
 use Rattle.rules.specs.Host.{filled, read, next_event_effect}
 use Rattle.rules.specs.Calls
 use Rattle.rules.specs.Calls.{Call, answer, next, run}
-use Rattle.rules_steps.specs.Names.{Triad, ForwardOpen, OpenAnswer, CloseAnswer, Origin, Conn, Info, Event, Plan}
+use Rattle.rules_steps.specs.Names.{Triad, ForwardOpen, Origin, Conn, Info, Event, Plan}
 
 -- WHAT A RUN TELLS the host: each call, and its answer
 abbrev pub log : List Call → State → List (Call × Answer)
@@ -39,17 +35,17 @@ pub data News : Type 0 where
   Expiring : (time : ℕ) → News
   Nothing : News
 
-abbrev pub asked_news : ℕ → List ℕ → Origin → Answer → OpenAnswer → News
-asked_news t request g a NoOpen = Nothing
-asked_news t request g a (Open q) = Opening t request q g a
+abbrev pub asked_news : ℕ → List ℕ → Origin → Answer → Option ForwardOpen → News
+asked_news t request g a None = Nothing
+asked_news t request g a (Some q) = Opening t request q g a
 
-abbrev pub close_news : CloseAnswer → News
-close_news NoClose = Nothing
-close_news (Close k) = Closing k
+abbrev pub close_news : Option Triad → News
+close_news None = Nothing
+close_news (Some k) = Closing k
 
 abbrev pub frame_news : ℕ → ℕ → Option Frame → News
-frame_news t from none = Nothing
-frame_news t from (some f) = Hearing t from f
+frame_news t from None = Nothing
+frame_news t from (Some f) = Hearing t from f
 
 -- what a call that was not refused brings
 abbrev yes_news : Call → Answer → News
@@ -128,22 +124,22 @@ run_next (b ∷ cs) c s = run_next cs c (next b s)
 -- the four steps of which no history learns: they are no open, close, frame or expiry
 pub record Quiet (P : State → Type 0) : Type 0 where
   pub producing : (t : ℕ) (s : State) → P s → P (produce_effect t s)
-  pub setting : (n i : ℕ) (bytes : List ℕ) (s : State) → place_of is_input s.setup n ≡ some i → P s →
+  pub setting : (n i : ℕ) (bytes : List ℕ) (s : State) → place_of is_input s.setup n ≡ Some i → P s →
       P (with_contents (change_at i (filled (shape_at s.setup i).size bytes) s.contents) s)
-  pub reading : (n i : ℕ) (s : State) → place_of is_output s.setup n ≡ some i → P s → P (with_contents (change_at i read s.contents) s)
+  pub reading : (n i : ℕ) (s : State) → place_of is_output s.setup n ≡ Some i → P s → P (with_contents (change_at i read s.contents) s)
   pub noting : (s : State) → P s → P (next_event_effect s)
 
 -- the removal of a connection that was found
 abbrev pub Removing : (State → Type 0) → Type 0
 Removing P =
-    (fault : Bool) (why : Info → Event) (p : Conn → Bool) (c : Conn) (s : State) → find p s.table ≡ some c → P s →
+    (fault : Bool) (why : Info → Event) (p : Conn → Bool) (c : Conn) (s : State) → find p s.table ≡ Some c → P s →
     P (removed fault why c (without_first p s.table) s)
 
 -- AN INVARIANT: seven obligations
 pub record Kept (P : State → Type 0) : Type 0 where
   pub quiet : Quiet P
   pub removing : Removing P
-  pub opening : (t : ℕ) (request : List ℕ) (q : ForwardOpen) (g : Origin) (p : Plan) (s : State) → verdict_of request q s ≡ Planned p → P s →
+  pub opening : (t : ℕ) (request : List ℕ) (q : ForwardOpen) (g : Origin) (p : Plan) (s : State) → verdict_of request q s ≡ Ok p → P s →
       P (opened t q g (config_bytes request q) p s)
   pub hearing : (t from : ℕ) (f : Frame) (s : State) → P s → P (received t from f s)
 
@@ -154,9 +150,9 @@ acceptance q g p n = Accepted (asks_multicast q) (side_at q g p n).dest (reply_o
 -- A STATE AND WHAT A HISTORY TAUGHT
 pub record Follows {G : Type 0} (r : Reading G) (P : G → State → Type 0) : Type 0 where
   pub quiet : (w : G) → Quiet (P w)
-  pub opening : (t : ℕ) (request : List ℕ) (q : ForwardOpen) (g : Origin) (p : Plan) (s : State) (w : G) → verdict_of request q s ≡ Planned p → P w s →
+  pub opening : (t : ℕ) (request : List ℕ) (q : ForwardOpen) (g : Origin) (p : Plan) (s : State) (w : G) → verdict_of request q s ≡ Ok p → P w s →
       P (r.on_open t request q g (acceptance q g p s.next_id) w) (opened t q g (config_bytes request q) p s)
-  pub closing : (k : Triad) (c : Conn) (s : State) (w : G) → find (conn_triad k) s.table ≡ some c → P w s →
+  pub closing : (k : Triad) (c : Conn) (s : State) (w : G) → find (conn_triad k) s.table ≡ Some c → P w s →
       P (r.on_close k w) (removed false Closed c (without_first (conn_triad k) s.table) s)
   pub expiring : (t : ℕ) (s : State) (w : G) → P w s → P (r.on_expire t w) (expire_effect t s)
   pub hearing : (t from : ℕ) (f : Frame) (s : State) (w : G) → P w s → P (r.on_frame t from f w) (received t from f s)

@@ -1,12 +1,11 @@
 -- WHAT A CALL TELLS: its events in their order, before the list drops any; and the list that a call leaves is the list before with these
 -- pushed onto it, one after the other (proofs/Told.antt). Only next_event takes one away.
-use Rattle.std.specs.Prelude.{List, [], ◌∷◌, ◌++◌, Bool, cond, ℕ, zero, suc, length}
-use Rattle.std.proofs.Math.Option.{Option, none, some}
+use Rattle.std.specs.Prelude.{List, [], ◌∷◌, ◌++◌, Bool, cond, ℕ, zero, suc, length, Option, Some, None, Result, Ok, Err}
+use Rattle.base_ids.specs.declared.Triad.{Triad}
+use Rattle.rules.specs.declared.Plan.{Plan}
+use Rattle.rules.specs.declared.Stop.{Stop}
 use Rattle.wire_rules.specs.Frames.{io_of}
 use Rattle.wire_rules.specs.Opens.{close_of}
-use Rattle.wire_rules.specs.declared.OpenAnswer.TheVariants.{Open, NoOpen}
-use Rattle.wire_rules.specs.declared.CloseAnswer.TheVariants.{Close, NoClose}
-use Rattle.rules.specs.declared.Verdict.TheVariants.{Stopped, Planned}
 use Rattle.rules.specs.declared.Event.TheVariants.{Opened, Closed, TimedOut}
 use Rattle.rules.specs.Lists.{find, without_first, maybe}
 use Rattle.rules.specs.State.{Setup, Events, State}
@@ -17,16 +16,16 @@ use Rattle.rules.specs.Removal.{handed_over, listeners_of, closed_events, conn_t
 use Rattle.rules.specs.Receiving.{Frame, meant_for, output_events, frame_of}
 use Rattle.rules.specs.Calls
 use Rattle.rules.specs.Calls.{Call, answer}
-use Rattle.rules_steps.specs.Names.{ForwardOpen, OpenAnswer, CloseAnswer, Origin, Conn, Info, Event, Verdict}
+use Rattle.rules_steps.specs.Names.{ForwardOpen, Origin, Conn, Info, Event}
 
 -- an accepted open: Opened, then the configuration data that it stored
-abbrev pub plan_told : State → ForwardOpen → Origin → List ℕ → Verdict → List Event
-plan_told s q g bytes (Stopped x) = []
-plan_told s q g bytes (Planned p) = Opened (info_of s.setup (new_fixed q g p s.next_id)) ∷ config_event s.setup p.stores bytes
+abbrev pub plan_told : State → ForwardOpen → Origin → List ℕ → Result Plan Stop → List Event
+plan_told s q g bytes (Err x) = []
+plan_told s q g bytes (Ok p) = Opened (info_of s.setup (new_fixed q g p s.next_id)) ∷ config_event s.setup p.stores bytes
 
-abbrev pub asked_told : Origin → List ℕ → State → OpenAnswer → List Event
-asked_told g request s NoOpen = []
-asked_told g request s (Open q) = plan_told s q g (config_bytes request q) (verdict_of request q s)
+abbrev pub asked_told : Origin → List ℕ → State → Option ForwardOpen → List Event
+asked_told g request s None = []
+asked_told g request s (Some q) = plan_told s q g (config_bytes request q) (verdict_of request q s)
 
 -- a removal: the listeners that close with it in table order, then its own
 abbrev pub removal_told : (Info → Event) → Conn → List Conn → Setup → List Event
@@ -35,9 +34,9 @@ removal_told why c rest u = closed_events u (listeners_of c (handed_over c rest)
 abbrev pub gone_told : (Info → Event) → (Conn → Bool) → State → Option Conn → List Event
 gone_told why p s x = maybe [] (λ c. removal_told why c (without_first p s.table) s.setup) x
 
-abbrev pub close_told : State → CloseAnswer → List Event
-close_told s NoClose = []
-close_told s (Close k) = gone_told Closed (conn_triad k) s (find (conn_triad k) s.table)
+abbrev pub close_told : State → Option Triad → List Event
+close_told s None = []
+close_told s (Some k) = gone_told Closed (conn_triad k) s (find (conn_triad k) s.table)
 
 -- an expiry: each removal's in its turn
 abbrev pub expire_told : ℕ → ℕ → State → List Event
@@ -45,8 +44,8 @@ expire_told t zero s = []
 expire_told t (suc n) s = gone_told TimedOut (expired t) s (find (expired t) s.table) ++ expire_told t n (expired_first t s)
 
 abbrev pub frame_told : ℕ → State → Option Frame → List Event
-frame_told from s none = []
-frame_told from s (some f) = maybe [] (λ c. output_events s.setup f c s.contents) (find (meant_for from f) s.table)
+frame_told from s None = []
+frame_told from s (Some f) = maybe [] (λ c. output_events s.setup f c s.contents) (find (meant_for from f) s.table)
 
 -- what it tells where it is not refused
 abbrev yes_told : Call → State → List Event

@@ -1,67 +1,68 @@
 // The table, a case to a line: a word, of which the first letter counts, four numbers, and the name that the report has for it. A case
 // with - for a name is a step towards the next, and says nothing.
-use crate::{calls, setups, tally, text};
+use crate::lent::Lent;
+use crate::tally;
 use std::io;
 
-// The number that a column has; what is no digit counts as a blank.
-fn number(column: &[u8]) -> u64 {
-    let mut n: u64 = 0;
-    let mut i: usize = 0;
-    while i < column.len() {
-        let c = column[i];
-        if c != b' ' {
-            n = n % 1152921504606846976 * 10 + (c % 16) as u64;
-        }
-        i += 1;
-    }
-    n
+#[derive(Clone, Copy)]
+pub struct Case<'a> {
+    pub letter: u8,
+    pub a: u64,
+    pub b: u64,
+    pub c: u64,
+    pub d: u64,
+    pub name: &'a [u8],
 }
 
-fn say(
-    rt: &impl Print,
-    kind: u8,
-    name: &[u8],
-    n: [u64; 4],
-    state: &mut [u8; 109057],
-    block: &mut [u8; 193],
-    out: &mut [u8; 1024],
-) -> io::Result<()> {
-    match kind {
+// The number that a column has; a blank is passed over, and what is no digit counts by its low half byte.
+fn number(column: &[u8]) -> u64 {
+    column.iter().filter(|c| **c != b' ').fold(
+        0,
+        |n, c| n % 1152921504606846976 * 10 + u64::from(*c % 16),
+    )
+}
+
+// The case of a line; none where it is too short for one, as behind the last line.
+fn case_of(line: &[u8]) -> Option<Case<'_>> {
+    let name = line.get(58..)?;
+    Some(Case {
+        letter: line[0],
+        a: number(&line[12..32]),
+        b: number(&line[32..40]),
+        c: number(&line[40..48]),
+        d: number(&line[48..56]),
+        name,
+    })
+}
+
+// The first n bytes.
+fn say_bytes(rt: &impl Print, name: &[u8], s: &[u8], n: usize) -> io::Result<()> {
+    rt.write_all(name)?;
+    print!(rt; ":")?;
+    for byte in s.iter().take(n) {
+        print!(rt; " {byte}")?;
+    }
+    println!(rt; "")
+}
+
+fn say_case(rt: &impl Print, case: Case<'_>, lent: &mut Lent) -> io::Result<()> {
+    match case.letter {
         b'#' => {}
-        b'p' => setups::put(block, n[0], n[1]),
-        b'b' => setups::begin(rt, name, n[0], n[1], n[2], state, block)?,
-        b't' => tally::say(rt, name, n[0], n[1], n[2], n[3], state)?,
-        b'l' => text::bytes(rt, name, out, n[0])?,
-        _ => calls::say(rt, kind, name, n, state, out)?,
+        b'p' => lent.put(case.a as usize, case.b),
+        b'b' => lent.begin(rt, case)?,
+        b't' => tally::say(rt, case, &mut lent.state)?,
+        b'l' => say_bytes(rt, case.name, &lent.out, case.a as usize)?,
+        _ => lent.say(rt, case)?,
     }
     Ok(())
 }
 
-fn say_case(
-    rt: &impl Print,
-    line: &[u8],
-    state: &mut [u8; 109057],
-    block: &mut [u8; 193],
-    out: &mut [u8; 1024],
-) -> io::Result<()> {
-    if line.len() < 58 {
-        return Ok(());
-    }
-    let a = number(&line[12..32]);
-    let b = number(&line[32..40]);
-    let c = number(&line[40..48]);
-    let d = number(&line[48..56]);
-    say(rt, line[0], &line[58..], [a, b, c, d], state, block, out)
-}
-
-// A line of the table is a case; what is too short for one, as behind the last line, is passed over.
 pub fn say_all(rt: &impl Print, table: &[u8]) -> io::Result<()> {
-    let mut state = [0u8; 109057];
-    let mut block = [0u8; 193];
-    let mut out = [0u8; 1024];
-    setups::good_block(&mut block);
+    let mut lent = Lent::new();
     for line in table.split(|c| *c == b'\n') {
-        say_case(rt, line, &mut state, &mut block, &mut out)?;
+        if let Some(case) = case_of(line) {
+            say_case(rt, case, &mut lent)?;
+        }
     }
     Ok(())
 }

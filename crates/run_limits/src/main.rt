@@ -7,15 +7,16 @@ ghost use Rattle.std.specs.Prelude.{◌≤◌, IfOk, length};
 mod calls;
 mod cases;
 mod chance;
+mod lent;
 mod owners;
 mod setups;
 mod tally;
-mod text;
 
 use std::io;
 use std::io::Read;
 
-// Reads until the buffer is full or the input ends, and says how many bytes that were.
+// Reads until the buffer is full or the input ends, and says how many bytes that were: std's read_exact says no count where the input ends
+// early, and no library may hold what names std::io, so each program that reads a table has this.
 fn read_full(input: &mut impl Read, buf: &mut [u8]) -> io::Result<usize>
     ensures { IfOk result (λ n. n ≤ length buf.new) }
 {
@@ -23,7 +24,7 @@ fn read_full(input: &mut impl Read, buf: &mut [u8]) -> io::Result<usize>
     while done < buf.len() {
         let n = input.read(&mut buf[done..])?;
         if n == 0 {
-            return Ok(done);
+            break;
         }
         done += n;
     }

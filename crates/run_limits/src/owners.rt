@@ -6,25 +6,17 @@ use adapter::io_calls::threshtide_receive;
 // How many events wait; all are taken.
 pub fn take_all(state: &mut [u8]) -> u64 {
     let mut out = [0u8; 32];
-    let mut n: u64 = 0;
-    while n < 2000 {
-        if threshtide_next_event(state, &mut out) == 9 {
-            return n;
-        }
-        n += 1;
-    }
-    n
+    (0..2000)
+        .find(|_| threshtide_next_event(state, &mut out) == 9)
+        .unwrap_or(2000)
 }
 
 // The connection of the i-th row, the last (docs/STATE.md): from 10.0.0.1, O->T RPI 10,000 with multiplier 0, the owner of the output at
-// a place. It lives until 100,000 and does not produce.
-pub fn join(state: &mut [u8], i: usize, id: u32, output: u16) -> u64 {
+// a place. It lives until 100,000 and does not produce. None where the table has no such row.
+pub fn join(state: &mut [u8], i: usize, id: u32, output: u16) -> Option<u64> {
     let mut row = [0u8; state_layout::ROW];
-    if state.len() != state_layout::STATE_SIZE {
-        return 255;
-    }
-    if i > 31 {
-        return 255;
+    if state.len() != state_layout::STATE_SIZE || i > 31 {
+        return None;
     }
     base_cells::put_u64(&mut row, state_layout::UNTIL, 100000);
     base_cells::put_u8(&mut row, state_layout::ROLE, (output % 256) as u8);
@@ -34,18 +26,15 @@ pub fn join(state: &mut [u8], i: usize, id: u32, output: u16) -> u64 {
     base_cells::put_u16(&mut row, state_layout::SERIAL, (id % 65536) as u16);
     base_copies::copy_in(state, state_layout::TABLE + i * state_layout::ROW, &row);
     base_cells::put_u16(state, state_layout::CONNECTIONS, (i + 1) as u16);
-    0
+    Some(0)
 }
 
 // A change of instance 104, and a read of it, so many times.
-pub fn change(state: &mut [u8], many: u32) -> u64 {
+pub fn change(state: &mut [u8], many: u32) {
     let mut out = [0u8; 5];
-    let mut k: u32 = 0;
-    while k < many {
-        k += 1;
-        let n = (k % 65536) as u16;
-        threshtide_receive(state, 0, calls::PEER, &calls::frame(2, k, n, k % 2 + 1));
+    for k in 1..=many {
+        let cip = (k % 65536) as u16;
+        threshtide_receive(state, 0, calls::PEER, &calls::frame(2, k, cip, k % 2 + 1));
         threshtide_output(state, 104, &mut out);
     }
-    0
 }

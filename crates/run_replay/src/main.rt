@@ -4,7 +4,7 @@
 
 mod calls;
 mod recorded;
-mod text;
+mod replay;
 
 use std::env::FillError;
 use std::io::ErrorKind;
@@ -37,30 +37,25 @@ fn replay_file<R: Print + Eprint + Env + Files>(rt: &R, k: usize) -> io::Result<
             return Ok(false);
         }
     };
-    text::words(rt, &path[..p])?;
-    text::words(rt, b"\n")?;
-    recorded::replay_all(rt, &mut file)?;
+    rt.write_all(&path[..p])?;
+    println!(rt; "")?;
+    replay::replay_all(rt, &mut file)?;
     Ok(true)
 }
 
 // How many arguments there are, the program's name among them.
 fn arg_count(rt: &impl Env) -> usize {
-    for n in 0..usize::MAX {
-        if matches!(rt.arg(n, &mut []), Err(FillError::NotPresent)) {
-            return n;
-        }
-    }
-    usize::MAX
+    (0..usize::MAX)
+        .find(|n| matches!(rt.arg(*n, &mut []), Err(FillError::NotPresent)))
+        .unwrap_or(usize::MAX)
 }
 
 fn main(rt: HostRuntime) -> io::Result<ExitCode> {
     let n = arg_count(&rt);
     let mut unread = false;
     if n < 2 {
-        text::words(
-            &rt,
-            b"usage: replay FILE [FILE ..]\n  FILE  recorded calls, as crates/run_replay/SAMPLE.md says\n",
-        )?;
+        println!(rt; "usage: replay FILE [FILE ..]")?;
+        println!(rt; "  FILE  recorded calls, as crates/run_replay/SAMPLE.md says")?;
     }
     for k in 1..n {
         if !replay_file(&rt, k)? {

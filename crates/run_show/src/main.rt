@@ -6,7 +6,6 @@ ghost use Rattle.std.specs.Prelude.{◌≤◌, IfOk, length};
 mod frames;
 mod opens;
 mod paths;
-mod text;
 
 use std::env::FillError;
 use std::io::{ErrorKind, Read};
@@ -17,7 +16,7 @@ use std::{fs, io, str};
 // One byte more than the greatest frame or message (chapter 1 of the rules), so that a file over size is seen to be.
 const ROOM: usize = 65537;
 
-// What became of a word and its file.
+// What became of a word and its file. Each of the three is met otherwise, which no Option and no Result says more plainly.
 #[derive(Clone, Copy)]
 enum Pair {
     Said,
@@ -76,11 +75,10 @@ fn say_file<R: Print + Eprint + Files>(rt: &R, word: &[u8], path: &[u8]) -> io::
             return Ok(Pair::Unread);
         }
     };
-    text::words(rt, word)?;
-    text::words(rt, b" ")?;
-    text::words(rt, path)?;
-    text::number(rt, b": ", n)?;
-    text::words(rt, b" bytes\n")?;
+    rt.write_all(word)?;
+    rt.write_all(b" ")?;
+    rt.write_all(path)?;
+    println!(rt; ": {n} bytes")?;
     if say_as(rt, word, &bytes[..n])? {
         Ok(Pair::Said)
     } else {
@@ -96,10 +94,7 @@ fn say_pair<R: Print + Eprint + Env + Files>(
 ) -> io::Result<Pair> {
     let mut word = [0u8; 16];
     let mut path = [0u8; 4096];
-    let Ok(w) = rt.arg(first, &mut word) else {
-        return Ok(Pair::Unknown);
-    };
-    let Ok(p) = rt.arg(second, &mut path) else {
+    let (Ok(w), Ok(p)) = (rt.arg(first, &mut word), rt.arg(second, &mut path)) else {
         return Ok(Pair::Unknown);
     };
     say_file(rt, &word[..w], &path[..p])
@@ -107,12 +102,9 @@ fn say_pair<R: Print + Eprint + Env + Files>(
 
 // How many arguments there are, the program's name among them.
 fn arg_count(rt: &impl Env) -> usize {
-    for n in 0..usize::MAX {
-        if matches!(rt.arg(n, &mut []), Err(FillError::NotPresent)) {
-            return n;
-        }
-    }
-    usize::MAX
+    (0..usize::MAX)
+        .find(|n| matches!(rt.arg(*n, &mut []), Err(FillError::NotPresent)))
+        .unwrap_or(usize::MAX)
 }
 
 fn main(rt: HostRuntime) -> io::Result<ExitCode> {
@@ -122,8 +114,8 @@ fn main(rt: HostRuntime) -> io::Result<ExitCode> {
         usage(&rt)?;
         return Ok(ExitCode::SUCCESS);
     }
-    for k in 0..n / 2 {
-        match say_pair(&rt, k + k + 1, k + k + 2)? {
+    for first in (1..n).step_by(2) {
+        match say_pair(&rt, first, first + 1)? {
             Pair::Said => {}
             Pair::Unread => unread = true,
             Pair::Unknown => {

@@ -1,96 +1,72 @@
 // Forward Open and Forward Close requests.
-use crate::{paths, text};
+use crate::paths;
 use base_ids::Triad;
 use std::io;
-use wire_rules::{CloseAnswer, NetParams, NetType, OpenAnswer};
+use wire_rules::{NetParams, NetType};
 
-fn say_net(rt: &impl Print, n: NetType) -> io::Result<()> {
-    match n {
-        NetType::Null => text::words(rt, b", null\n"),
-        NetType::Multicast => text::words(rt, b", multicast\n"),
-        NetType::PointToPoint => text::words(rt, b", point-to-point\n"),
-        NetType::Reserved => text::words(rt, b", reserved type\n"),
+// What is said of an open and of a close that does not parse.
+const UNPARSED: &str =
+    "  does not parse (No. 4): it ends before its path does, or it is over 65,536 bytes";
+
+fn net_name(net: NetType) -> &'static str {
+    match net {
+        NetType::Null => "null",
+        NetType::Multicast => "multicast",
+        NetType::PointToPoint => "point-to-point",
+        NetType::Reserved => "reserved type",
     }
 }
 
-fn say_way(rt: &impl Print, name: &[u8], id: u32, rpi: u32, p: NetParams) -> io::Result<()> {
-    text::words(rt, name)?;
-    text::hex(rt, b": id ", id, 8)?;
-    text::number32(rt, b", RPI ", rpi)?;
-    text::number32(rt, b" us, size ", p.size)?;
-    if p.variable {
-        text::words(rt, b", variable")?;
-    }
-    let net = p.net;
-    say_net(rt, net)
+fn say_way(rt: &impl Print, name: &str, id: u32, rpi: u32, p: NetParams) -> io::Result<()> {
+    let size = p.size;
+    let variable = if p.variable { ", variable" } else { "" };
+    let net = net_name(p.net);
+    println!(rt; "  {name}: id 0x{id:08x}, RPI {rpi} us, size {size}{variable}, {net}")
 }
 
 fn say_triad(rt: &impl Print, t: Triad) -> io::Result<()> {
-    text::hex(rt, b"  triad: serial ", t.serial as u32, 4)?;
-    text::hex(rt, b", vendor ", t.vendor as u32, 4)?;
-    text::hex(rt, b", originator ", t.originator, 8)?;
-    text::words(rt, b"\n")
+    println!(rt;
+        "  triad: serial 0x{:04x}, vendor 0x{:04x}, originator 0x{:08x}",
+        t.serial, t.vendor, t.originator
+    )
 }
 
 fn say_transport(rt: &impl Print, t: u8) -> io::Result<()> {
-    text::hex(rt, b"  transport ", t as u32, 2)?;
-    if wire_numbers::transport_ok(t) {
-        text::words(rt, b" (class 1, bit 7 clear: accepted)\n")
+    let judged = if wire_numbers::transport_ok(t) {
+        "class 1, bit 7 clear: accepted"
     } else {
-        text::words(
-            rt,
-            b" (refused with 0x0103: class 1 with bit 7 clear is accepted)\n",
-        )
-    }
+        "refused with 0x0103: class 1 with bit 7 clear is accepted"
+    };
+    println!(rt; "  transport 0x{t:02x} ({judged})")
 }
 
-fn say_timeout(rt: &impl Print, rpi: u32, multiplier: u8) -> io::Result<()> {
-    text::number32(rt, b"  multiplier ", multiplier as u32)?;
-    text::number64(rt, b", timeout ", wire_numbers::timeout(rpi, multiplier))?;
-    text::words(rt, b" us\n")
-}
-
-fn say_path_at(rt: &impl Print, request: &[u8], start: usize, len: usize) -> io::Result<()> {
-    if request.len() < start {
+fn say_path_in(rt: &impl Print, request: &[u8], start: usize, len: usize) -> io::Result<()> {
+    let Some(path) = request.get(start..).and_then(|rest| rest.get(..len)) else {
         return Ok(());
-    }
-    if request.len() - start < len {
-        return Ok(());
-    }
-    let end = start + len;
-    text::number(rt, b"  path of ", len)?;
-    text::number(rt, b" bytes at ", start)?;
-    text::words(rt, b"\n")?;
-    paths::say_path(rt, &request[start..end])
+    };
+    println!(rt; "  path of {len} bytes at {start}")?;
+    paths::say_path(rt, path)
 }
 
 pub fn say_open(rt: &impl Print, request: &[u8], large: bool) -> io::Result<()> {
     match wire_opens::decode_open(request, large) {
-        OpenAnswer::Open(o) => {
-            let triad = o.triad;
-            say_triad(rt, triad)?;
-            let ot = o.ot;
-            let to = o.to;
-            say_way(rt, b"  O->T", o.otid.0, ot.rpi, ot.params)?;
-            say_way(rt, b"  T->O", o.toid.0, to.rpi, to.params)?;
-            say_timeout(rt, ot.rpi, o.multiplier)?;
+        Some(o) => {
+            let multiplier = o.multiplier;
+            let timeout = wire_numbers::timeout(o.ot.rpi, multiplier);
+            say_triad(rt, o.triad)?;
+            say_way(rt, "O->T", o.otid.0, o.ot.rpi, o.ot.params)?;
+            say_way(rt, "T->O", o.toid.0, o.to.rpi, o.to.params)?;
+            println!(rt; "  multiplier {multiplier}, timeout {timeout} us")?;
             say_transport(rt, o.transport)?;
-            let path = o.path;
-            say_path_at(rt, request, path.start, path.len)
+            say_path_in(rt, request, o.path.start, o.path.len)
         }
-        OpenAnswer::NoOpen => text::words(
-            rt,
-            b"  does not parse (No. 4): it ends before its path does, or it is over 65,536 bytes\n",
-        ),
+        None => rt.println(UNPARSED),
     }
 }
 
 pub fn say_close(rt: &impl Print, request: &[u8]) -> io::Result<()> {
     match wire_opens::decode_close(request) {
-        CloseAnswer::Close(t) => say_triad(rt, t),
-        CloseAnswer::NoClose => text::words(
-            rt,
-            b"  does not parse (No. 4): it ends before its path does, or it is over 65,536 bytes\n",
-        ),
+        Some(t) => say_triad(rt, t),
+        None => rt.println(UNPARSED),
     }
 }

@@ -1,2 +1,3 @@
+pub mod AssemblyChanges
 pub mod Records
 pub mod Pushes

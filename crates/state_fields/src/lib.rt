@@ -7,7 +7,6 @@ ghost use Rattle.state_rules.specs.Places.{table_size};
 ghost use Rattle.state_rules.specs.Rows.{row_at, of_due, dec_sent, dec_heard, dec_fixed};
 
 use base_ids::{OtId, ToId, Triad};
-use rules::Due;
 
 // What a search along the table compares, without the rest of the row.
 pub fn otid_at(r: &[u8], i: usize) -> OtId
@@ -91,7 +90,7 @@ pub fn until_at(r: &[u8], i: usize) -> u64
     base_cells::u64_at(r, i * state_layout::ROW + state_layout::UNTIL)
 }
 
-pub fn due_at(r: &[u8], i: usize) -> Due
+pub fn due_at(r: &[u8], i: usize) -> Option<u64>
     requires { (i < 32) × (table_size ≤ length r.now) }
     ensures { result ≡ (dec_sent (row_at r.now i)).due }
 {

@@ -1,5 +1,5 @@
 -- The state test's tests one by one, as code makes them.
-use Rattle.std.specs.Prelude.{ℕ, ◌+◌, ◌*◌, ◌≤◌, ◌<◌, Bool, ◌&&◌, List, [], ◌∷◌, ◌≡◌, ltb, length, get_or, take}
+use Rattle.std.specs.Prelude.{ℕ, ◌+◌, ◌*◌, ◌≤◌, ◌<◌, Bool, ◌&&◌, List, [], ◌∷◌, ◌≡◌, ltb, length, take}
 use Rattle.std.proofs.Math.Bool.{true, false}
 use Rattle.std.proofs.Math.Path.{refl, ap, sym}
 use Rattle.std.proofs.Common.{◌∙◌, arith, le-leb, le-ltb, lt-ltb, eq-eqb, ne_eqb}
@@ -12,7 +12,7 @@ use Rattle.base_tables.specs.Tables.{rows, rows_rest, rows_end}
 use Rattle.state_rules.specs.Places.{setup_in, state_size, next_id_of, ring_word_of, ring_bound, connections_of, assemblies_of}
 use Rattle.state_rules.specs.Setups.{shape_in, tests_setup, good_setup, tests_shapes, good_shapes}
 use Rattle.state_rules.specs.Listed.{listed_rest, listed_end}
-use Rattle.state_rules.specs.Image.{tests_head, good_head, tests_state, tested}
+use Rattle.state_rules.specs.Image.{good_head, tests_state, tested}
 
 -- ---- the setup, the head, the whole
 
@@ -51,12 +51,12 @@ all_three true true false = refl
 all_three true false c = refl
 all_three false b c = refl
 
--- the three numbers as code reads them, and its answers
-pub head_is : (l : List ℕ) (id ring conns : ℕ) (x y : Bool) → id ≡ next_id_of l → ring ≡ ring_word_of l → conns ≡ connections_of l
-    → x ≡ (ltb 0 id && ltb ring ring_bound) → y ≡ (x && leb conns 32) → y ≡ good_head l
+-- the three numbers as code reads them
+pub head_is : (l : List ℕ) (id ring conns : ℕ) → id ≡ next_id_of l → ring ≡ ring_word_of l → conns ≡ connections_of l
+    → ((ltb 0 id && ltb ring ring_bound) && leb conns 32) ≡ good_head l
 unfolding good_head
-head_is l id ring conns x y ei er ec ex ey =
-    ey ∙ ap (λ (b : Bool). b && leb conns 32) ex ∙ (λ j. (ltb 0 (ei j) && ltb (er j) ring_bound) && leb (ec j) 32)
+head_is l id ring conns ei er ec =
+    (λ j. (ltb 0 (ei j) && ltb (er j) ring_bound) && leb (ec j) 32)
     ∙ all_three (ltb 0 (next_id_of l)) (ltb (ring_word_of l) ring_bound) (leb (connections_of l) 32)
 
 all_one : (b : Bool) → b ≡ all (b ∷ [])
@@ -126,12 +126,10 @@ module _ (r : List ℕ) where
   unfolding good_shapes
   run_begins = refl
 
-  -- a turn, with the size that code read and what it then knows
-  pub run_on : (i v : ℕ) (b x : Bool) → i < 16 → good_shapes r ≡ (b && all (drop i (tests_shapes r))) → v ≡ (shape_in r i).size → x ≡ (b && leb v 512)
-      → good_shapes r ≡ (x && all (drop (i + 1) (tests_shapes r)))
-  run_on i v b x h e ev ex =
-      e ∙ sizes_on i b h ∙ ap (λ (k : ℕ). (b && leb k 512) && all (drop (i + 1) (tests_shapes r))) (sym ev)
-      ∙ ap (λ (y : Bool). y && all (drop (i + 1) (tests_shapes r))) (sym ex)
+  -- a turn, with the size that code read
+  pub run_on : (i v : ℕ) (b : Bool) → i < 16 → good_shapes r ≡ (b && all (drop i (tests_shapes r))) → v ≡ (shape_in r i).size
+      → good_shapes r ≡ ((b && leb v 512) && all (drop (i + 1) (tests_shapes r)))
+  run_on i v b h e ev = e ∙ sizes_on i b h ∙ ap (λ (k : ℕ). (b && leb k 512) && all (drop (i + 1) (tests_shapes r))) (sym ev)
 
   pub run_ends : (i : ℕ) (b : Bool) → 16 ≤ i → good_shapes r ≡ (b && all (drop i (tests_shapes r))) → b ≡ good_shapes r
   run_ends i b h e = sym (e ∙ sizes_end i b h)

@@ -31,17 +31,7 @@ pub fn setup_good(r: &[u8]) -> bool
     true
 }
 
-// Without a jump, so that a test of several numbers has none.
-fn both(a: bool, b: bool) -> bool
-    ensures { result ≡ (a && b) }
-{
-    if a {
-        return b;
-    }
-    false
-}
-
-// The next id, the ring's word and the number of connections.
+// The next id, the ring's word and the number of connections; `&` has no jump, so neither has a test of several numbers.
 fn head_good(s: &[u8]) -> bool
     requires { length s.now ≡ state_size }
     ensures { result ≡ good_head s.now }
@@ -49,19 +39,17 @@ fn head_good(s: &[u8]) -> bool
     let id = base_cells::u32_at(s, state_layout::NEXT_ID);
     let ring = base_cells::u32_at(s, state_layout::RING);
     let conns = base_cells::u16_at(s, state_layout::CONNECTIONS);
-    both(both(0 < id, ring < state_layout::RING_BOUND), conns <= 32)
+    (0 < id) & (ring < state_layout::RING_BOUND) & (conns <= 32)
 }
 
-// All 16 sizes, in use or not: one run along their column.
+// All 16 sizes, in use or not: one run along their column, with no jump out of it, which `all` would have.
 fn shapes_good(r: &[u8]) -> bool
     requires { setup_size ≤ length r.now }
     ensures { result ≡ good_shapes r.now }
 {
     let mut good = true;
-    let mut i = 0;
-    while i < 16 {
-        good = both(good, state_layout::size_at(r, i) <= 512);
-        i += 1;
+    for i in 0..16 {
+        good &= state_layout::size_at(r, i) <= 512;
     }
     good
 }

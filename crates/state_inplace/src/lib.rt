@@ -10,18 +10,15 @@ ghost use Rattle.state_rules.specs.Cut.{cut};
 ghost use Rattle.state_rules.specs.Rows.{w_sent, w_heard, w_fixed, w_low, w_high, of_due, role_of, list_sent, list_heard, list_fixed, enc_sent, enc_heard, enc_conn};
 ghost use Rattle.state_rules.specs.Places.{table_size, row_size};
 
-use rules::{Conn, Due, Fixed, Heard, Kind, Sent};
+use rules::{Conn, Fixed, Heard, Kind, Sent};
 
 // ---- numbers for what is no number
 
-fn due_number(d: Due) -> u64
+fn due_number(d: Option<u64>) -> u64
     requires { of_due d < 18446744073709551616 }
     ensures { result ≡ of_due d }
 {
-    match d {
-        Due::Never => 0,
-        Due::At(t) => t + 1,
-    }
+    d.map_or(0, |t| t + 1)
 }
 
 // An owner's output, or what the kind is.
@@ -55,8 +52,7 @@ fn put_sent_in(row: &mut [u8], s: Sent)
     requires { (row_size ≤ length row.old) × (of_due s.due < 18446744073709551616) }
     ensures { row.new ≡ put_fields w_sent row.old 0 (list_sent s) }
 {
-    let d = s.due;
-    base_cells::put_u64(row, state_layout::DUE, due_number(d));
+    base_cells::put_u64(row, state_layout::DUE, due_number(s.due));
     base_cells::put_u32(row, state_layout::SEQUENCE, s.sequence);
     base_cells::put_u16(row, state_layout::CIP, s.cip);
 }
@@ -75,84 +71,50 @@ fn put_heard_in(row: &mut [u8], carried: u8, h: Heard)
     );
 }
 
-fn put_fixed_low(
-    row: &mut [u8],
-    role: u8,
-    port: u16,
-    otid: u32,
-    originator: u32,
-    toid: u32,
-    otrpi: u32,
-)
+fn put_fixed_low(row: &mut [u8], f: Fixed)
     requires { row_size ≤ length row.old }
-    ensures { row.new ≡ put_fields w_low row.old 29 (role ∷ port ∷ otid ∷ originator ∷ toid ∷ otrpi ∷ []) }
+    ensures { row.new ≡ put_fields w_low row.old 29 (role_of f.kind f.output ∷ f.dest.port ∷ f.otid.0 ∷ f.originator ∷ f.toid.0 ∷ f.otrpi ∷ []) }
 {
-    base_cells::put_u8(row, state_layout::ROLE, role);
-    base_cells::put_u16(row, state_layout::PORT, port);
-    base_cells::put_u32(row, state_layout::O_T_ID, otid);
-    base_cells::put_u32(row, state_layout::ORIGINATOR, originator);
-    base_cells::put_u32(row, state_layout::T_O_ID, toid);
-    base_cells::put_u32(row, state_layout::O_T_RPI, otrpi);
+    base_cells::put_u8(row, state_layout::ROLE, role_number(f.kind, f.output));
+    base_cells::put_u16(row, state_layout::PORT, f.dest.port);
+    base_cells::put_u32(row, state_layout::O_T_ID, f.otid.0);
+    base_cells::put_u32(row, state_layout::ORIGINATOR, f.originator);
+    base_cells::put_u32(row, state_layout::T_O_ID, f.toid.0);
+    base_cells::put_u32(row, state_layout::O_T_RPI, f.otrpi);
 }
 
-fn put_fixed_high(
-    row: &mut [u8],
-    torpi: u32,
-    address: u32,
-    local: u32,
-    serial: u16,
-    vendor: u16,
-    owner: u32,
-    multiplier: u8,
-)
+fn put_fixed_high(row: &mut [u8], f: Fixed)
     requires { row_size ≤ length row.old }
-    ensures { row.new ≡ put_fields w_high row.old 48 (torpi ∷ address ∷ local ∷ serial ∷ vendor ∷ owner ∷ multiplier ∷ []) }
+    ensures { row.new ≡ put_fields w_high row.old 48 (f.torpi ∷ f.dest.address ∷ f.local ∷ f.triad.serial ∷ f.triad.vendor ∷ f.triad.originator ∷ f.multiplier ∷ []) }
 {
-    base_cells::put_u32(row, state_layout::T_O_RPI, torpi);
-    base_cells::put_u32(row, state_layout::ADDRESS, address);
-    base_cells::put_u32(row, state_layout::LOCAL, local);
-    base_cells::put_u16(row, state_layout::SERIAL, serial);
-    base_cells::put_u16(row, state_layout::VENDOR, vendor);
-    base_cells::put_u32(row, state_layout::ORIGINATOR_SERIAL, owner);
-    base_cells::put_u8(row, state_layout::MULTIPLIER, multiplier);
+    base_cells::put_u32(row, state_layout::T_O_RPI, f.torpi);
+    base_cells::put_u32(row, state_layout::ADDRESS, f.dest.address);
+    base_cells::put_u32(row, state_layout::LOCAL, f.local);
+    base_cells::put_u16(row, state_layout::SERIAL, f.triad.serial);
+    base_cells::put_u16(row, state_layout::VENDOR, f.triad.vendor);
+    base_cells::put_u32(row, state_layout::ORIGINATOR_SERIAL, f.triad.originator);
+    base_cells::put_u8(row, state_layout::MULTIPLIER, f.multiplier);
 }
 
 fn put_fixed_in(row: &mut [u8], f: Fixed)
     requires { row_size ≤ length row.old }
     ensures { row.new ≡ put_fields w_fixed row.old 29 (list_fixed f) }
 {
-    let k = f.kind;
-    put_fixed_low(
-        row,
-        role_number(k, f.output),
-        f.dest.port,
-        f.otid.0,
-        f.originator,
-        f.toid.0,
-        f.otrpi,
-    );
-    put_fixed_high(
-        row,
-        f.torpi,
-        f.dest.address,
-        f.local,
-        f.triad.serial,
-        f.triad.vendor,
-        f.triad.originator,
-        f.multiplier,
-    );
+    put_fixed_low(row, f);
+    put_fixed_high(row, f);
 }
 
 fn put_conn_in(row: &mut [u8], c: Conn)
     requires { (row_size ≤ length row.old) × (of_due c.sent.due < 18446744073709551616) × (c.fixed.input ≤ 31) }
     ensures { row.new ≡ sets row.old 0 (enc_conn c) }
 {
-    let f = c.fixed;
-    let h = c.heard;
-    let s = c.sent;
-    put_sent_in(row, s);
-    put_heard_in(row, carried_number(f.multicast, f.input), h);
-    put_fixed_in(row, f);
+    put_sent_in(row, c.sent);
+    put_heard_in(
+        row,
+        carried_number(c.fixed.multicast, c.fixed.input),
+        c.heard,
+    );
+    put_fixed_in(row, c.fixed);
 }
 
 // ---- rows of the table's region

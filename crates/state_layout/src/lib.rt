@@ -95,21 +95,10 @@ pub const ORIGINATOR_SERIAL: usize = 64;
 
 pub const MULTIPLIER: usize = 68;
 
-// Where a search along the rows, or along the shapes, found the first that it looks for.
-#[derive(Clone, Copy)]
-pub enum Found {
-    At(usize),
-    Nowhere,
-}
-
 pub fn is_owner(k: Kind) -> bool
     ensures { result ≡ is_owner k }
 {
-    match k {
-        Kind::Owner => true,
-        Kind::InputOnly => false,
-        Kind::ListenOnly => false,
-    }
+    matches!(k, Kind::Owner)
 }
 
 // ---- shapes, in the setup's region
@@ -117,13 +106,11 @@ pub fn is_owner(k: Kind) -> bool
 fn kind_named(n: u8) -> AssemblyKind
     ensures { result ≡ kind_named n }
 {
-    if n == 2 {
-        return AssemblyKind::Output;
+    match n {
+        2 => AssemblyKind::Output,
+        3 => AssemblyKind::Config,
+        _ => AssemblyKind::Input,
     }
-    if n == 3 {
-        return AssemblyKind::Config;
-    }
-    AssemblyKind::Input
 }
 
 pub fn instance_at(r: &[u8], i: usize) -> u16

@@ -1,5 +1,5 @@
 -- A connection's record as code writes it: the widths of its numbers, one behind the other.
-use Rattle.std.specs.Prelude.{ℕ, ◌+◌, ◌≤◌, List, [], ◌∷◌, ◌++◌, ◌≡◌, refl, length}
+use Rattle.std.specs.Prelude.{ℕ, ◌+◌, List, [], ◌∷◌, ◌++◌, ◌≡◌, refl, length}
 use Rattle.std.proofs.Common.{ap, sym, ◌∙◌, arith}
 use Rattle.std.proofs.lemmas.List.Edits.{sets}
 use Rattle.base_cells.specs.Numbers.{le_bytes, sets_append}
@@ -30,18 +30,15 @@ unfolding le_bytes info_record
 length_info what i = refl
 
 -- the two halves put one after the other
-pub info_put : (r r₁ r₂ : List ℕ) (what k : ℕ) (i : Info) → k ≡ kind_number i.kind
-    → r₁ ≡ put_fields w_low r 0 (what ∷ k ∷ of_bool i.multicast ∷ 0 ∷ i.originator ∷ i.otrpi ∷ i.torpi ∷ [])
-    → r₂ ≡ put_fields w_high r₁ 16 (list_high i) → r₂ ≡ sets r 0 (info_record what i)
+pub info_put : (r r₁ r₂ : List ℕ) (what : ℕ) (i : Info) → r₁ ≡ put_fields w_low r 0 (list_low what i) → r₂ ≡ put_fields w_high r₁ 16 (list_high i)
+    → r₂ ≡ sets r 0 (info_record what i)
 unfolding sum
-info_put r r₁ r₂ what k i ek e₁ e₂ =
+info_put r r₁ r₂ what i e₁ e₂ =
     let low : List ℕ = enc_fields w_low (list_low what i) in
     let high : List ℕ = enc_fields w_high (list_high i) in
     let n : length low ≡ 16 = length_enc_fields w_low (list_low what i) tt in
-    let p : r₁ ≡ sets r 0 low =
-    e₁ ∙ ap (λ (x : ℕ). put_fields w_low r 0 (what ∷ x ∷ of_bool i.multicast ∷ 0 ∷ i.originator ∷ i.otrpi ∷ i.torpi ∷ [])) ek ∙ put_fields_eq w_low r 0 (list_low what i) in
     e₂ ∙ put_fields_eq w_high r₁ 16 (list_high i)
-    ∙ ap (λ (z : List ℕ). sets z 16 high) p
+    ∙ ap (λ (z : List ℕ). sets z 16 high) (e₁ ∙ put_fields_eq w_low r 0 (list_low what i))
     ∙ ap (λ (m : ℕ). sets (sets r 0 low) m high) (let q : 16 ≡ 0 + length low = omega arith in q)
     ∙ sym (sets_append r 0 low high)
     ∙ ap (sets r 0) (info_is what i)

@@ -1,14 +1,14 @@
 -- What is told of a connection's assemblies, from the setup's region.
-use Rattle.std.specs.Prelude.{ℕ, ◌≤◌, ◌<◌, cond, List, [], ◌≡◌, refl, length, get_or}
-use Rattle.std.proofs.Common.{ap, ◌∙◌, arith}
+use Rattle.std.specs.Prelude.{ℕ, ◌≤◌, ◌<◌, cond, List, [], ◌≡◌, refl}
+use Rattle.std.proofs.Common.{arith}
 use Rattle.std.proofs.Math.Path.{sym}
 use Rattle.std.proofs.Math.ListN.{get_or-eq_default}
-use Rattle.rules.specs.State.{Setup, Shape, no_shape, shape_at, is_owner}
+use Rattle.rules.specs.State.{Shape, no_shape, shape_at, is_owner}
 use Rattle.rules.specs.Events.{info_of}
 use Rattle.rules.specs.declared.Kind.{Kind}
 use Rattle.rules.specs.declared.Info.{Info}
 use Rattle.rules.specs.declared.Fixed.{Fixed}
-use Rattle.state_rules.specs.Places.{setup_in, eds_in, assemblies_of}
+use Rattle.state_rules.specs.Places.{setup_in, assemblies_of}
 use Rattle.state_rules.specs.Setups.{shape_in, setup_from, setup_of, shapes_of}
 use Rattle.state_rules.specs.SetupLaws.{length_shapes, shape_of_lem}
 

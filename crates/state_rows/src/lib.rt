@@ -6,38 +6,30 @@ ghost use Rattle.state_rules.specs.Places.{table_size, row_size};
 ghost use Rattle.state_rules.specs.Rows.{row_at, to_due, kind_in, output_in, multicast_in, input_in, any_in, anycip_in, dec_sent, dec_heard, dec_fixed};
 
 use base_ids::{OtId, ToId, Triad};
-use rules::{Due, Fixed, Heard, Kind, Sent, Socket};
+use rules::{Fixed, Heard, Kind, Sent, Socket};
 
 // ---- numbers for what is no number
 
-pub fn due_of(n: u64) -> Due
+pub fn due_of(n: u64) -> Option<u64>
     ensures { result ≡ to_due n }
 {
-    if n == 0 {
-        return Due::Never;
-    }
-    Due::At(n - 1)
+    n.checked_sub(1)
 }
 
 fn kind_in(role: u8) -> Kind
     ensures { result ≡ kind_in role }
 {
-    if role < 254 {
-        return Kind::Owner;
+    match role {
+        0..=253 => Kind::Owner,
+        254 => Kind::InputOnly,
+        255 => Kind::ListenOnly,
     }
-    if role == 254 {
-        return Kind::InputOnly;
-    }
-    Kind::ListenOnly
 }
 
 pub fn output_in(role: u8) -> u8
     ensures { result ≡ output_in role }
 {
-    if role < 254 {
-        return role;
-    }
-    0
+    if role < 254 { role } else { 0 }
 }
 
 pub fn multicast_in(flags: u8) -> bool
@@ -93,11 +85,9 @@ fn fixed_of(row: &[u8]) -> Fixed
 {
     let flags = base_cells::u8_at(row, state_layout::FLAGS);
     let role = base_cells::u8_at(row, state_layout::ROLE);
-    let triad = triad_of(row);
-    let dest = dest_of(row);
     Fixed {
         kind: kind_in(role),
-        triad: triad,
+        triad: triad_of(row),
         originator: base_cells::u32_at(row, state_layout::ORIGINATOR),
         otid: OtId(base_cells::u32_at(row, state_layout::O_T_ID)),
         toid: ToId(base_cells::u32_at(row, state_layout::T_O_ID)),
@@ -106,7 +96,7 @@ fn fixed_of(row: &[u8]) -> Fixed
         torpi: base_cells::u32_at(row, state_layout::T_O_RPI),
         input: input_in(flags),
         output: output_in(role),
-        dest: dest,
+        dest: dest_of(row),
         multicast: multicast_in(flags),
         local: base_cells::u32_at(row, state_layout::LOCAL),
     }
@@ -130,39 +120,41 @@ fn sent_of(row: &[u8]) -> Sent
     requires { row_size ≤ length row.now }
     ensures { result ≡ dec_sent row.now }
 {
-    let due = due_of(base_cells::u64_at(row, state_layout::DUE));
     Sent {
         sequence: base_cells::u32_at(row, state_layout::SEQUENCE),
         cip: base_cells::u16_at(row, state_layout::CIP),
-        due: due,
+        due: due_of(base_cells::u64_at(row, state_layout::DUE)),
     }
 }
 
 // ---- rows of the table's region
 
+fn row(r: &[u8], i: usize) -> &[u8]
+    requires { (i < 32) × (table_size ≤ length r.now) }
+    ensures bytes { result.now ≡ row_at r.now i }
+    ensures size { length result.now ≡ row_size }
+{
+    let start = i * state_layout::ROW;
+    &r[start..start + state_layout::ROW]
+}
+
 pub fn fixed_at(r: &[u8], i: usize) -> Fixed
     requires { (i < 32) × (table_size ≤ length r.now) }
     ensures { result ≡ dec_fixed (row_at r.now i) }
 {
-    let a = i * state_layout::ROW;
-    let e = a + state_layout::ROW;
-    fixed_of(&r[a..e])
+    fixed_of(row(r, i))
 }
 
 pub fn heard_at(r: &[u8], i: usize) -> Heard
     requires { (i < 32) × (table_size ≤ length r.now) }
     ensures { result ≡ dec_heard (row_at r.now i) }
 {
-    let a = i * state_layout::ROW;
-    let e = a + state_layout::ROW;
-    heard_of(&r[a..e])
+    heard_of(row(r, i))
 }
 
 pub fn sent_at(r: &[u8], i: usize) -> Sent
     requires { (i < 32) × (table_size ≤ length r.now) }
     ensures { result ≡ dec_sent (row_at r.now i) }
 {
-    let a = i * state_layout::ROW;
-    let e = a + state_layout::ROW;
-    sent_of(&r[a..e])
+    sent_of(row(r, i))
 }

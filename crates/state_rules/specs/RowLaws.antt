@@ -1,6 +1,6 @@
 -- The laws of a connection's row: what is written is read back, what was read is written again, and each part is changed in place.
 use Prim.Native.Nat.{ℕ, zero, suc, ◌+◌, ◌-◌, ◌*◌, ◌/◌, ◌%◌, ◌≤◌, ◌<◌}
-use Rattle.std.specs.Prelude.{Bool, true, false, ◌≡◌, length, get_or, take, drop, eqb, ltb}
+use Rattle.std.specs.Prelude.{Bool, true, false, ◌≡◌, length, get_or, take, drop, eqb, ltb, Option, Some, None}
 use mathlib.Core.List.{List, [], ◌∷◌, ◌++◌, append-nil, append_assoc}
 use Rattle.std.proofs.Math.Path.{refl, ap, ap₂}
 use Rattle.std.proofs.Common.{sym, ◌∙◌, arith, length-append, take_all, take-add, drop-drop, ltb-true, ltb-false, eqb-true, lt-ltb, le-ltb, ne_eqb}
@@ -18,8 +18,6 @@ use Rattle.rules.specs.declared.Kind.{Kind}
 use Rattle.rules.specs.declared.Kind.TheVariants.{Owner, InputOnly, ListenOnly}
 use Rattle.rules.specs.declared.Fixed.{Fixed}
 use Rattle.rules.specs.declared.Heard.{Heard}
-use Rattle.rules.specs.declared.Due.{Due}
-use Rattle.rules.specs.declared.Due.TheVariants.{Never, At}
 use Rattle.rules.specs.declared.Sent.{Sent}
 use Rattle.rules.specs.declared.Conn.{Conn}
 use Rattle.state_rules.specs.Places.{row_size}
@@ -27,9 +25,9 @@ use Rattle.state_rules.specs.Rows.{w_sent, w_heard, w_fixed, of_due, to_due, car
 
 -- ---- due times, roles and flags are numbers
 
-pub to_of_due : (d : Due) → to_due (of_due d) ≡ d
-to_of_due Never = refl
-to_of_due (At t) = rw (ne_eqb (t + 1) 0 (λ e. omega arith)) (ap At (omega arith))
+pub to_of_due : (d : Option ℕ) → to_due (of_due d) ≡ d
+to_of_due None = refl
+to_of_due (Some t) = rw (ne_eqb (t + 1) 0 (λ e. omega arith)) (ap Some (omega arith))
 
 pub of_to_due : (n : ℕ) → of_due (to_due n) ≡ n
 of_to_due zero = refl

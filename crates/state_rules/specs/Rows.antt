@@ -1,6 +1,6 @@
 -- A connection's row: what produce changes (14), what its originator's frames change (15), what never changes (40).
 -- Every pattern of a row's bytes is one connection, so that no row needs a test.
-use Rattle.std.specs.Prelude.{ℕ, ◌+◌, ◌-◌, ◌*◌, ◌/◌, ◌%◌, ◌≤◌, Bool, cond, List, [], ◌∷◌, ◌++◌, ◌≡◌, eqb, ltb, get_or, take, drop}
+use Rattle.std.specs.Prelude.{ℕ, ◌+◌, ◌-◌, ◌*◌, ◌/◌, ◌%◌, ◌≤◌, Bool, cond, List, [], ◌∷◌, ◌++◌, ◌≡◌, eqb, ltb, get_or, take, drop, Option, Some, None}
 use Rattle.base_cells.specs.Numbers.{le}
 use Rattle.base_cells.specs.Pick.{pick}
 use Rattle.base_cells.specs.Records.{enc_fields, dec_fields, to_bool, of_bool}
@@ -9,8 +9,6 @@ use Rattle.rules.specs.declared.Kind.{Kind}
 use Rattle.rules.specs.declared.Kind.TheVariants.{Owner, InputOnly, ListenOnly}
 use Rattle.rules.specs.declared.Fixed.{Fixed}
 use Rattle.rules.specs.declared.Heard.{Heard}
-use Rattle.rules.specs.declared.Due.{Due}
-use Rattle.rules.specs.declared.Due.TheVariants.{Never, At}
 use Rattle.rules.specs.declared.Sent.{Sent}
 use Rattle.rules.specs.declared.Conn.{Conn}
 use Rattle.state_rules.specs.Places.{row_size}
@@ -25,12 +23,12 @@ abbrev pub w_sent : List ℕ
 w_sent = 8 ∷ 4 ∷ 2 ∷ []
 
 -- 0 for a connection that does not produce, else the due time and one
-abbrev pub of_due : Due → ℕ
-of_due Never = 0
-of_due (At t) = t + 1
+abbrev pub of_due : Option ℕ → ℕ
+of_due None = 0
+of_due (Some t) = t + 1
 
-abbrev pub to_due : ℕ → Due
-to_due n = cond (eqb n 0) Never (At (n - 1))
+abbrev pub to_due : ℕ → Option ℕ
+to_due n = cond (eqb n 0) None (Some (n - 1))
 
 abbrev pub list_sent : Sent → List ℕ
 list_sent s = of_due s.due ∷ s.sequence ∷ s.cip ∷ []

@@ -1,6 +1,5 @@
 -- What the setup region and the EDS say. No call but setup writes them, so their bytes are read and never written back.
-use Rattle.std.specs.Prelude.{ℕ, ◌+◌, ◌-◌, ◌*◌, Bool, cond, List, [], ◌∷◌, eqb, leb, ltb, take, drop}
-use Rattle.std.proofs.Math.Option.{Option, none, some}
+use Rattle.std.specs.Prelude.{ℕ, ◌+◌, ◌-◌, ◌*◌, Bool, cond, List, [], ◌∷◌, eqb, leb, ltb, take, drop, Option, Some, None}
 use Rattle.base_cells.specs.Numbers.{le}
 use Rattle.base_cells.specs.Back.{all}
 use Rattle.rules.specs.declared.AssemblyKind.{AssemblyKind}
@@ -36,7 +35,7 @@ identity_of r =
 
 -- the EDS mark is 0 for no EDS, else its length and one
 abbrev pub eds_of : ℕ → List ℕ → Option (List ℕ)
-eds_of mark e = cond (eqb mark 0) none (some (take (mark - 1) e))
+eds_of mark e = cond (eqb mark 0) None (Some (take (mark - 1) e))
 
 -- number of assemblies 1 at 0, transfer limit 1 at 1, EDS name's length 1 at 3, EDS mark 4 at 4, input-only heartbeat 4 at 20,
 -- listen-only 4 at 24, least RPI 4 at 28, greatest 4 at 32, late limit 4 at 36, MAC 6 at 40, EDS name at 78

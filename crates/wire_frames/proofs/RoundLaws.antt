@@ -1,5 +1,6 @@
 -- A frame that was written is read again.
-use Prim.Native.Nat.{ℕ, ◌+◌, ◌-◌, ◌<◌, ◌≤◌}
+use Rattle.std.specs.Prelude.{Option, Some, None}
+use Prim.Native.Nat.{ℕ, ◌+◌, ◌<◌, ◌≤◌}
 use mathlib.Core.Path.{◌≡◌, refl, sym, ap, ap₂, ◌∙◌}
 use mathlib.Core.List.{List, [], ◌∷◌, ◌++◌, append_assoc}
 use lib.ListN.{length, take, drop, get_or, length-append, length-drop, take-append-drop}
@@ -11,8 +12,6 @@ use borrow.Author.Tests.{le-leb}
 use Rattle.base_cells.specs.Numbers.{le, le_bytes, length_le_bytes, slice_sets, take_sets, drop_sets_add}
 use Rattle.base_cells.specs.Records.{sum, enc_fields, dec_fields, dec_enc, length_enc_fields}
 use Rattle.base_cells.specs.Writes.{written_all}
-use Rattle.base_cells.specs.declared.Written.{Written}
-use Rattle.base_cells.specs.declared.Written.TheVariants.{Bytes, NoRoom}
 use Rattle.wire_rules.specs.Frames.{ot_id, io_of, io_frame}
 use Rattle.wire_rules.specs.Writing.{frame_written, behind, frame_appended}
 use Rattle.wire_items.specs.Head.{Head}
@@ -59,7 +58,7 @@ module _ (id sequence cip : ℕ) (bs : List ℕ) where
 
   module _ (out : List ℕ) (at : ℕ) where
     pub appended : length bs ≤ 65533 → at + (20 + length bs) ≤ length out
-        → frame_appended out at id sequence cip bs ≡ (Bytes (20 + length bs), sets out at s)
+        → frame_appended out at id sequence cip bs ≡ (Some (20 + length bs), sets out at s)
     unfolding frame_appended frame_written
     appended h r =
         let n : length s ≡ 20 + length bs = frame_length id sequence cip bs in
@@ -69,24 +68,24 @@ module _ (id sequence cip : ℕ) (bs : List ℕ) where
         let z : take at out ++ sets (drop at out) 0 s ≡ sets out at s =
         ap₂ ◌++◌ (sym (take_sets at out at s (omega arith))) (sym (drop_sets_add at out 0 s) ∙ ap (λ (m : ℕ). drop at (sets out m s)) (add-zero at))
         ∙ take-append-drop at (sets out at s) in
-        simp (le-leb _ _ a, le-leb _ _ g, written_all (drop at out) s w) (ap₂ (λ (m : ℕ) (x : List ℕ). (Bytes m, x)) n z)
+        simp (le-leb _ _ a, le-leb _ _ g, written_all (drop at out) s w) (ap₂ (λ (m : ℕ) (x : List ℕ). (Some m, x)) n z)
 
     -- where there is no room, or more data than an item can hold, nothing is written
-    none : at ≤ length out → (NoRoom, drop at out) ≡ frame_written (drop at out) id sequence cip bs → frame_appended out at id sequence cip bs ≡ (NoRoom, out)
+    none : at ≤ length out → (None, drop at out) ≡ frame_written (drop at out) id sequence cip bs → frame_appended out at id sequence cip bs ≡ (None, out)
     unfolding frame_appended
-    none a e = simp (le-leb _ _ a) (ap (behind (take at out)) (sym e) ∙ ap (λ (x : List ℕ). (NoRoom, x)) (take-append-drop at out))
+    none a e = simp (le-leb _ _ a) (ap (behind (take at out)) (sym e) ∙ ap (λ (x : List ℕ). (None, x)) (take-append-drop at out))
 
-    pub refused : length bs ≤ 65533 → length out < at + (20 + length bs) → frame_appended out at id sequence cip bs ≡ (NoRoom, out)
+    pub refused : length bs ≤ 65533 → length out < at + (20 + length bs) → frame_appended out at id sequence cip bs ≡ (None, out)
     refused h r = go (dec_le at (length out))
       where
-        go : Dec (at ≤ length out) → frame_appended out at id sequence cip bs ≡ (NoRoom, out)
+        go : Dec (at ≤ length out) → frame_appended out at id sequence cip bs ≡ (None, out)
         go (yes a) = none a (no_room id sequence cip bs (drop at out) h (rw length-drop (omega arith)))
         go (no a) = sym (past_end id sequence cip at bs out (omega arith))
 
-    pub refused_long : 65533 < length bs → frame_appended out at id sequence cip bs ≡ (NoRoom, out)
+    pub refused_long : 65533 < length bs → frame_appended out at id sequence cip bs ≡ (None, out)
     refused_long h = go (dec_le at (length out))
       where
-        go : Dec (at ≤ length out) → frame_appended out at id sequence cip bs ≡ (NoRoom, out)
+        go : Dec (at ≤ length out) → frame_appended out at id sequence cip bs ≡ (None, out)
         go (yes a) = none a (too_long id sequence cip bs (drop at out) h)
         go (no a) = sym (past_end id sequence cip at bs out (omega arith))
 
@@ -94,7 +93,7 @@ module _ (id sequence cip : ℕ) (bs : List ℕ) where
         → io_of (take (20 + length bs) (drop at (frame_appended out at id sequence cip bs).1)) ≡ Io (ot_id id) sequence 18 (2 + length bs)
     round_at h r =
         let n : length s ≡ 20 + length bs = frame_length id sequence cip bs in
-        ap (λ (w : Written × List ℕ). io_of (take (20 + length bs) (drop at w.1))) (appended (omega arith) r)
+        ap (λ (w : Option ℕ × List ℕ). io_of (take (20 + length bs) (drop at w.1))) (appended (omega arith) r)
         ∙ ap (λ (m : ℕ). io_of (take m (drop at (sets out at s)))) (sym n)
         ∙ ap io_of (slice_sets out at s (omega arith))
         ∙ round h

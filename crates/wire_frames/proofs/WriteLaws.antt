@@ -1,19 +1,17 @@
 -- What the frame writer leaves, case by case.
-use Prim.Native.Nat.{ℕ, ◌+◌, ◌-◌, ◌<◌, ◌≤◌}
+use Rattle.std.specs.Prelude.{Some, None}
+use Prim.Native.Nat.{ℕ, ◌+◌, ◌<◌, ◌≤◌}
 use mathlib.Core.Path.{◌≡◌, sym, ap, ap₂, ◌∙◌}
-use mathlib.Core.List.{List, ◌++◌, append_assoc, append-nil}
-use lib.ListN.{length, take, drop, length-append, length-drop, drop_of_length-le}
-use lib.Seq.{sets, take_all}
+use mathlib.Core.List.{List, ◌++◌, append_assoc}
+use lib.ListN.{length, length-append}
+use lib.Seq.{sets}
 use native.Mathlib.Omega.{arith}
 use borrow.Author.Tests.{le-leb, lt-leb}
-use borrow.Rule.Slice.PartMut.{mid_of, put_mid}
 use Rattle.base_cells.specs.Numbers.{length_le_bytes, sets_append}
 use Rattle.base_cells.specs.Records.{enc_fields, put_fields, put_fields_eq, length_enc_fields, sum}
 use Rattle.base_cells.specs.Writes.{written_all, written_none}
-use Rattle.base_cells.specs.declared.Written.{Written}
-use Rattle.base_cells.specs.declared.Written.TheVariants.{Bytes, NoRoom}
 use Rattle.wire_rules.specs.Frames.{io_frame}
-use Rattle.wire_rules.specs.Writing.{frame_written, behind, frame_appended}
+use Rattle.wire_rules.specs.Writing.{frame_written, frame_appended}
 use Rattle.wire_rules.specs.Writing.{front_widths, front_values}
 
 module _ (id sequence cip : ℕ) (bs : List ℕ) where
@@ -30,11 +28,11 @@ module _ (id sequence cip : ℕ) (bs : List ℕ) where
   frame_length = ap length frame_split ∙ length-append (enc_fields front_widths (front_values id sequence cip (2 + length bs))) bs ∙ ap (λ (n : ℕ). n + length bs) front_length
 
   module _ (out : List ℕ) where
-    pub too_long : 65533 < length bs → (NoRoom, out) ≡ frame_written out id sequence cip bs
+    pub too_long : 65533 < length bs → (None, out) ≡ frame_written out id sequence cip bs
     unfolding frame_written
     too_long h = let g : 65535 < 2 + length bs = omega arith in simp (lt-leb _ _ g)
 
-    pub no_room : length bs ≤ 65533 → length out < 20 + length bs → (NoRoom, out) ≡ frame_written out id sequence cip bs
+    pub no_room : length bs ≤ 65533 → length out < 20 + length bs → (None, out) ≡ frame_written out id sequence cip bs
     unfolding frame_written
     no_room h r =
         let g : 2 + length bs ≤ 65535 = omega arith in
@@ -42,7 +40,7 @@ module _ (id sequence cip : ℕ) (bs : List ℕ) where
 
     pub all_written : (n : ℕ) (x y : List ℕ) → n ≡ length bs → length bs ≤ 65533 → 20 + length bs ≤ length out
         → x ≡ put_fields front_widths out 0 (front_values id sequence cip (2 + n)) → y ≡ sets x 20 bs
-        → (Bytes (20 + n), y) ≡ frame_written out id sequence cip bs
+        → (Some (20 + n), y) ≡ frame_written out id sequence cip bs
     unfolding frame_written
     all_written n x y e h r ex ey =
         let g : 2 + length bs ≤ 65535 = omega arith in
@@ -53,20 +51,11 @@ module _ (id sequence cip : ℕ) (bs : List ℕ) where
         let w : y ≡ sets out 0 (io_frame id sequence cip bs) =
         ey ∙ ap (λ (z : List ℕ). sets z 20 bs) fx ∙ ap (λ (m : ℕ). sets (sets out 0 f) m bs) z
         ∙ sym (sets_append out 0 f bs) ∙ ap (sets out 0) (sym frame_split) in
-        simp (le-leb _ _ g) (ap₂ (λ (m : ℕ) (z : List ℕ). (Bytes m, z)) b w ∙ sym (written_all out (io_frame id sequence cip bs) (omega (arith, frame_length))))
+        simp (le-leb _ _ g) (ap₂ (λ (m : ℕ) (z : List ℕ). (Some m, z)) b w ∙ sym (written_all out (io_frame id sequence cip bs) (omega (arith, frame_length))))
 
 -- ---- behind what the output holds already
 
 module _ (id sequence cip at : ℕ) (bs out : List ℕ) where
-  pub past_end : length out < at → (NoRoom, out) ≡ frame_appended out at id sequence cip bs
+  pub past_end : length out < at → (None, out) ≡ frame_appended out at id sequence cip bs
   unfolding frame_appended
   past_end h = simp (lt-leb _ _ h)
-
-  pub lent_rest : (r : Written) (y : List ℕ) → at ≤ length out → (r, y) ≡ frame_written (mid_of at (length out - at) out) id sequence cip bs
-      → (r, put_mid at (length out - at) out y) ≡ frame_appended out at id sequence cip bs
-  unfolding frame_appended
-  lent_rest r y h e =
-      let m : length (drop at out) ≤ length out - at = rw length-drop (omega arith) in
-      let p : put_mid at (length out - at) out y ≡ take at out ++ y = rw (drop_of_length-le (drop at out) m, append-nil) in
-      let f : (r, y) ≡ frame_written (drop at out) id sequence cip bs = e ∙ ap (λ (z : List ℕ). frame_written z id sequence cip bs) (take_all (length out - at) (drop at out) m) in
-      simp (le-leb _ _ h) (ap (λ (z : List ℕ). (r, z)) p ∙ ap (behind (take at out)) f)

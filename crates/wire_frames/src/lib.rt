@@ -6,7 +6,6 @@ ghost use Rattle.std.specs.Prelude.{◌≡◌, ◌≤◌, length};
 ghost use Rattle.base_cells.specs.Records.{put_fields};
 ghost use Rattle.wire_rules.specs.Writing.{frame_written, frame_appended, front_widths, front_values};
 
-use base_cells::Written;
 use base_ids::ToId;
 
 // All of a frame but the data.
@@ -24,23 +23,22 @@ fn put_front(out: &mut [u8], id: ToId, sequence: u32, cip: u16, size: u16)
     base_cells::put_u16(out, 18, cip);
 }
 
-// The frame writer: an I/O frame at the start of the output.
-pub fn encode_io(out: &mut [u8], id: ToId, sequence: u32, cip: u16, bytes: &[u8]) -> Written
+// The frame writer: an I/O frame at the start of the output, and its size; `None` where it does not fit or has too many bytes: nothing was written.
+#[tactic(auto, using(crate::proofs::WriteLaws::too_long, crate::proofs::WriteLaws::no_room, crate::proofs::WriteLaws::all_written))]
+pub fn encode_io(out: &mut [u8], id: ToId, sequence: u32, cip: u16, bytes: &[u8]) -> Option<usize>
     ensures { (result, out.new) ≡ frame_written out.old id.0 sequence cip bytes.now }
 {
     let n = bytes.len();
-    if 65533 < n {
-        return Written::NoRoom;
-    }
-    if out.len() < 20 + n {
-        return Written::NoRoom;
+    if 65533 < n || out.len() < 20 + n {
+        return None;
     }
     put_front(out, id, sequence, cip, (2 + n) as u16);
     base_copies::copy_in(out, 20, bytes);
-    Written::Bytes(20 + n)
+    Some(20 + n)
 }
 
-// The same behind what the output holds already: the rest from `at` on is lent to the frame writer.
+// The same behind what the output holds already: the rest from `at` on is lent to the frame writer. `None` too where `at` is past the end.
+#[tactic(auto, unfolding(wire_rules::specs::Writing::frame_appended))]
 pub fn append_io(
     out: &mut [u8],
     at: usize,
@@ -48,11 +46,12 @@ pub fn append_io(
     sequence: u32,
     cip: u16,
     bytes: &[u8],
-) -> Written
+) -> Option<usize>
     ensures { (result, out.new) ≡ frame_appended out.old at id.0 sequence cip bytes.now }
 {
+    // No `out.get_mut(at..)?`: tried, and its contract says nothing of what the output ends as.
     if out.len() < at {
-        return Written::NoRoom;
+        return None;
     }
     encode_io(&mut out[at..], id, sequence, cip, bytes)
 }

@@ -1,63 +1,39 @@
 // The head of every reply: the service with bit 7 set, the general status, and the words behind it (rule 5.22).
 #![tactic(auto)]
 
-ghost use Rattle.std.specs.Prelude.{◌≡◌, ◌≤◌, length};
+ghost use Rattle.std.specs.Prelude.{◌≡◌, ◌+◌, ◌*◌, ◌≤◌, length, map, min};
 ghost use Rattle.base_cells.specs.Records.{put_fields};
 ghost use Rattle.base_cells.specs.Writes.{written};
-ghost use Rattle.wire_rules.specs.Replies.{with_bit7, head_widths, head_fields, reply_head};
+ghost use Rattle.wire_rules.specs.Replies.{head_widths, head_fields, extended, reply_head};
 
-use base_cells::Written;
-
-fn reply_service(service: u8) -> u8
-    ensures { result ≡ with_bit7 service }
-{
-    service | 0x80
-}
-
+#[tactic(auto, using(crate::proofs::HeadLaws::set_7))]
 fn put_head(s: &mut [u8], service: u8, general: u8, words: u8)
     requires { 4 ≤ length s.old }
     ensures { s.new ≡ put_fields head_widths s.old 0 (head_fields service general words) }
 {
-    base_cells::put_u8(s, 0, reply_service(service));
+    base_cells::put_u8(s, 0, service | 0x80);
     base_cells::put_u8(s, 1, 0);
     base_cells::put_u8(s, 2, general);
     base_cells::put_u8(s, 3, words);
 }
 
-fn head_alone(out: &mut [u8], service: u8, general: u8) -> Written
-    ensures { (result, out.new) ≡ written out.old (reply_head service general 0 0 0) }
+#[tactic(auto, using(crate::proofs::HeadLaws::both))]
+fn put_words(s: &mut [u8], words: u8, first: u16, second: u16)
+    requires { 4 + 2 * min words 2 ≤ length s.old }
+    ensures { s.new ≡ put_fields (map (λ w. 2) (extended words first second)) s.old 4 (extended words first second) }
 {
-    if out.len() < 4 {
-        return Written::NoRoom;
+    match words {
+        0 => {}
+        1 => base_cells::put_u16(s, 4, first),
+        _ => {
+            base_cells::put_u16(s, 4, first);
+            base_cells::put_u16(s, 6, second);
+        }
     }
-    put_head(out, service, general, 0);
-    Written::Bytes(4)
 }
 
-fn head_one(out: &mut [u8], service: u8, general: u8, first: u16) -> Written
-    ensures { (result, out.new) ≡ written out.old (reply_head service general 1 first 0) }
-{
-    if out.len() < 6 {
-        return Written::NoRoom;
-    }
-    put_head(out, service, general, 1);
-    base_cells::put_u16(out, 4, first);
-    Written::Bytes(6)
-}
-
-fn head_two(out: &mut [u8], service: u8, general: u8, first: u16, second: u16) -> Written
-    ensures { (result, out.new) ≡ written out.old (reply_head service general 2 first second) }
-{
-    if out.len() < 8 {
-        return Written::NoRoom;
-    }
-    put_head(out, service, general, 2);
-    base_cells::put_u16(out, 4, first);
-    base_cells::put_u16(out, 6, second);
-    Written::Bytes(8)
-}
-
-// The head of a CIP reply, with as many of the two words as asked for.
+// The head of a CIP reply, with as many of the two words as asked for, and its size; `None` where there is no room: nothing was written.
+#[tactic(auto, using(crate::proofs::HeadLaws::no_room, crate::proofs::HeadLaws::all_put))]
 pub fn reply_head(
     out: &mut [u8],
     service: u8,
@@ -65,14 +41,15 @@ pub fn reply_head(
     words: u8,
     first: u16,
     second: u16,
-) -> Written
+) -> Option<usize>
     ensures { (result, out.new) ≡ written out.old (reply_head service general words first second) }
 {
-    if words == 0 {
-        return head_alone(out, service, general);
+    let count = words.min(2);
+    let size = 4 + 2 * usize::from(count);
+    if out.len() < size {
+        return None;
     }
-    if words == 1 {
-        return head_one(out, service, general, first);
-    }
-    head_two(out, service, general, first, second)
+    put_head(out, service, general, count);
+    put_words(out, words, first, second);
+    Some(size)
 }

@@ -1,4 +1,5 @@
 -- The quick way to an I/O frame is the plain one.
+use Rattle.std.specs.Prelude.{Ok, Err}
 use Prim.Native.Nat.{ℕ, zero, suc, ◌+◌, ◌-◌, ◌<◌, ◌≤◌}
 use mathlib.Core.Path.{◌≡◌, refl, sym, ap, ◌∙◌}
 use mathlib.Core.Bool.{Bool, true, false}
@@ -6,56 +7,15 @@ use mathlib.Core.List.{List, [], ◌∷◌}
 use lib.ListN.{length}
 use lib.Dec.{eqb, leb}
 use native.Mathlib.Omega.{arith}
-use borrow.Author.Tests.{le-leb, lt-leb, eq-eqb, ne_eqb, leb-true, eqb-true}
+use borrow.Author.Tests.{le-leb, lt-leb, eq-eqb, eqb-true}
 use Rattle.base_cells.specs.Pick.{pick}
 use Rattle.base_cells.specs.Numbers.{le}
-use Rattle.base_cells.specs.Back.{all_at, all_fails, all_cons, all_nil}
 use Rattle.wire_rules.specs.Items.{item_end, step_at, Part, Items, well_formed, broken, cons, items_from, items_of, whole_of}
 use Rattle.wire_rules.specs.Frames.{ot_id, first_two, io_of_items, io_of}
-use Rattle.wire_items.specs.Head.{head_tests, io_head, Head, other_of}
-use Rattle.wire_rules.specs.declared.Whole.TheVariants.{Good, BrokenAt}
+use Rattle.wire_items.specs.Head.{Head, other_of}
 use Rattle.wire_rules.specs.declared.IoFrame.{IoFrame}
 use Rattle.wire_rules.specs.declared.IoFrame.TheVariants.{Io, NotIo, Broken}
 use Rattle.wire_items.proofs.ListLaws.{part_at, Chain, link, chain_within, of_good, of_broken, from_count, listed}
-
--- ---- the head's tests
-
-module _ (s : List ℕ) where
-  pub short_head : length s < 18 → false ≡ io_head s
-  unfolding io_head
-  short_head h = sym (all_fails (head_tests s) 0 (lt-leb _ _ h))
-
-  pub few_items : le 2 s 0 < 2 → false ≡ io_head s
-  unfolding io_head
-  few_items h = sym (all_fails (head_tests s) 1 (lt-leb _ _ h))
-
-  pub no_address : (le 2 s 2 ≡ 0x8002 → ⊥) → false ≡ io_head s
-  unfolding io_head
-  no_address h = sym (all_fails (head_tests s) 2 (ne_eqb _ _ h))
-
-  pub not_eight : (le 2 s 4 ≡ 8 → ⊥) → false ≡ io_head s
-  unfolding io_head
-  not_eight h = sym (all_fails (head_tests s) 3 (ne_eqb _ _ h))
-
-  pub no_payload : (le 2 s 14 ≡ 0xB1 → ⊥) → false ≡ io_head s
-  unfolding io_head
-  no_payload h = sym (all_fails (head_tests s) 4 (ne_eqb _ _ h))
-
-pub head_holds : (s : List ℕ) → Head s → true ≡ io_head s
-unfolding io_head
-head_holds s h =
-    sym (all_cons _ _ (le-leb _ _ h.long) (all_cons _ _ (le-leb _ _ h.count) (all_cons _ _ (eq-eqb _ _ h.address)
-    (all_cons _ _ (eq-eqb _ _ h.eight) (all_cons _ _ (eq-eqb _ _ h.payload) all_nil)))))
-
-pub head_is : (s : List ℕ) → io_head s ≡ true → Head s
-unfolding io_head
-head_is s e = record {
-  long = leb-true _ _ (all_at (head_tests s) e 0);
-  count = leb-true _ _ (all_at (head_tests s) e 1);
-  address = eqb-true _ _ (all_at (head_tests s) e 2);
-  eight = eqb-true _ _ (all_at (head_tests s) e 3);
-  payload = eqb-true _ _ (all_at (head_tests s) e 4);
-}
 
 -- ---- a frame with the head
 
@@ -95,15 +55,15 @@ module _ (s : List ℕ) (h : Head s) where
         let e' : items_from (le 2 s 0 - 2) s (18 + le 2 s 16) ≡ x = rw (← en, ← el) e in
         second_taken (omega arith) ∙ ap (λ (y : Items). cons (part_at s 2) (cons (part_at s 14) y)) e'
 
-    pub later_broken : (o : ℕ) → BrokenAt o ≡ whole_of (items_from (n - 2) s (18 + len)) → Broken o ≡ io_of s
+    pub later_broken : (o : ℕ) → Err o ≡ whole_of (items_from (n - 2) s (18 + len)) → Broken o ≡ io_of s
     unfolding io_of
     later_broken o b = sym (ap (io_of_items s) (two (broken o) (of_broken _ o b)))
 
-    pub over_size : Good ≡ whole_of (items_from (n - 2) s (18 + len)) → 65536 < length s → NotIo ≡ io_of s
+    pub over_size : Ok tt ≡ whole_of (items_from (n - 2) s (18 + len)) → 65536 < length s → NotIo ≡ io_of s
     unfolding io_of
     over_size b w = let l = of_good (items_from (n - 2) s (18 + len)) b in rw (two (well_formed l.0) l.1, lt-leb _ _ w)
 
-    pub is_io : (i q : ℕ) → Good ≡ whole_of (items_from (n - 2) s (18 + len)) → length s ≤ 65536 → i ≡ le 4 s 6 → q ≡ le 4 s 10 → Io (ot_id i) q 18 len ≡ io_of s
+    pub is_io : (i q : ℕ) → Ok tt ≡ whole_of (items_from (n - 2) s (18 + len)) → length s ≤ 65536 → i ≡ le 4 s 6 → q ≡ le 4 s 10 → Io (ot_id i) q 18 len ≡ io_of s
     unfolding io_of
     is_io i q b w ei eq =
         let l = of_good (items_from (n - 2) s (18 + len)) b in
@@ -136,6 +96,6 @@ other_list s (broken o) e h = refl
 other_list s (well_formed l) e h =
     let d = listed s l e in over (leb (length s) 65536) (first_two s l) (not_two s l h d.count d.chain)
 
-pub other_io : (s : List ℕ) → io_head s ≡ false → other_of (whole_of (items_of s)) ≡ io_of s
+pub other_io : (s : List ℕ) → (Head s → ⊥) → other_of (whole_of (items_of s)) ≡ io_of s
 unfolding io_of
-other_io s e = other_list s (items_of s) refl (λ h. let z : ◌≡◌ {A = ℕ} 0 1 = cc (head_holds s h) in omega arith)
+other_io s h = other_list s (items_of s) refl h

@@ -1,5 +1,6 @@
 -- What a well-formed list is, said without a walk; and where a list that is none breaks.
-use Prim.Native.Nat.{ℕ, zero, suc, ◌+◌, ◌-◌, ◌<◌, ◌≤◌}
+use Rattle.std.specs.Prelude.{Ok, Err}
+use Prim.Native.Nat.{ℕ, zero, suc, ◌+◌, ◌<◌, ◌≤◌}
 use mathlib.Core.Path.{◌≡◌, refl, sym, ap, ◌∙◌}
 use mathlib.Core.Bool.{Bool, true, false}
 use mathlib.Core.List.{List, [], ◌∷◌}
@@ -13,7 +14,6 @@ use Rattle.base_cells.specs.Numbers.{le}
 use Rattle.wire_rules.specs.Items.{cursor, item_end, step_at, step_after, item_of, Part, Items, well_formed, broken, cons, follow, items_from, items_of, whole_of}
 use Rattle.wire_rules.specs.declared.Cursor.{Cursor}
 use Rattle.wire_rules.specs.declared.Step.TheVariants.{Item, End, Broken}
-use Rattle.wire_rules.specs.declared.Whole.TheVariants.{Good, BrokenAt}
 use Rattle.wire_items.proofs.ItemLaws.{no_count, counted, item_begins}
 
 -- the item whose kind stands at `at`
@@ -103,11 +103,11 @@ within (suc n) s at o h w =
 
 -- ---- the whole list
 
-pub of_good : (x : Items) → Good ≡ whole_of x → (l : List Part) × (x ≡ well_formed l)
+pub of_good : (x : Items) → Ok tt ≡ whole_of x → (l : List Part) × (x ≡ well_formed l)
 of_good (well_formed l) e = (l, refl)
 of_good (broken o) e = absurd (let z : ◌≡◌ {A = ℕ} 0 1 = cc in omega arith)
 
-pub of_broken : (x : Items) (o : ℕ) → BrokenAt o ≡ whole_of x → x ≡ broken o
+pub of_broken : (x : Items) (o : ℕ) → Err o ≡ whole_of x → x ≡ broken o
 of_broken (well_formed l) o e = absurd (let z : ◌≡◌ {A = ℕ} 0 1 = cc in omega arith)
 of_broken (broken k) o e = cc
 
@@ -127,17 +127,17 @@ listed s l e = go (dec_le 2 (length s))
     go (no h) = absurd (no_offset l 0 (sym (no_items s (omega arith)) ∙ e))
 
 -- the check says Good exactly of the well-formed lists
-pub good_is : (s : List ℕ) → Good ≡ whole_of (items_of s) → WellFormed s
+pub good_is : (s : List ℕ) → Ok tt ≡ whole_of (items_of s) → WellFormed s
 good_is s g = let l = of_good (items_of s) g in (l.0, listed s l.0 l.1)
 
-pub is_good : (s : List ℕ) → WellFormed s → Good ≡ whole_of (items_of s)
+pub is_good : (s : List ℕ) → WellFormed s → Ok tt ≡ whole_of (items_of s)
 is_good s w = let d = w.1 in sym (ap whole_of (from_count s d.room ∙ ap (λ (n : ℕ). items_from n s 2) d.count ∙ accepted d.chain))
 
 -- and no list is both well formed and broken at an offset
-pub not_both : (s : List ℕ) (o : ℕ) → WellFormed s → BrokenAt o ≡ whole_of (items_of s) → ⊥
+pub not_both : (s : List ℕ) (o : ℕ) → WellFormed s → Err o ≡ whole_of (items_of s) → ⊥
 not_both s o w b = let e = is_good s w in let z : ◌≡◌ {A = ℕ} 0 1 = cc in omega arith
 
-pub broken_within : (s : List ℕ) (o : ℕ) → BrokenAt o ≡ whole_of (items_of s) → o ≤ length s
+pub broken_within : (s : List ℕ) (o : ℕ) → Err o ≡ whole_of (items_of s) → o ≤ length s
 broken_within s o b = go (dec_le 2 (length s))
   where
     go : Dec (2 ≤ length s) → o ≤ length s

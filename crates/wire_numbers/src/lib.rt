@@ -7,6 +7,7 @@ ghost use Rattle.wire_rules.specs.Timeout.{factor_of, timeout_of};
 ghost use Rattle.wire_rules.specs.Group.{group_of};
 
 // The transport class.
+#[tactic(auto, using(crate::proofs::BitLaws::mask4))]
 pub fn transport_class(t: u8) -> u8
     ensures { result ≡ transport_class t }
 {
@@ -14,6 +15,7 @@ pub fn transport_class(t: u8) -> u8
 }
 
 // The direction bit of the transport byte.
+#[tactic(auto, using(crate::proofs::BitLaws::mask1))]
 fn direction_bit(t: u8) -> u8
     ensures { result ≡ direction_bit t }
 {
@@ -28,6 +30,7 @@ pub fn transport_ok(t: u8) -> bool
 }
 
 // Whether a key's major revision has the compatibility bit.
+#[tactic(auto, using(crate::proofs::BitLaws::mask1))]
 pub fn compatible(major: u8) -> bool
     ensures { result ≡ compatible_bit major }
 {
@@ -35,6 +38,7 @@ pub fn compatible(major: u8) -> bool
 }
 
 // A key's major revision itself.
+#[tactic(auto, using(crate::proofs::BitLaws::mask7))]
 pub fn major_of(major: u8) -> u8
     ensures { result ≡ major_of major }
 {
@@ -44,37 +48,25 @@ pub fn major_of(major: u8) -> u8
 // Rule 5.17: the factors of the multipliers 0 to 7, as the standard's table lists them; in 16 bits, since each call writes the list out anew.
 const FACTORS: [u16; 8] = [4, 8, 16, 32, 64, 128, 256, 512];
 
-fn capped(multiplier: u8) -> u8
-    ensures { (result ≡ min multiplier 7) × (result ≤ 7) }
-{
-    if multiplier < 7 { multiplier } else { 7 }
-}
-
 fn factor(multiplier: u8) -> u16
     ensures { (result ≡ factor_of multiplier) × (result ≤ 512) }
 {
-    FACTORS[capped(multiplier) as usize]
-}
-
-fn times(a: u32, b: u16) -> u64
-    requires { b ≤ 512 }
-    ensures { result ≡ a * b }
-{
-    (a as u64) * (b as u64)
+    FACTORS[usize::from(multiplier.min(7))]
 }
 
 // The timeout of a connection in microseconds, by its O→T RPI.
 pub fn timeout(rpi: u32, multiplier: u8) -> u64
     ensures { result ≡ timeout_of rpi multiplier }
 {
-    times(rpi, factor(multiplier))
+    u64::from(rpi) * u64::from(factor(multiplier))
 }
 
 // The group address of a device at a local address.
+#[tactic(auto, using(crate::proofs::BitLaws::mask10))]
 pub fn group(local: u32, mask: u32) -> u32
     ensures { result ≡ group_of local mask }
 {
     let host = local & !mask;
-    let index = std::num::wrapping_sub_u32(host, 1) & 0x3FF;
+    let index = host.wrapping_sub(1) & 0x3FF;
     0xEFC00100 + index * 32
 }

@@ -1,6 +1,6 @@
 -- What is known of a request that parsed.
 use Prim.Native.Nat.{ℕ, ◌+◌, ◌*◌, ◌≤◌}
-use Rattle.std.specs.Prelude.{Bool, List, ◌++◌, ◌≡◌, refl, leb}
+use Rattle.std.specs.Prelude.{Bool, List, ◌++◌, ◌≡◌, refl, leb, Option, Some, None}
 use Rattle.std.proofs.Math.Bool.{true, false}
 use Rattle.std.proofs.Common.{ap, ◌∙◌}
 use Rattle.std.proofs.Math.Path.{sym}
@@ -14,26 +14,22 @@ use Rattle.base_ids.specs.declared.Triad.{Triad}
 use Rattle.wire_rules.specs.Params.{params_at}
 use Rattle.wire_rules.specs.Opens.{limit, width_of, triad_at, way_at, place_at, fields_of, open_with, open_of, close_of}
 use Rattle.wire_rules.specs.declared.ForwardOpen.{ForwardOpen}
-use Rattle.wire_rules.specs.declared.OpenAnswer.{OpenAnswer}
-use Rattle.wire_rules.specs.declared.OpenAnswer.TheVariants.{Open, NoOpen}
-use Rattle.wire_rules.specs.declared.CloseAnswer.{CloseAnswer}
-use Rattle.wire_rules.specs.declared.CloseAnswer.TheVariants.{Close, NoClose}
 
 -- an open passed each test that stands before it
-opened : (b : Bool) (a : OpenAnswer) (o : ForwardOpen) → pick b a NoOpen ≡ Open o → (b ≡ true) × (a ≡ Open o)
+opened : (b : Bool) (a : Option ForwardOpen) (o : ForwardOpen) → pick b a None ≡ Some o → (b ≡ true) × (a ≡ Some o)
 opened true a o e = (refl, e)
 opened false a o e = absurd (let z : ◌≡◌ {A = ℕ} 0 1 = cc in omega arith)
 
-closed : (b : Bool) (a : CloseAnswer) (t : Triad) → pick b a NoClose ≡ Close t → (b ≡ true) × (a ≡ Close t)
+closed : (b : Bool) (a : Option Triad) (t : Triad) → pick b a None ≡ Some t → (b ≡ true) × (a ≡ Some t)
 closed true a t e = (refl, e)
 closed false a t e = absurd (let z : ◌≡◌ {A = ℕ} 0 1 = cc in omega arith)
 
-module _ (large : Bool) (s : List ℕ) (o : ForwardOpen) (e : open_of large s ≡ Open o) where
-  within : (leb (length s) limit ≡ true) × (open_with large s (width_of large) ≡ Open o)
+module _ (large : Bool) (s : List ℕ) (o : ForwardOpen) (e : open_of large s ≡ Some o) where
+  within : (leb (length s) limit ≡ true) × (open_with large s (width_of large) ≡ Some o)
   unfolding open_of
   within = opened (leb (length s) limit) (open_with large s (width_of large)) o e
 
-  whole : (leb (32 + width_of large + width_of large + 2 * le 1 s (31 + width_of large + width_of large)) (length s) ≡ true) × (Open (fields_of large s (width_of large)) ≡ Open o)
+  whole : (leb (32 + width_of large + width_of large + 2 * le 1 s (31 + width_of large + width_of large)) (length s) ≡ true) × (Some (fields_of large s (width_of large)) ≡ Some o)
   unfolding open_with
   whole = opened _ _ o within.1
 
@@ -50,12 +46,12 @@ module _ (large : Bool) (s : List ℕ) (o : ForwardOpen) (e : open_of large s �
   unfolding fields_of place_at
   open_path = rw open_fields (leb-true _ _ whole.0)
 
-module _ (s : List ℕ) (r : Triad) (e : close_of s ≡ Close r) where
-  close_within : (leb (length s) limit ≡ true) × (pick (leb (12 + 2 * le 1 s 10) (length s)) (Close (triad_at s 2)) NoClose ≡ Close r)
+module _ (s : List ℕ) (r : Triad) (e : close_of s ≡ Some r) where
+  close_within : (leb (length s) limit ≡ true) × (pick (leb (12 + 2 * le 1 s 10) (length s)) (Some (triad_at s 2)) None ≡ Some r)
   unfolding close_of
   close_within = closed (leb (length s) limit) _ r e
 
-  close_whole : (leb (12 + 2 * le 1 s 10) (length s) ≡ true) × (Close (triad_at s 2) ≡ Close r)
+  close_whole : (leb (12 + 2 * le 1 s 10) (length s) ≡ true) × (Some (triad_at s 2) ≡ Some r)
   close_whole = closed _ _ r close_within.1
 
   pub close_triad : r ≡ triad_at s 2
@@ -103,7 +99,7 @@ module _ (s t : List ℕ) where
   width_least true = (omega arith, omega arith)
   width_least false = (omega arith, omega arith)
 
-  pub open_rest : (large : Bool) (o : ForwardOpen) → open_of large s ≡ Open o → length (s ++ t) ≤ limit → open_of large (s ++ t) ≡ Open o
+  pub open_rest : (large : Bool) (o : ForwardOpen) → open_of large s ≡ Some o → length (s ++ t) ≤ limit → open_of large (s ++ t) ≡ Some o
   unfolding open_of open_with
   open_rest large o e h =
       let w : ℕ = width_of large in
@@ -111,12 +107,12 @@ module _ (s t : List ℕ) where
       let there : 32 + w + w + 2 * le 1 s (31 + w + w) ≤ length s = leb-true _ _ (whole large s o e).0 in
       let last : le 1 (s ++ t) (31 + w + w) ≡ le 1 s (31 + w + w) = same 1 (31 + w + w) (omega arith) in
       simp (le-leb _ _ h, last, le-leb (32 + w + w + 2 * le 1 s (31 + w + w)) (length (s ++ t)) (simp length-append (omega arith)))
-      (ap Open (same_fields large w least.0 least.1 (omega arith) ∙ sym (open_fields large s o e)))
+      (ap Some (same_fields large w least.0 least.1 (omega arith) ∙ sym (open_fields large s o e)))
 
-  pub close_rest : (r : Triad) → close_of s ≡ Close r → length (s ++ t) ≤ limit → close_of (s ++ t) ≡ Close r
+  pub close_rest : (r : Triad) → close_of s ≡ Some r → length (s ++ t) ≤ limit → close_of (s ++ t) ≡ Some r
   unfolding close_of
   close_rest r e h =
       let there : 12 + 2 * le 1 s 10 ≤ length s = close_path s r e in
       let last : le 1 (s ++ t) 10 ≡ le 1 s 10 = same 1 10 (omega arith) in
       simp (le-leb _ _ h, last, le-leb (12 + 2 * le 1 s 10) (length (s ++ t)) (simp length-append (omega arith)))
-      (ap Close (same_triad 2 (omega arith) ∙ sym (close_triad s r e)))
+      (ap Some (same_triad 2 (omega arith) ∙ sym (close_triad s r e)))

@@ -4,15 +4,17 @@
 
 ghost use Rattle.std.specs.Prelude.{◌≡◌, ◌+◌, ◌*◌, ◌≤◌, length};
 ghost use Rattle.base_cells.specs.Numbers.{le};
-ghost use Rattle.wire_rules.specs.Params.{net_of, small_params, large_params, params_at};
-ghost use Rattle.wire_rules.specs.Opens.{triad_at, way_at, fields_of, open_with, open_of, close_of};
+ghost use Rattle.wire_rules.specs.Params.{net_of, params_at};
+ghost use Rattle.wire_rules.specs.Opens.{triad_at, way_at, width_of, fields_of, open_of, close_of};
+ghost use Rattle.wire_opens.specs.Flags.{params_of};
 
 use base_ids::{OtId, ToId, Triad};
-use wire_rules::{CloseAnswer, ForwardOpen, NetParams, NetType, OpenAnswer, Place, Way};
+use wire_rules::{ForwardOpen, NetParams, NetType, Place, Way};
 
 // Service data up to 65,536 bytes.
 const LIMIT: usize = 65536;
 
+// A function and no `impl From<u32> for NetType`: both types are other crates'.
 fn net_of(n: u32) -> NetType
     ensures { result ≡ net_of n }
 {
@@ -24,37 +26,34 @@ fn net_of(n: u32) -> NetType
     }
 }
 
-fn small_params(v: u32) -> NetParams
-    ensures { result ≡ small_params v }
+// The parameters by their size and the number that has their flags.
+#[tactic(auto, using(crate::proofs::BitLaws::mask1, crate::proofs::BitLaws::mask2))]
+fn params_of(size: u32, flags: u32) -> NetParams
+    ensures { result ≡ params_of size flags }
 {
     NetParams {
-        size: v & 0x01FF,
-        variable: v >> 9 & 1 == 1,
-        net: net_of(v >> 13 & 3),
+        size,
+        variable: flags >> 9 & 1 == 1,
+        net: net_of(flags >> 13 & 3),
     }
 }
 
-fn large_params(v: u32) -> NetParams
-    ensures { result ≡ large_params v }
-{
-    NetParams {
-        size: v & 0xFFFF,
-        variable: v >> 25 & 1 == 1,
-        net: net_of(v >> 29 & 3),
-    }
-}
-
+// A large open's size has the low 16 bits to itself, and its flags stand above them as a small one's do in 16.
+#[tactic(auto, using(crate::proofs::BitLaws::mask9, crate::proofs::BitLaws::mask16, crate::proofs::BitLaws::high_flags), unfolding(wire_rules::specs::Params::params_at))]
 fn params_at(s: &[u8], at: usize, large: bool) -> NetParams
     requires { at + 4 ≤ length s.now }
     ensures { result ≡ params_at large s.now at }
 {
     if large {
-        large_params(base_cells::u32_at(s, at))
+        let v = base_cells::u32_at(s, at);
+        params_of(v & 0xFFFF, v >> 16)
     } else {
-        small_params(base_cells::u16_at(s, at) as u32)
+        let v = u32::from(base_cells::u16_at(s, at));
+        params_of(v & 0x01FF, v)
     }
 }
 
+#[tactic(auto, unfolding(wire_rules::specs::Opens::triad_at))]
 fn triad_at(s: &[u8], at: usize) -> Triad
     requires { at + 8 ≤ length s.now }
     ensures { result ≡ triad_at s.now at }
@@ -66,6 +65,7 @@ fn triad_at(s: &[u8], at: usize) -> Triad
     }
 }
 
+#[tactic(auto, unfolding(wire_rules::specs::Opens::way_at))]
 fn way_at(s: &[u8], at: usize, large: bool) -> Way
     requires { at + 8 ≤ length s.now }
     ensures { result ≡ way_at large s.now at }
@@ -81,15 +81,23 @@ fn path_len(s: &[u8], at: usize) -> usize
     requires { at + 1 ≤ length s.now }
     ensures { (result ≡ 2 * le 1 s.now at) × (result ≤ 510) }
 {
-    let words = base_cells::u8_at(s, at);
-    2 * (words as usize)
+    2 * usize::from(base_cells::u8_at(s, at))
 }
 
-// The fields of an open whose parameters are w bytes wide.
-fn fields(s: &[u8], large: bool, w: usize) -> ForwardOpen
-    requires { (2 ≤ w) × (w ≤ 4) × (32 + w + w ≤ length s.now) }
-    ensures { result ≡ fields_of large s.now w }
+// How many bytes the parameters of an open have.
+#[tactic(auto, unfolding(wire_rules::specs::Opens::width_of))]
+fn width(large: bool) -> usize
+    ensures { (result ≡ width_of large) × (2 ≤ result) × (result ≤ 4) }
 {
+    if large { 4 } else { 2 }
+}
+
+#[tactic(auto, unfolding(wire_rules::specs::Opens::fields_of, wire_rules::specs::Opens::place_at))]
+fn fields(s: &[u8], large: bool) -> ForwardOpen
+    requires { 32 + width_of large + width_of large ≤ length s.now }
+    ensures { result ≡ fields_of large s.now (width_of large) }
+{
+    let w = width(large);
     ForwardOpen {
         otid: OtId(base_cells::u32_at(s, 2)),
         toid: ToId(base_cells::u32_at(s, 6)),
@@ -105,46 +113,32 @@ fn fields(s: &[u8], large: bool, w: usize) -> ForwardOpen
     }
 }
 
-fn open_with(s: &[u8], large: bool, w: usize) -> OpenAnswer
-    requires { (2 ≤ w) × (w ≤ 4) }
-    ensures { result ≡ open_with large s.now w }
-{
-    let at = 31 + w + w;
-    if s.len() <= at {
-        return OpenAnswer::NoOpen;
-    }
-    if s.len() - at - 1 < path_len(s, at) {
-        return OpenAnswer::NoOpen;
-    }
-    OpenAnswer::Open(fields(s, large, w))
-}
-
 // The open that the service data is.
-pub fn decode_open(request: &[u8], large: bool) -> OpenAnswer
+#[tactic(auto, unfolding(wire_rules::specs::Opens::open_of, wire_rules::specs::Opens::open_with))]
+pub fn decode_open(request: &[u8], large: bool) -> Option<ForwardOpen>
     ensures { result ≡ open_of large request.now }
 {
-    if request.len() > LIMIT {
-        return OpenAnswer::NoOpen;
+    let w = width(large);
+    let path = 32 + w + w;
+    if request.len() > LIMIT || request.len() < path {
+        return None;
     }
-    if large {
-        open_with(request, large, 4)
-    } else {
-        open_with(request, large, 2)
+    if request.len() - path < path_len(request, path - 1) {
+        return None;
     }
+    Some(fields(request, large))
 }
 
 // The close that the service data is.
-pub fn decode_close(request: &[u8]) -> CloseAnswer
+#[tactic(auto, unfolding(wire_rules::specs::Opens::close_of))]
+pub fn decode_close(request: &[u8]) -> Option<Triad>
     ensures { result ≡ close_of request.now }
 {
-    if request.len() > LIMIT {
-        return CloseAnswer::NoClose;
-    }
-    if request.len() < 12 {
-        return CloseAnswer::NoClose;
+    if request.len() > LIMIT || request.len() < 12 {
+        return None;
     }
     if request.len() - 12 < path_len(request, 10) {
-        return CloseAnswer::NoClose;
+        return None;
     }
-    CloseAnswer::Close(triad_at(request, 2))
+    Some(triad_at(request, 2))
 }

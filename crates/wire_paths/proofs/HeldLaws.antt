@@ -1,4 +1,5 @@
 -- The walk of parse_path: what it holds at a place is what the definition reads of the segments before it.
+use Rattle.std.specs.Prelude.{Ok, Err}
 use Prim.Native.Nat.{ℕ}
 use mathlib.Core.Path.{◌≡◌, sym, ◌∙◌, ap}
 use mathlib.Core.List.{List, [], ◌∷◌, ◌++◌}
@@ -10,7 +11,6 @@ use Rattle.wire_paths.proofs.MoreLaws.{added_more}
 use Rattle.wire_rules.specs.declared.Seg.{Seg}
 use Rattle.wire_rules.specs.declared.SegStep.TheVariants.{Segment, End, Broken}
 use Rattle.wire_rules.specs.declared.ConnectionPath.{ConnectionPath}
-use Rattle.wire_rules.specs.declared.PathAnswer.TheVariants.{Parsed, Unparsed}
 
 pub record Held (s : List ℕ) (at : ℕ) (p : ConnectionPath) : Type 0 where
   pub done : List Seg
@@ -29,10 +29,10 @@ module _ (s : List ℕ) (at : ℕ) (p : ConnectionPath) (h : Held s at p) where
         holds = e ∙ ap (λ (z : ConnectionPath). added z x) h.holds ∙ sym (added_more h.done x);
       }
 
-  pub held_all : End ≡ step_at s at → Parsed p ≡ path_of s
+  pub held_all : End ≡ step_at s at → Ok p ≡ path_of s
   unfolding path_of
-  held_all f = ap Parsed h.holds ∙ sym (ap path_read (passed_all s at h.done h.passed f))
+  held_all f = ap Ok h.holds ∙ sym (ap path_read (passed_all s at h.done h.passed f))
 
-  pub held_broken : (o : ℕ) → Broken o ≡ step_at s at → Unparsed o ≡ path_of s
+  pub held_broken : (o : ℕ) → Broken o ≡ step_at s at → Err o ≡ path_of s
   unfolding path_of
   held_broken o f = sym (ap path_read (passed_broken s at h.done h.passed o f))

@@ -1,14 +1,15 @@
 -- One segment more: what the walk holds is what the definition reads of the segments passed.
-use Prim.Native.Nat.{ℕ, suc, ◌+◌, ◌≤◌, ◌<◌, min}
+use Prim.Native.Nat.{ℕ, suc, ◌+◌, min}
 use mathlib.Core.Path.{◌≡◌, refl, sym, ap, ◌∙◌}
-use mathlib.Core.Bool.{Bool, true, false}
+use mathlib.Core.Bool.{true}
 use mathlib.Core.List.{List, [], ◌∷◌, ◌++◌, append-nil, append_assoc}
 use lib.ListN.{length, get_or}
-use lib.Dec.{T, ltb, ltb→lt, eqb}
+use lib.Dec.{ltb, eqb}
 use native.Mathlib.Nat.{min-eq_right}
 use native.Mathlib.Omega.{arith}
+use Rattle.std.specs.Prelude.{Some}
 use Rattle.base_cells.specs.Pick.{pick}
-use Rattle.wire_rules.specs.ConnectionPath.{gather, some, last, connection_path}
+use Rattle.wire_rules.specs.ConnectionPath.{gather, some, last, final, connection_path}
 use Rattle.wire_paths.specs.Adding.{with_bar, with_key, with_class, with_number, with_data, added}
 use Rattle.wire_rules.specs.declared.Key.{Key}
 use Rattle.wire_rules.specs.declared.Seg.{Seg}
@@ -32,6 +33,11 @@ module _ {A : Type 0} where
   last_more d [] a = refl
   last_more d (b ∷ l) a = last_more b l a
 
+  pub final_more : (l : List A) (a : A) → final (l ++ (a ∷ [])) ≡ Some a
+  unfolding final last
+  final_more [] a = refl
+  final_more (b ∷ l) a = ap Some (last_more b l a)
+
 -- ---- a segment of each kind
 
 module _ (l : List Seg) where
@@ -45,11 +51,11 @@ module _ (l : List Seg) where
 
   add_class : (v : ℕ) → connection_path (l ++ (Class v ∷ [])) ≡ with_class (connection_path l) v
   unfolding connection_path
-  add_class v = simp (gather_more, append-nil, some_more, last_more)
+  add_class v = simp (gather_more, append-nil, final_more)
 
   add_key : (k : Key) → connection_path (l ++ (Keyed k ∷ [])) ≡ with_key (connection_path l) k
   unfolding connection_path
-  add_key k = simp (gather_more, append-nil, some_more, last_more)
+  add_key k = simp (gather_more, append-nil, final_more)
 
   add_data : (start len : ℕ) → connection_path (l ++ (Data start len ∷ [])) ≡ with_data (connection_path l) start len
   unfolding connection_path
@@ -105,11 +111,3 @@ module _ (l : List Seg) where
   added_more (Attribute v) = add_attribute l v
   added_more (Keyed k) = add_key l k
   added_more (Data start len) = add_data l start len
-
--- from the third on, the count is 4
-pub count_stops : (n : ℕ) → 3 ≤ n → pick (ltb n 4) (n + 1) 4 ≡ 4
-count_stops n h = go (ltb n 4) (ltb→lt n 4)
-  where
-    go : (t : Bool) → (T t → n < 4) → pick t (n + 1) 4 ≡ 4
-    go true f = let g : n < 4 = f tt in omega arith
-    go false f = refl

@@ -1,5 +1,5 @@
 -- What is held of a path with one segment more: the step of the walk in code. MoreLaws shows that it keeps connection_path.
-use Rattle.std.specs.Prelude.{ℕ, ◌+◌, true, ltb, eqb}
+use Rattle.std.specs.Prelude.{ℕ, ◌+◌, true, ltb, eqb, Some}
 use Rattle.base_cells.specs.Pick.{pick}
 use Rattle.wire_rules.specs.declared.Key.{Key}
 use Rattle.wire_rules.specs.declared.Seg.{Seg}
@@ -7,85 +7,26 @@ use Rattle.wire_rules.specs.declared.Seg.TheVariants.{Port, Class, Instance, Poi
 use Rattle.wire_rules.specs.declared.ConnectionPath.{ConnectionPath}
 
 abbrev pub with_bar : ConnectionPath → ConnectionPath
-with_bar p =
-    record {
-      barred = true;
-      haskey = p.haskey;
-      key = p.key;
-      hasclass = p.hasclass;
-      class = p.class;
-      count = p.count;
-      first = p.first;
-      second = p.second;
-      third = p.third;
-      datastart = p.datastart;
-      datalen = p.datalen;
-    }
+with_bar p = record p { barred = true }
 
 abbrev pub with_key : ConnectionPath → Key → ConnectionPath
-with_key p k =
-    record {
-      barred = p.barred;
-      haskey = true;
-      key = k;
-      hasclass = p.hasclass;
-      class = p.class;
-      count = p.count;
-      first = p.first;
-      second = p.second;
-      third = p.third;
-      datastart = p.datastart;
-      datalen = p.datalen;
-    }
+with_key p k = record p { key = Some k }
 
 abbrev pub with_class : ConnectionPath → ℕ → ConnectionPath
-with_class p v =
-    record {
-      barred = p.barred;
-      haskey = p.haskey;
-      key = p.key;
-      hasclass = true;
-      class = v;
-      count = p.count;
-      first = p.first;
-      second = p.second;
-      third = p.third;
-      datastart = p.datastart;
-      datalen = p.datalen;
-    }
+with_class p v = record p { class = Some v }
 
 -- one more instance or point: the first three are kept, and the count stops at 4
 abbrev pub with_number : ConnectionPath → ℕ → ConnectionPath
 with_number p v =
-    record {
-      barred = p.barred;
-      haskey = p.haskey;
-      key = p.key;
-      hasclass = p.hasclass;
-      class = p.class;
+    record p {
       count = pick (ltb p.count 4) (p.count + 1) 4;
       first = pick (eqb p.count 0) v p.first;
       second = pick (eqb p.count 1) v p.second;
       third = pick (eqb p.count 2) v p.third;
-      datastart = p.datastart;
-      datalen = p.datalen;
     }
 
 abbrev pub with_data : ConnectionPath → ℕ → ℕ → ConnectionPath
-with_data p start len =
-    record {
-      barred = p.barred;
-      haskey = p.haskey;
-      key = p.key;
-      hasclass = p.hasclass;
-      class = p.class;
-      count = p.count;
-      first = p.first;
-      second = p.second;
-      third = p.third;
-      datastart = start;
-      datalen = len;
-    }
+with_data p start len = record p { datastart = start; datalen = len }
 
 abbrev pub added : ConnectionPath → Seg → ConnectionPath
 added p (Port port start len) = with_bar p

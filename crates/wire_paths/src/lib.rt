@@ -7,24 +7,17 @@ ghost use Rattle.std.specs.Prelude.{◌≡◌, ◌/◌, []};
 ghost use Rattle.wire_rules.specs.ConnectionPath.{connection_path, path_of};
 ghost use Rattle.wire_paths.specs.Adding.{with_number, added};
 
-use wire_rules::{ConnectionPath, Key, PathAnswer, Seg, SegStep};
+use wire_rules::{ConnectionPath, Seg, SegStep};
+use wire_segments::next_segment;
 
+// A function and no `Default`: the type is `wire_rules`'.
 fn nothing_read() -> ConnectionPath
     ensures { result ≡ connection_path [] }
 {
-    let key = Key {
-        vendor: 0,
-        device: 0,
-        product: 0,
-        major: 0,
-        minor: 0,
-    };
     ConnectionPath {
         barred: false,
-        haskey: false,
-        key,
-        hasclass: false,
-        class: 0,
+        key: None,
+        class: None,
         count: 0,
         first: 0,
         second: 0,
@@ -34,83 +27,69 @@ fn nothing_read() -> ConnectionPath
     }
 }
 
-fn add_number(mut held: ConnectionPath, value: u32) -> ConnectionPath
+fn add_number(held: ConnectionPath, value: u32) -> ConnectionPath
     ensures { result ≡ with_number held value }
 {
-    let count = held.count;
-    if count == 0 {
-        held.first = value;
-        held.count = 1;
-        return held;
+    match held.count {
+        0 => ConnectionPath {
+            first: value,
+            count: 1,
+            ..held
+        },
+        1 => ConnectionPath {
+            second: value,
+            count: 2,
+            ..held
+        },
+        2 => ConnectionPath {
+            third: value,
+            count: 3,
+            ..held
+        },
+        _ => ConnectionPath { count: 4, ..held },
     }
-    if count == 1 {
-        held.second = value;
-        held.count = 2;
-        return held;
-    }
-    if count == 2 {
-        held.third = value;
-        held.count = 3;
-        return held;
-    }
-    held.count = 4;
-    held
 }
 
-fn add_segment(mut held: ConnectionPath, seg: Seg) -> ConnectionPath
+fn add_segment(held: ConnectionPath, seg: Seg) -> ConnectionPath
     ensures { result ≡ added held seg }
 {
     match seg {
-        Seg::Port {
-            port: _,
-            start: _,
-            len: _,
-        } => {
-            held.barred = true;
-            held
-        }
-        Seg::Class(value) => {
-            held.hasclass = true;
-            held.class = value;
-            held
-        }
-        Seg::Instance(value) => add_number(held, value),
-        Seg::Point(value) => add_number(held, value),
-        Seg::Attribute(_) => {
-            held.barred = true;
-            held
-        }
-        Seg::Keyed(key) => {
-            held.haskey = true;
-            held.key = key;
-            held
-        }
-        Seg::Data { start, len } => {
-            held.datastart = start;
-            held.datalen = len;
-            held
-        }
+        Seg::Port { .. } | Seg::Attribute(_) => ConnectionPath {
+            barred: true,
+            ..held
+        },
+        Seg::Class(value) => ConnectionPath {
+            class: Some(value),
+            ..held
+        },
+        Seg::Instance(value) | Seg::Point(value) => add_number(held, value),
+        Seg::Keyed(key) => ConnectionPath {
+            key: Some(key),
+            ..held
+        },
+        Seg::Data { start, len } => ConnectionPath {
+            datastart: start,
+            datalen: len,
+            ..held
+        },
     }
 }
 
-// What an open reads of a path, or the offset where the path does not parse.
-pub fn parse_path(path: &[u8]) -> PathAnswer
+// What an open reads of a path, or the offset where the path does not parse. A `loop` and no iterator: each of the reader's three answers is one arm.
+#[tactic(auto, using(crate::proofs::HeldLaws::held_none, crate::proofs::HeldLaws::held_more, wire_segments::specs::PathLaws::segment_found))]
+pub fn parse_path(path: &[u8]) -> Result<ConnectionPath, usize>
     ensures { result ≡ path_of path.now }
 {
     let mut held = nothing_read();
-    let mut at: usize = 0;
+    let mut at = 0;
     loop {
-        match wire_segments::next_segment(path, at) {
+        match next_segment(path, at) {
             SegStep::Segment { seg, next } => {
                 held = add_segment(held, seg);
                 at = next;
             }
-            SegStep::End => {
-                return PathAnswer::Parsed(held);
-            }
-            SegStep::Broken(offset) => {
-                return PathAnswer::Unparsed(offset);
-            }
+            SegStep::End => return Ok(held),
+            SegStep::Broken(offset) => return Err(offset),
         }
     }
 }

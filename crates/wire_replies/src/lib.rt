@@ -1,5 +1,5 @@
 // What the adapter answers an open, a close and any message with. Each writer puts its bytes at the start of the lent
-// output and says how many they are; where they do not fit it writes nothing. Numbers are little-endian.
+// output and says how many they are; where they do not fit it writes nothing and says `None`. Numbers are little-endian.
 #![tactic(auto)]
 
 ghost use Rattle.std.specs.Prelude.{◌≡◌, ◌+◌, ◌≤◌, [], ◌∷◌, length};
@@ -7,7 +7,6 @@ ghost use Rattle.base_cells.specs.Records.{put_fields};
 ghost use Rattle.base_cells.specs.Writes.{written};
 ghost use Rattle.wire_rules.specs.Replies.{triad_widths, triad_fields, open_reply, triad_reply, open_refusal, close_reply};
 
-use base_cells::Written;
 use base_ids::{OtId, ToId, Triad};
 
 fn put_triad(s: &mut [u8], at: usize, triad: Triad)
@@ -27,7 +26,8 @@ fn put_zeros(s: &mut [u8], at: usize)
     base_cells::put_u8(s, at + 1, 0);
 }
 
-// The reply data of an accepted open.
+// The reply data of an accepted open; `None`: no room, nothing was written.
+#[tactic(auto, using(crate::proofs::WriteLaws::open_none, crate::proofs::WriteLaws::open_all))]
 pub fn open_reply(
     out: &mut [u8],
     otid: OtId,
@@ -35,11 +35,11 @@ pub fn open_reply(
     triad: Triad,
     otrpi: u32,
     torpi: u32,
-) -> Written
+) -> Option<usize>
     ensures { (result, out.new) ≡ written out.old (open_reply otid toid triad otrpi torpi) }
 {
     if out.len() < 26 {
-        return Written::NoRoom;
+        return None;
     }
     base_cells::put_u32(out, 0, otid.0);
     base_cells::put_u32(out, 4, toid.0);
@@ -47,29 +47,30 @@ pub fn open_reply(
     base_cells::put_u32(out, 16, otrpi);
     base_cells::put_u32(out, 20, torpi);
     put_zeros(out, 24);
-    Written::Bytes(26)
+    Some(26)
 }
 
-fn triad_reply(out: &mut [u8], triad: Triad) -> Written
+#[tactic(auto, using(crate::proofs::WriteLaws::triad_none, crate::proofs::WriteLaws::triad_all))]
+fn triad_reply(out: &mut [u8], triad: Triad) -> Option<usize>
     ensures { (result, out.new) ≡ written out.old (triad_reply triad) }
 {
     if out.len() < 10 {
-        return Written::NoRoom;
+        return None;
     }
     put_triad(out, 0, triad);
     put_zeros(out, 8);
-    Written::Bytes(10)
+    Some(10)
 }
 
-// The reply data of a refused open.
-pub fn open_refusal(out: &mut [u8], triad: Triad) -> Written
+// The reply data of a refused open, laid out as a close's; `None`: no room, nothing was written.
+pub fn open_refusal(out: &mut [u8], triad: Triad) -> Option<usize>
     ensures { (result, out.new) ≡ written out.old (open_refusal triad) }
 {
     triad_reply(out, triad)
 }
 
-// The reply data of a close.
-pub fn close_reply(out: &mut [u8], triad: Triad) -> Written
+// The reply data of a close; `None`: no room, nothing was written.
+pub fn close_reply(out: &mut [u8], triad: Triad) -> Option<usize>
     ensures { (result, out.new) ≡ written out.old (close_reply triad) }
 {
     triad_reply(out, triad)

@@ -5,134 +5,115 @@
 ghost use Rattle.std.specs.Prelude.{◌≡◌, ℕ, ◌+◌, ◌*◌, ◌≤◌, ◌<◌, length, get_or};
 ghost use Rattle.wire_rules.specs.Segments.{segs_of};
 ghost use Rattle.wire_rules.specs.Requests.{attribute_of, first_of, first_attribute, request_with, request_of};
-ghost use Rattle.wire_requests.specs.Reading.{NamesObject, NamesInClass, NamesClass, kept_attribute};
+ghost use Rattle.wire_requests.specs.Reading.{NamesObject, NamesInClass, NamesClass};
 
 use wire_paths::parse_path;
-use wire_rules::{
-    AttributeAnswer, FirstAttribute, Object, PathAnswer, Request, RequestAnswer, Seg, SegStep,
-};
+use wire_rules::{Object, Request, Seg, SegStep};
 use wire_segments::next_segment;
 
-fn wide(b: u8) -> usize
-    ensures { (result ≡ b) × (result < 256) }
-{
-    b as usize
-}
+// A message has up to 65,536 bytes.
+const MESSAGE_MAX: usize = 65536;
 
 // Behind a class and an attribute.
-fn class_alone(path: &[u8], at: usize, class: u32) -> Object
+#[tactic(auto, using(crate::proofs::RequestLaws::alone_end, crate::proofs::RequestLaws::alone_more, crate::proofs::RequestLaws::alone_broken))]
+fn class_alone(path: &[u8], at: usize, class: u32) -> Option<Object>
     ensures { NamesClass path.now at class result }
 {
     match next_segment(path, at) {
-        SegStep::Segment { seg: _, next: _ } => Object::NoObject,
-        SegStep::End => Object::Named { class, instance: 0 },
-        SegStep::Broken(_) => Object::NoObject,
+        SegStep::End => Some(Object { class, instance: 0 }),
+        _ => None,
     }
 }
 
 // Behind a class.
-fn in_class(path: &[u8], at: usize, class: u32) -> Object
+#[tactic(auto, using(crate::proofs::RequestLaws::class_end, crate::proofs::RequestLaws::class_broken))]
+fn in_class(path: &[u8], at: usize, class: u32) -> Option<Object>
     ensures { NamesInClass path.now at class result }
 {
     match next_segment(path, at) {
-        SegStep::Segment { seg, next } => match seg {
-            Seg::Instance(instance) => Object::Named { class, instance },
-            Seg::Attribute(_) => class_alone(path, next, class),
-            _ => Object::NoObject,
-        },
-        SegStep::End => Object::Named { class, instance: 0 },
-        SegStep::Broken(_) => Object::NoObject,
+        SegStep::Segment {
+            seg: Seg::Instance(instance),
+            ..
+        } => Some(Object { class, instance }),
+        SegStep::Segment {
+            seg: Seg::Attribute(_),
+            next,
+        } => class_alone(path, next, class),
+        SegStep::End => Some(Object { class, instance: 0 }),
+        _ => None,
     }
 }
 
 // The object that a path names, where the path parses.
-fn object_of(path: &[u8]) -> Object
+#[tactic(auto, using(crate::proofs::RequestLaws::object_end, crate::proofs::RequestLaws::object_broken))]
+fn object_of(path: &[u8]) -> Option<Object>
     ensures { NamesObject path.now result }
 {
     match next_segment(path, 0) {
-        SegStep::Segment { seg, next } => match seg {
-            Seg::Class(class) => in_class(path, next, class),
-            _ => Object::NoObject,
-        },
-        SegStep::End => Object::NoObject,
-        SegStep::Broken(_) => Object::NoObject,
+        SegStep::Segment {
+            seg: Seg::Class(class),
+            next,
+        } => in_class(path, next, class),
+        _ => None,
     }
 }
 
-fn attribute_of(seg: Seg) -> FirstAttribute
+fn attribute_of(seg: Seg) -> Option<u32>
     ensures { result ≡ first_of (attribute_of seg) }
 {
     match seg {
-        Seg::Attribute(number) => FirstAttribute::Number(number),
-        _ => FirstAttribute::NoAttribute,
+        Seg::Attribute(number) => Some(number),
+        _ => None,
     }
 }
 
-fn keep_attribute(held: FirstAttribute, seg: Seg) -> FirstAttribute
-    ensures { result ≡ kept_attribute held seg }
-{
-    match held {
-        FirstAttribute::Number(_) => held,
-        FirstAttribute::NoAttribute => attribute_of(seg),
-    }
-}
-
-// The first attribute that a path names, or the offset where the path does not parse.
-pub fn attribute(path: &[u8]) -> AttributeAnswer
+// The first attribute that a path names, or the offset where the path does not parse. A `loop` and no iterator: each of the reader's three answers
+// is one arm.
+#[tactic(auto, using(crate::proofs::RequestLaws::held_none, crate::proofs::RequestLaws::held_more, wire_segments::specs::PathLaws::segment_found))]
+pub fn attribute(path: &[u8]) -> Result<Option<u32>, usize>
     ensures { result ≡ first_attribute path.now }
 {
-    let mut held = FirstAttribute::NoAttribute;
-    let mut at: usize = 0;
+    let mut held = None;
+    let mut at = 0;
     loop {
         match next_segment(path, at) {
             SegStep::Segment { seg, next } => {
-                held = keep_attribute(held, seg);
+                held = held.or(attribute_of(seg));
                 at = next;
             }
-            SegStep::End => {
-                return AttributeAnswer::Parsed(held);
-            }
-            SegStep::Broken(offset) => {
-                return AttributeAnswer::Unparsed(offset);
-            }
+            SegStep::End => return Ok(held),
+            SegStep::Broken(offset) => return Err(offset),
         }
     }
 }
 
-fn request_with(service: u8, path: &[u8], datastart: usize) -> RequestAnswer
+#[tactic(auto, using(crate::proofs::RequestLaws::request_parsed, crate::proofs::RequestLaws::request_unparsed))]
+fn request_with(service: u8, path: &[u8], datastart: usize) -> Result<Request, u8>
     ensures { result ≡ request_with service datastart (segs_of path.now) }
 {
-    match attribute(path) {
-        AttributeAnswer::Parsed(attribute) => {
-            let object = object_of(path);
-            RequestAnswer::Parsed(Request {
-                service,
-                object,
-                attribute,
-                datastart,
-            })
-        }
-        AttributeAnswer::Unparsed(_) => RequestAnswer::Unparsed(service),
-    }
+    let attribute = attribute(path).map_err(|_| service)?;
+    Ok(Request {
+        service,
+        object: object_of(path),
+        attribute,
+        datastart,
+    })
 }
 
 // The request that a message is.
-pub fn parse_request(message: &[u8]) -> RequestAnswer
+#[tactic(auto, unfolding(wire_rules::specs::Requests::request_of))]
+pub fn parse_request(message: &[u8]) -> Result<Request, u8>
     ensures { result ≡ request_of message.now }
 {
-    if message.len() == 0 {
-        return RequestAnswer::Unparsed(0);
+    let Some(&service) = message.first() else {
+        return Err(0);
+    };
+    if message.len() < 2 || MESSAGE_MAX < message.len() {
+        return Err(service);
     }
-    let service = message[0];
-    if 65536 < message.len() {
-        return RequestAnswer::Unparsed(service);
-    }
-    if message.len() < 2 {
-        return RequestAnswer::Unparsed(service);
-    }
-    let start = wide(message[1]) * 2 + 2;
+    let start = usize::from(message[1]) * 2 + 2;
     if message.len() < start {
-        return RequestAnswer::Unparsed(service);
+        return Err(service);
     }
     request_with(service, &message[2..start], start)
 }

@@ -1,4 +1,6 @@
 -- Opens and closes worked out byte by byte: every field has bytes of its own, so that none can stand for another.
+use Rattle.std.specs.Prelude.{Option, Some, None}
+use Rattle.wire_rules.specs.declared.ForwardOpen.{ForwardOpen}
 use Prim.Native.Nat.{ℕ}
 use mathlib.Core.Path.{◌≡◌, refl}
 use mathlib.Core.Bool.{Bool, true, false}
@@ -11,10 +13,6 @@ use Rattle.wire_rules.specs.Opens.{triad_at, way_at, place_at, fields_of, open_w
 use Rattle.wire_rules.specs.declared.NetType.TheVariants.{Null, Multicast, PointToPoint, Reserved}
 use Rattle.wire_rules.specs.declared.NetType.{NetType}
 use Rattle.wire_rules.specs.declared.NetParams.{NetParams}
-use Rattle.wire_rules.specs.declared.OpenAnswer.{OpenAnswer}
-use Rattle.wire_rules.specs.declared.OpenAnswer.TheVariants.{Open, NoOpen}
-use Rattle.wire_rules.specs.declared.CloseAnswer.{CloseAnswer}
-use Rattle.wire_rules.specs.declared.CloseAnswer.TheVariants.{Close, NoClose}
 
 -- ---- parameters
 
@@ -43,9 +41,9 @@ front =
     ∷ 3 ∷ 0xA3 ∷ 0xA4 ∷ 0xA5 ∷ 0x10 ∷ 0x27 ∷ 0 ∷ 0 ∷ []
 
 -- the open with that front; `at` is where its path stands
-abbrev asked : NetParams → NetParams → ℕ → OpenAnswer
+abbrev asked : NetParams → NetParams → ℕ → Option ForwardOpen
 asked ot to at =
-    Open
+    Some
     (record {
       otid = record { 0 = 0x04030201 };
       toid = record { 0 = 0x08070605 };
@@ -65,13 +63,13 @@ pub opens : (open_of false (front ++ (0x26 ∷ 0x2A ∷ 0x20 ∷ 0x4E ∷ 0 ∷ 
 unfolding open_of open_with width_of fields_of place_at way_at triad_at params_at le le_of
 opens = (refl, refl)
 
-abbrev is_open : OpenAnswer → Bool
-is_open (Open o) = true
-is_open NoOpen = false
+abbrev is_open : Option ForwardOpen → Bool
+is_open (Some o) = true
+is_open None = false
 
-abbrev is_close : CloseAnswer → Bool
-is_close (Close t) = true
-is_close NoClose = false
+abbrev is_close : Option Triad → Bool
+is_close (Some t) = true
+is_close None = false
 
 -- 35 and 36 bytes of a small open without a path, 39 and 40 of a large one; 65,536 and 65,537; a path cut short by a byte
 pub open_sizes : (map (λ n. is_open (open_of false (replicate n 0))) (35 ∷ 36 ∷ 65536 ∷ 65537 ∷ []) ≡ false ∷ true ∷ true ∷ false ∷ [])
@@ -83,7 +81,7 @@ open_sizes = (refl, refl, refl)
 -- ---- closes
 
 -- priority, ticks, the triad, one word of path, a reserved byte, a path of no known segment, and a byte behind it
-pub closes : close_of (0xA1 ∷ 0xA2 ∷ 0x09 ∷ 0x0A ∷ 0x0B ∷ 0x0C ∷ 0x0D ∷ 0x0E ∷ 0x0F ∷ 0x10 ∷ 1 ∷ 0xA3 ∷ 0xFF ∷ 0xFE ∷ 0xEE ∷ []) ≡ Close triad
+pub closes : close_of (0xA1 ∷ 0xA2 ∷ 0x09 ∷ 0x0A ∷ 0x0B ∷ 0x0C ∷ 0x0D ∷ 0x0E ∷ 0x0F ∷ 0x10 ∷ 1 ∷ 0xA3 ∷ 0xFF ∷ 0xFE ∷ 0xEE ∷ []) ≡ Some triad
 unfolding close_of triad_at le le_of
 closes = refl
 

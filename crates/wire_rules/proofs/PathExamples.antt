@@ -1,4 +1,6 @@
 -- Paths worked out byte by byte: their segments, and what an open reads of them. Each wrong reading that must-fail holds breaks one.
+use Rattle.std.specs.Prelude.{Result, Ok, Err, None, Some}
+use Rattle.wire_rules.specs.declared.ConnectionPath.{ConnectionPath}
 use Prim.Native.Nat.{ℕ}
 use mathlib.Core.Path.{◌≡◌, refl}
 use mathlib.Core.Bool.{Bool, true, false}
@@ -6,12 +8,10 @@ use mathlib.Core.List.{List, [], ◌∷◌, map}
 use lib.ListN.{replicate}
 use Rattle.base_cells.specs.Numbers.{le, le_of}
 use Rattle.wire_rules.specs.Segments.{Segs, segs, broken, port_offset, link_offset, link_size, port_of, port_at, logical_at, key_of, key_at, data_at, between, seg_at, step_at, segs_from, segs_of}
-use Rattle.wire_rules.specs.ConnectionPath.{gather, some, last, no_key, connection_path, path_of}
+use Rattle.wire_rules.specs.ConnectionPath.{gather, some, last, final, connection_path, path_of}
 use Rattle.wire_rules.specs.declared.Key.{Key}
 use Rattle.wire_rules.specs.declared.Seg.{Seg}
 use Rattle.wire_rules.specs.declared.Seg.TheVariants.{Port, Class, Instance, Point, Attribute, Keyed, Data}
-use Rattle.wire_rules.specs.declared.PathAnswer.{PathAnswer}
-use Rattle.wire_rules.specs.declared.PathAnswer.TheVariants.{Parsed, Unparsed}
 
 -- ---- segments
 
@@ -113,24 +113,24 @@ unknown_break = refl
 
 -- ---- what an open reads
 
-abbrev barred_in : PathAnswer → Bool
-barred_in (Parsed p) = p.barred
-barred_in (Unparsed o) = false
+abbrev barred_in : Result ConnectionPath ℕ → Bool
+barred_in (Ok p) = p.barred
+barred_in (Err o) = false
 
 -- a port, an attribute; a class, an instance, a point, a key, data
 pub barring : map (λ s. barred_in (path_of s)) (
     (0x01 ∷ 0x05 ∷ []) ∷ (0x30 ∷ 0x01 ∷ []) ∷ (0x20 ∷ 0x04 ∷ []) ∷ (0x24 ∷ 0x01 ∷ []) ∷ (0x2C ∷ 0x01 ∷ []) ∷ key_bytes 1 ∷ (0x80 ∷ 0x00 ∷ []) ∷ [])
     ≡ true ∷ true ∷ false ∷ false ∷ false ∷ false ∷ false ∷ []
-unfolding path_of connection_path gather some last segs_of segs_from step_at seg_at between port_at port_of link_offset link_size port_offset logical_at key_at key_of data_at le le_of
+unfolding path_of connection_path gather some last final segs_of segs_from step_at seg_at between port_at port_of link_offset link_size port_offset logical_at key_at key_of data_at le le_of
 barring = refl
 
 -- an empty path; then of two keys, two classes and two data segments (the last of no bytes) the last each, and of five instances and
 -- points the first three
 pub read_of_a_path : (path_of []
-    ≡ Parsed (record { barred = false; haskey = false; key = no_key; hasclass = false; class = 0; count = 0; first = 0; second = 0; third = 0; datastart = 0; datalen = 0 }))
+    ≡ Ok (record { barred = false; key = None; class = None; count = 0; first = 0; second = 0; third = 0; datastart = 0; datalen = 0 }))
     × (path_of (
     0x34 ∷ 0x04 ∷ 0x01 ∷ 0x00 ∷ 0x03 ∷ 0x04 ∷ 0x05 ∷ 0x06 ∷ 0x87 ∷ 0x08 ∷ 0x80 ∷ 0x01 ∷ 0xA1 ∷ 0xA2 ∷ 0x20 ∷ 0x06 ∷ 0x20 ∷ 0x04 ∷ 0x24 ∷ 0x05
     ∷ 0x2C ∷ 0x64 ∷ 0x24 ∷ 0x06 ∷ 0x2C ∷ 0x65 ∷ 0x2C ∷ 0x66 ∷ 0x80 ∷ 0x00 ∷ key_bytes 2)
-    ≡ Parsed (record { barred = false; haskey = true; key = key 2; hasclass = true; class = 4; count = 4; first = 5; second = 100; third = 6; datastart = 30; datalen = 0 }))
-unfolding path_of connection_path gather some last segs_of segs_from step_at seg_at between port_at port_of link_offset link_size port_offset logical_at key_at key_of data_at le le_of
+    ≡ Ok (record { barred = false; key = Some (key 2); class = Some 4; count = 4; first = 5; second = 100; third = 6; datastart = 30; datalen = 0 }))
+unfolding path_of connection_path gather some last final segs_of segs_from step_at seg_at between port_at port_of link_offset link_size port_offset logical_at key_at key_of data_at le le_of
 read_of_a_path = (refl, refl)

@@ -1,4 +1,5 @@
 -- Requests worked out byte by byte. Each wrong reading that must-fail holds breaks one.
+use Rattle.std.specs.Prelude.{Some, None, Ok, Err, Option}
 use Prim.Native.Nat.{ℕ}
 use mathlib.Core.Path.{◌≡◌, refl}
 use mathlib.Core.List.{List, [], ◌∷◌}
@@ -6,13 +7,9 @@ use lib.ListN.{replicate}
 use Rattle.base_cells.specs.Numbers.{le, le_of}
 use Rattle.wire_rules.specs.Segments.{Segs, segs, broken, port_offset, link_offset, link_size, port_of, port_at, logical_at, key_of, key_at, data_at, between, seg_at, step_at, segs_from, segs_of}
 use Rattle.wire_rules.specs.ConnectionPath.{gather}
-use Rattle.wire_rules.specs.Requests.{object_in, attribute_in, first_attribute, request_with, request_of}
-use Rattle.wire_rules.specs.declared.Object.TheVariants.{Named, NoObject}
-use Rattle.wire_rules.specs.declared.FirstAttribute.TheVariants.{Number, NoAttribute}
+use Rattle.wire_rules.specs.Requests.{object_in, attribute_in, first_attribute, request_with, request_of, object_named}
 use Rattle.wire_rules.specs.declared.Object.{Object}
-use Rattle.wire_rules.specs.declared.AttributeAnswer as attributes
 use Rattle.wire_rules.specs.declared.Request.{Request}
-use Rattle.wire_rules.specs.declared.RequestAnswer.TheVariants.{Parsed, Unparsed}
 
 pub data Example : Type 0 where
   names : List ℕ → ℕ → ℕ → Example
@@ -22,16 +19,16 @@ pub data Example : Type 0 where
   no_request : List ℕ → ℕ → Example
 
 -- the object of a path, if it parses
-abbrev object_of : Segs → Object
+abbrev object_of : Segs → Option Object
 object_of (segs l) = object_in l
-object_of (broken o) = NoObject
+object_of (broken o) = None
 
 abbrev pub Holds : Example → Type 0
-Holds (names s c i) = object_of (segs_of s) ≡ Named c i
-Holds (names_none s) = object_of (segs_of s) ≡ NoObject
-Holds (attribute_is s a) = first_attribute s ≡ attributes.TheVariants.Parsed (Number a)
-Holds (is_request m r) = request_of m ≡ Parsed r
-Holds (no_request m service) = request_of m ≡ Unparsed service
+Holds (names s c i) = object_of (segs_of s) ≡ object_named c i
+Holds (names_none s) = object_of (segs_of s) ≡ None
+Holds (attribute_is s a) = first_attribute s ≡ Ok (Some a)
+Holds (is_request m r) = request_of m ≡ Ok r
+Holds (no_request m service) = request_of m ≡ Err service
 
 abbrev pub All : List Example → Type 0
 All [] = Unit
@@ -54,8 +51,8 @@ examples =
     -- the first attribute
     ∷ attribute_is (0x20 ∷ 0x04 ∷ 0x24 ∷ 0x01 ∷ 0x30 ∷ 0x03 ∷ 0x30 ∷ 0x01 ∷ []) 3
     -- a get of an attribute with one byte of data; a path of no words
-    ∷ is_request (0x0E ∷ 0x03 ∷ 0x20 ∷ 0x01 ∷ 0x24 ∷ 0x01 ∷ 0x30 ∷ 0x07 ∷ 0xAA ∷ []) (record { service = 0x0E; object = Named 1 1; attribute = Number 7; datastart = 8 })
-    ∷ is_request (0x0E ∷ 0x00 ∷ []) (record { service = 0x0E; object = NoObject; attribute = NoAttribute; datastart = 2 })
+    ∷ is_request (0x0E ∷ 0x03 ∷ 0x20 ∷ 0x01 ∷ 0x24 ∷ 0x01 ∷ 0x30 ∷ 0x07 ∷ 0xAA ∷ []) (record { service = 0x0E; object = object_named 1 1; attribute = Some 7; datastart = 8 })
+    ∷ is_request (0x0E ∷ 0x00 ∷ []) (record { service = 0x0E; object = None; attribute = None; datastart = 2 })
     -- no byte, one byte, a path cut short (in a segment, and between two), a path that does not parse
     ∷ no_request [] 0
     ∷ no_request (0x0E ∷ []) 0x0E
@@ -63,7 +60,7 @@ examples =
     ∷ no_request (0x0E ∷ 0x02 ∷ 0x20 ∷ 0x01 ∷ []) 0x0E
     ∷ no_request (0x0E ∷ 0x01 ∷ 0x28 ∷ 0x00 ∷ []) 0x0E
     -- 65,536 bytes and 65,537
-    ∷ is_request (replicate 65536 0) (record { service = 0; object = NoObject; attribute = NoAttribute; datastart = 2 })
+    ∷ is_request (replicate 65536 0) (record { service = 0; object = None; attribute = None; datastart = 2 })
     ∷ no_request (replicate 65537 0) 0
     ∷ []
 

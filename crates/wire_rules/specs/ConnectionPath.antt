@@ -1,12 +1,10 @@
 -- What an open reads of a path's segments.
-use Rattle.std.specs.Prelude.{ℕ, min, Bool, true, false, List, [], ◌∷◌, ◌++◌, length, get_or}
+use Rattle.std.specs.Prelude.{ℕ, min, Bool, true, false, List, [], ◌∷◌, ◌++◌, length, get_or, Option, Some, None, Result, Ok, Err}
 use Rattle.wire_rules.specs.Segments.{Segs, segs, broken, segs_of}
 use Rattle.wire_rules.specs.declared.Key.{Key}
 use Rattle.wire_rules.specs.declared.Seg.{Seg}
 use Rattle.wire_rules.specs.declared.Seg.TheVariants.{Port, Class, Instance, Point, Attribute, Keyed, Data}
 use Rattle.wire_rules.specs.declared.ConnectionPath.{ConnectionPath}
-use Rattle.wire_rules.specs.declared.PathAnswer.{PathAnswer}
-use Rattle.wire_rules.specs.declared.PathAnswer.TheVariants.{Parsed, Unparsed}
 
 -- what the segments give, one after the other
 unfoldable pub gather : {A : Type 0} → (Seg → List A) → List Seg → List A
@@ -21,6 +19,11 @@ some (a ∷ l) = true
 unfoldable pub last : {A : Type 0} → A → List A → A
 last a [] = a
 last a (b ∷ l) = last b l
+
+-- the last of a list, if there is one
+unfoldable pub final : {A : Type 0} → List A → Option A
+final [] = None
+final (a ∷ l) = Some (last a l)
 
 -- ---- what one segment gives
 
@@ -98,10 +101,8 @@ unfoldable pub connection_path : List Seg → ConnectionPath
 connection_path l =
     record {
       barred = some (bars_in l);
-      haskey = some (keys_in l);
-      key = last no_key (keys_in l);
-      hasclass = some (classes_in l);
-      class = last 0 (classes_in l);
+      key = final (keys_in l);
+      class = final (classes_in l);
       count = min (length (numbers_in l)) 4;
       first = get_or (numbers_in l) 0 0;
       second = get_or (numbers_in l) 1 0;
@@ -110,10 +111,10 @@ connection_path l =
       datalen = (last (0, 0) (places_in l)).1;
     }
 
-abbrev pub path_read : Segs → PathAnswer
-path_read (segs l) = Parsed (connection_path l)
-path_read (broken o) = Unparsed o
+abbrev pub path_read : Segs → Result ConnectionPath ℕ
+path_read (segs l) = Ok (connection_path l)
+path_read (broken o) = Err o
 
 -- what an open reads of a path, or where it does not parse
-unfoldable pub path_of : List ℕ → PathAnswer
+unfoldable pub path_of : List ℕ → Result ConnectionPath ℕ
 path_of s = path_read (segs_of s)

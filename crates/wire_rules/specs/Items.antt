@@ -1,21 +1,17 @@
 -- The item list of a frame: a 16-bit count, then kind, size, bytes; the last must end with the data.
-use Rattle.std.specs.Prelude.{ℕ, zero, suc, ◌+◌, List, [], ◌∷◌, length, leb, eqb}
+use Rattle.std.specs.Prelude.{ℕ, zero, suc, ◌+◌, List, [], ◌∷◌, length, leb, eqb, Result, Ok, Err, ⊤}
 use Rattle.base_cells.specs.Pick.{pick}
 use Rattle.base_cells.specs.Numbers.{le}
 use Rattle.wire_rules.specs.declared.Cursor.{Cursor}
-use Rattle.wire_rules.specs.declared.Start.{Start}
-use Rattle.wire_rules.specs.declared.Start.TheVariants.{At, NoCount}
 use Rattle.wire_rules.specs.declared.Step.{Step}
 use Rattle.wire_rules.specs.declared.Step.TheVariants.{Item, End, Broken}
-use Rattle.wire_rules.specs.declared.Whole.{Whole}
-use Rattle.wire_rules.specs.declared.Whole.TheVariants.{Good, BrokenAt}
 
 abbrev pub cursor : ℕ → ℕ → Cursor
 cursor at left = record { at = at; left = left }
 
 -- 3.2: the count; or its offset, 0, where it does not fit
-unfoldable pub start_of : List ℕ → Start
-start_of s = pick (leb 2 (length s)) (At (cursor 2 (le 2 s 0))) (NoCount 0)
+unfoldable pub start_of : List ℕ → Result Cursor ℕ
+start_of s = pick (leb 2 (length s)) (Ok (cursor 2 (le 2 s 0))) (Err 0)
 
 -- 3.3: where the item at `at` ends: kind and size are 2 bytes each
 abbrev pub item_end : List ℕ → ℕ → ℕ
@@ -55,17 +51,17 @@ unfoldable pub items_from : ℕ → List ℕ → ℕ → Items
 items_from zero s at = follow (step_at s at zero) broken
 items_from (suc n) s at = follow (step_at s at (suc n)) (items_from n s)
 
-abbrev pub begun : Start → (Cursor → Items) → Items
-begun (At c) items = items c
-begun (NoCount o) items = broken o
+abbrev pub begun : Result Cursor ℕ → (Cursor → Items) → Items
+begun (Ok c) items = items c
+begun (Err o) items = broken o
 
 -- the whole list: as many items as the count says
 unfoldable pub items_of : List ℕ → Items
 items_of s = begun (start_of s) (λ c. items_from c.left s c.at)
 
-abbrev pub whole_of : Items → Whole
-whole_of (well_formed l) = Good
-whole_of (broken o) = BrokenAt o
+abbrev pub whole_of : Items → Result ⊤ ℕ
+whole_of (well_formed l) = Ok tt
+whole_of (broken o) = Err o
 
 -- the step behind an item; a list that ends or breaks there stays so
 abbrev pub onward : Step → (Cursor → Step) → Step
@@ -78,9 +74,9 @@ unfoldable pub step_after : ℕ → List ℕ → ℕ → ℕ → Step
 step_after zero s at left = step_at s at left
 step_after (suc n) s at left = onward (step_at s at left) (λ c. step_after n s c.at c.left)
 
-abbrev pub started : Start → (Cursor → Step) → Step
-started (At c) rest = rest c
-started (NoCount o) rest = Broken o
+abbrev pub started : Result Cursor ℕ → (Cursor → Step) → Step
+started (Ok c) rest = rest c
+started (Err o) rest = Broken o
 
 -- 3.5: item n of a frame, counted from 0
 unfoldable pub item_of : ℕ → List ℕ → Step

@@ -1,5 +1,5 @@
 -- The Forward Open and Forward Close requests: what stands at which offset of the service data.
-use Rattle.std.specs.Prelude.{ℕ, ◌+◌, ◌*◌, Bool, true, false, List, length, leb}
+use Rattle.std.specs.Prelude.{ℕ, ◌+◌, ◌*◌, Bool, true, false, List, length, leb, Option, Some, None}
 use Rattle.base_ids.specs.declared.Triad.{Triad}
 use Rattle.base_cells.specs.Pick.{pick}
 use Rattle.base_cells.specs.Numbers.{le}
@@ -7,10 +7,6 @@ use Rattle.wire_rules.specs.Params.{params_at}
 use Rattle.wire_rules.specs.declared.Way.{Way}
 use Rattle.wire_rules.specs.declared.Place.{Place}
 use Rattle.wire_rules.specs.declared.ForwardOpen.{ForwardOpen}
-use Rattle.wire_rules.specs.declared.OpenAnswer.{OpenAnswer}
-use Rattle.wire_rules.specs.declared.OpenAnswer.TheVariants.{Open, NoOpen}
-use Rattle.wire_rules.specs.declared.CloseAnswer.{CloseAnswer}
-use Rattle.wire_rules.specs.declared.CloseAnswer.TheVariants.{Close, NoClose}
 
 -- 5.9: service data up to 65,536 bytes
 abbrev pub limit : ℕ
@@ -43,8 +39,8 @@ fields_of large s w =
     }
 
 -- 5.7, 5.8: an open whose parameters are w bytes wide parses where its path is all there, whatever comes behind
-unfoldable pub open_with : Bool → List ℕ → ℕ → OpenAnswer
-open_with large s w = pick (leb (32 + w + w + 2 * le 1 s (31 + w + w)) (length s)) (Open (fields_of large s w)) NoOpen
+unfoldable pub open_with : Bool → List ℕ → ℕ → Option ForwardOpen
+open_with large s w = pick (leb (32 + w + w + 2 * le 1 s (31 + w + w)) (length s)) (Some (fields_of large s w)) None
 
 -- 5.1: a large open has parameters of four bytes, a small one of two
 unfoldable pub width_of : Bool → ℕ
@@ -52,9 +48,9 @@ width_of true = 4
 width_of false = 2
 
 -- the open that the service data is
-unfoldable pub open_of : Bool → List ℕ → OpenAnswer
-open_of large s = pick (leb (length s) limit) (open_with large s (width_of large)) NoOpen
+unfoldable pub open_of : Bool → List ℕ → Option ForwardOpen
+open_of large s = pick (leb (length s) limit) (open_with large s (width_of large)) None
 
 -- 5.10, 5.11: the close that the service data is: the triad at 2, the path's words counted at 10, a reserved byte, and the path there
-unfoldable pub close_of : List ℕ → CloseAnswer
-close_of s = pick (leb (length s) limit) (pick (leb (12 + 2 * le 1 s 10) (length s)) (Close (triad_at s 2)) NoClose) NoClose
+unfoldable pub close_of : List ℕ → Option Triad
+close_of s = pick (leb (length s) limit) (pick (leb (12 + 2 * le 1 s 10) (length s)) (Some (triad_at s 2)) None) None

@@ -12,12 +12,6 @@ pub struct Cursor {
 }
 
 #[derive(Clone, Copy)]
-pub enum Start {
-    At(Cursor),
-    NoCount(usize),
-}
-
-#[derive(Clone, Copy)]
 pub enum Step {
     Item {
         kind: u16,
@@ -27,12 +21,6 @@ pub enum Step {
     },
     End,
     Broken(usize),
-}
-
-#[derive(Clone, Copy)]
-pub enum Whole {
-    Good,
-    BrokenAt(usize),
 }
 
 // What a frame is: an I/O frame with the place of its payload (CIP sequence first), another list of items, or no list.
@@ -78,15 +66,13 @@ pub enum SegStep {
     Broken(usize),
 }
 
-// What an open reads of a path: whether a port or attribute segment bars it, the last key, the last class, the first three
+// What an open reads of a path: whether a port or attribute segment bars it, the last key and the last class, if any, the first three
 // instances and points with their count (at most 4), and the place of the last data segment.
 #[derive(Clone, Copy)]
 pub struct ConnectionPath {
     pub barred: bool,
-    pub haskey: bool,
-    pub key: Key,
-    pub hasclass: bool,
-    pub class: u32,
+    pub key: Option<Key>,
+    pub class: Option<u32>,
     pub count: usize,
     pub first: u32,
     pub second: u32,
@@ -95,45 +81,20 @@ pub struct ConnectionPath {
     pub datalen: usize,
 }
 
-#[derive(Clone, Copy)]
-pub enum PathAnswer {
-    Parsed(ConnectionPath),
-    Unparsed(usize),
-}
-
 // The object that a path names. Instance 0 is the class itself.
 #[derive(Clone, Copy)]
-pub enum Object {
-    Named { class: u32, instance: u32 },
-    NoObject,
+pub struct Object {
+    pub class: u32,
+    pub instance: u32,
 }
 
-// The first attribute that a path names.
-#[derive(Clone, Copy)]
-pub enum FirstAttribute {
-    Number(u32),
-    NoAttribute,
-}
-
-#[derive(Clone, Copy)]
-pub enum AttributeAnswer {
-    Parsed(FirstAttribute),
-    Unparsed(usize),
-}
-
+// A request: the object and the first attribute that its path names, if it names any, and where its data begins.
 #[derive(Clone, Copy)]
 pub struct Request {
     pub service: u8,
-    pub object: Object,
-    pub attribute: FirstAttribute,
+    pub object: Option<Object>,
+    pub attribute: Option<u32>,
     pub datastart: usize,
-}
-
-// A request, or the service of a message that is none (0 where it has no byte): what the reply to it is to name.
-#[derive(Clone, Copy)]
-pub enum RequestAnswer {
-    Parsed(Request),
-    Unparsed(u8),
 }
 
 // How a connection is carried in one direction.
@@ -178,16 +139,4 @@ pub struct ForwardOpen {
     pub to: Way,
     pub transport: u8,
     pub path: Place,
-}
-
-#[derive(Clone, Copy)]
-pub enum OpenAnswer {
-    Open(ForwardOpen),
-    NoOpen,
-}
-
-#[derive(Clone, Copy)]
-pub enum CloseAnswer {
-    Close(Triad),
-    NoClose,
 }

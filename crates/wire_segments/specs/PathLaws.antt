@@ -1,7 +1,7 @@
 -- What holds of every path: its segments cover it, every link and data segment lies inside its own segment, and a broken
 -- offset lies inside the path.
 use Prim.Native.Nat.{ℕ, zero, suc, ◌+◌, ◌/◌, ◌%◌, ◌<◌, ◌≤◌}
-use Rattle.std.specs.Prelude.{◌≡◌, refl, Bool, length, T, leb, ltb, eqb}
+use Rattle.std.specs.Prelude.{◌≡◌, refl, Bool, length, T, leb, ltb, eqb, Ok}
 use Rattle.std.proofs.Common.{sym, ◌∙◌, subst, leb→le}
 use Rattle.std.proofs.Math.Path.{ap}
 use Rattle.std.proofs.Math.Bool.{true, false}
@@ -13,7 +13,6 @@ use Rattle.base_cells.specs.Pick.{pick}
 use Rattle.wire_rules.specs.Segments.{up_to, even_up, port_offset, link_offset, link_size, port_at, logical_at, key_at, data_at, between, seg_at, path_max, step_at, Segs, segs, broken, cons, follow, segs_from, segs_of}
 use Rattle.wire_rules.specs.ConnectionPath.{gather, last, place, connection_path, path_read, path_of}
 use Rattle.wire_rules.specs.declared.ConnectionPath.{ConnectionPath}
-use Rattle.wire_rules.specs.declared.PathAnswer.TheVariants.{Parsed}
 use Rattle.wire_rules.specs.declared.Key.{Key}
 use Rattle.wire_rules.specs.declared.Seg.{Seg}
 use Rattle.wire_rules.specs.declared.Seg.TheVariants.{Port, Class, Instance, Point, Attribute, Keyed, Data}
@@ -233,11 +232,11 @@ module _ (n : ℕ) where
       ends (bytes f g) = g
 
 -- the configuration data that an open reads lies inside the path
-pub data_inside : (s : List ℕ) (p : ConnectionPath) → Parsed p ≡ path_of s → p.datastart + p.datalen ≤ length s
+pub data_inside : (s : List ℕ) (p : ConnectionPath) → Ok p ≡ path_of s → p.datastart + p.datalen ≤ length s
 unfolding path_of connection_path
 data_inside s p e = go (segs_of s) refl e
   where
-    go : (r : Segs) → segs_of s ≡ r → Parsed p ≡ path_read r → p.datastart + p.datalen ≤ length s
+    go : (r : Segs) → segs_of s ≡ r → Ok p ≡ path_read r → p.datastart + p.datalen ≤ length s
     go (segs l) q f =
         let d : p.datastart ≡ (last (0, 0) (gather place l)).0 = cc in
         let n : p.datalen ≡ (last (0, 0) (gather place l)).1 = cc in

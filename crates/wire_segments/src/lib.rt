@@ -7,64 +7,52 @@ ghost use Rattle.wire_rules.specs.Segments.{port_offset, link_offset, link_size,
 ghost use Rattle.wire_segments.specs.Logical.{named};
 
 use base_cells::{u16_at, u32_at};
+use std::cmp::Ordering;
 use wire_rules::{Key, Seg, SegStep};
 
-fn wide(b: u8) -> usize
-    ensures { (result ≡ b) × (result < 256) }
-{
-    b as usize
-}
+// A path has up to 510 bytes.
+const PATH_MAX: usize = 510;
 
-fn wide16(b: u8) -> u16
-    ensures { result ≡ b }
-{
-    b as u16
-}
-
-fn wide32(b: u8) -> u32
-    ensures { result ≡ b }
-{
-    b as u32
-}
-
+#[tactic(auto, unfolding(wire_rules::specs::Segments::port_offset))]
 fn port_offset(first: u8) -> usize
     ensures { (result ≡ port_offset first) × (1 ≤ result) × (result ≤ 2) }
 {
-    if first / 16 == 1 {
-        return 2;
-    }
-    1
+    if first / 16 == 1 { 2 } else { 1 }
 }
 
+#[tactic(auto, unfolding(wire_rules::specs::Segments::link_offset))]
 fn link_offset(first: u8) -> usize
     ensures { (result ≡ link_offset first) × (1 ≤ result) × (result ≤ 4) }
 {
-    if first % 16 == 15 {
-        return port_offset(first) + 2;
-    }
-    port_offset(first)
+    let port = port_offset(first);
+    if first % 16 == 15 { port + 2 } else { port }
 }
 
+#[tactic(auto, unfolding(wire_rules::specs::Segments::link_size))]
 fn link_size(first: u8, second: u8) -> usize
     ensures { (result ≡ link_size first second) × (result < 256) }
 {
     if first / 16 == 1 {
-        return wide(second);
+        usize::from(second)
+    } else {
+        1
     }
-    1
 }
 
+#[tactic(auto, unfolding(wire_rules::specs::Segments::port_of, wire_rules::specs::Segments::link_offset))]
 fn port_of(path: &[u8], at: usize) -> u16
     requires { (at < length path.now) × (at + link_offset (get_or path.now at 0) ≤ length path.now) }
     ensures { result ≡ port_of path.now at }
 {
     let first = path[at];
     if first % 16 == 15 {
-        return u16_at(path, at + port_offset(first));
+        u16_at(path, at + port_offset(first))
+    } else {
+        u16::from(first % 16)
     }
-    wide16(first % 16)
 }
 
+#[tactic(auto, using(crate::proofs::PortLaws::port_none), unfolding(wire_rules::specs::Segments::port_at))]
 fn port_at(path: &[u8], at: usize) -> SegStep
     requires { at < length path.now }
     ensures { result ≡ port_at path.now at }
@@ -89,7 +77,8 @@ fn port_at(path: &[u8], at: usize) -> SegStep
     }
 }
 
-// The kinds of logical segment.
+// The kinds of logical segment. An enum, since `logical_at` then ensures one equation: of a constructor that it was passed, as `Seg::Class`, a
+// contract could say only what a call may give.
 #[derive(Clone, Copy)]
 enum Logical {
     Class,
@@ -109,39 +98,30 @@ fn named(kind: Logical, value: u32) -> Seg
     }
 }
 
+#[tactic(auto, unfolding(wire_rules::specs::Segments::logical_at))]
 fn logical_at(path: &[u8], at: usize, kind: Logical) -> SegStep
     requires { at < length path.now }
     ensures { result ≡ logical_at path.now at (named kind) }
 {
     let left = path.len() - at;
-    let width = path[at] % 4;
-    if width == 0 {
-        if left < 2 {
-            return SegStep::Broken(at);
-        }
-        return SegStep::Segment {
-            seg: named(kind, wide32(path[at + 1])),
+    match path[at] % 4 {
+        0 if left >= 2 => SegStep::Segment {
+            seg: named(kind, u32::from(path[at + 1])),
             next: at + 2,
-        };
-    }
-    if width == 1 {
-        if left < 4 {
-            return SegStep::Broken(at);
-        }
-        return SegStep::Segment {
-            seg: named(kind, u16_at(path, at + 2) as u32),
+        },
+        1 if left >= 4 => SegStep::Segment {
+            seg: named(kind, u32::from(u16_at(path, at + 2))),
             next: at + 4,
-        };
-    }
-    if left < 6 {
-        return SegStep::Broken(at);
-    }
-    SegStep::Segment {
-        seg: named(kind, u32_at(path, at + 2)),
-        next: at + 6,
+        },
+        2.. if left >= 6 => SegStep::Segment {
+            seg: named(kind, u32_at(path, at + 2)),
+            next: at + 6,
+        },
+        _ => SegStep::Broken(at),
     }
 }
 
+#[tactic(auto, unfolding(wire_rules::specs::Segments::key_of))]
 fn key_of(path: &[u8], at: usize) -> Key
     requires { at + 10 ≤ length path.now }
     ensures { result ≡ key_of path.now at }
@@ -155,14 +135,12 @@ fn key_of(path: &[u8], at: usize) -> Key
     }
 }
 
+#[tactic(auto, unfolding(wire_rules::specs::Segments::key_at))]
 fn key_at(path: &[u8], at: usize) -> SegStep
     requires { at < length path.now }
     ensures { result ≡ key_at path.now at }
 {
-    if path.len() - at < 10 {
-        return SegStep::Broken(at);
-    }
-    if path[at + 1] != 4 {
+    if path.len() - at < 10 || path[at + 1] != 4 {
         return SegStep::Broken(at);
     }
     SegStep::Segment {
@@ -171,6 +149,7 @@ fn key_at(path: &[u8], at: usize) -> SegStep
     }
 }
 
+#[tactic(auto, unfolding(wire_rules::specs::Segments::data_at))]
 fn data_at(path: &[u8], at: usize) -> SegStep
     requires { at < length path.now }
     ensures { result ≡ data_at path.now at }
@@ -179,7 +158,7 @@ fn data_at(path: &[u8], at: usize) -> SegStep
     if left < 2 {
         return SegStep::Broken(at);
     }
-    let len = wide(path[at + 1]) * 2;
+    let len = usize::from(path[at + 1]) * 2;
     if left - 2 < len {
         return SegStep::Broken(at);
     }
@@ -189,12 +168,12 @@ fn data_at(path: &[u8], at: usize) -> SegStep
     }
 }
 
+#[tactic(auto, unfolding(wire_rules::specs::Segments::seg_at, wire_rules::specs::Segments::between))]
 fn seg_at(path: &[u8], at: usize) -> SegStep
     requires { at < length path.now }
     ensures { result ≡ seg_at path.now at }
 {
-    let first = path[at];
-    match first {
+    match path[at] {
         0x00..=0x1F => port_at(path, at),
         0x20..=0x22 => logical_at(path, at, Logical::Class),
         0x24..=0x26 => logical_at(path, at, Logical::Instance),
@@ -207,17 +186,16 @@ fn seg_at(path: &[u8], at: usize) -> SegStep
 }
 
 // What stands at a place of a path: the reader starts at 0 and goes on at each segment's end.
+#[tactic(auto, unfolding(wire_rules::specs::Segments::step_at))]
 pub fn next_segment(path: &[u8], at: usize) -> SegStep
     ensures { result ≡ step_at path.now at }
 {
-    if 510 < path.len() {
-        return SegStep::Broken(510);
+    if PATH_MAX < path.len() {
+        return SegStep::Broken(PATH_MAX);
     }
-    if at == path.len() {
-        return SegStep::End;
+    match at.cmp(&path.len()) {
+        Ordering::Less => seg_at(path, at),
+        Ordering::Equal => SegStep::End,
+        Ordering::Greater => SegStep::Broken(at),
     }
-    if path.len() < at {
-        return SegStep::Broken(at);
-    }
-    seg_at(path, at)
 }

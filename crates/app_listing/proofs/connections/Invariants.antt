@@ -1,4 +1,4 @@
-use Rattle.std.proofs.Common.{◌≤◌, ◌-◌, ◌≡◌, length}
+use Rattle.std.proofs.Common.{◌≡◌, length}
 use lib.Seq.{sets}
 use Rattle.state_rules.specs.Places.{table_in, connections_of}
 use Rattle.state_rules.specs.Setups.{setup_of}
@@ -7,7 +7,4 @@ use Rattle.app_listing.specs.Listing.{tellings}
 use Rattle.app_listing.proofs.connections.Given as goal
 
 abbrev pub invariant-loop-i : goal.invariant-loop-i
-invariant-loop-i l = (l.i ≤ l.n) × (l.out ≡ sets l.initial.out 0 (tellings (setup_of l.s) l.i (conns_in (connections_of l.s) (table_in l.s)))) × (length l.out ≡ length l.initial.out)
-
-abbrev pub decreases-loop-i : goal.decreases-loop-i
-decreases-loop-i l = l.n - l.i
+invariant-loop-i l = (l.out ≡ sets l.initial.out 0 (tellings (setup_of l.s) l.i (conns_in (connections_of l.s) (table_in l.s)))) × (length l.out ≡ length l.initial.out)

@@ -1,11 +1,9 @@
-use Rattle.std.proofs.Common.{arith, length-set}
-use native.Mathlib.Numerals.{towards_suc}
-use Rattle.base_cells.specs.Numbers.{put, le_bytes}
+use Rattle.std.proofs.Common.{◌∙◌, arith}
+use Rattle.base_cells.specs.Numbers.{put, le_bytes, length_le_bytes, le_bytes_of_2, part_sets}
 use Rattle.base_cells.proofs.put_u16.Goals as goal
 
-pub bounds-s-at-2 : goal.bounds-s-at-2
-bounds-s-at-2 c = simp length-set (omega arith)
-
 pub returns : goal.returns
-unfolding put le_bytes
-returns c = simp towards_suc
+unfolding put
+returns c = let a = c.args in
+    let n = length_le_bytes 2 a.v in
+    part_sets a.s.now _ (le_bytes 2 a.v) a.at _ (c.copy_from_slice.ensures.after ∙ c.to_le_bytes.ensures ∙ le_bytes_of_2 a.v (omega arith)) (omega arith) (omega arith)

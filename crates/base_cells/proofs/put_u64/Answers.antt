@@ -1,32 +1,9 @@
-use Rattle.std.proofs.Common.{arith, length-set}
-use native.Mathlib.Numerals.{towards_suc}
-use Rattle.base_cells.specs.Numbers.{put, le_bytes}
+use Rattle.std.proofs.Common.{◌∙◌, arith}
+use Rattle.base_cells.specs.Numbers.{put, le_bytes, length_le_bytes, le_bytes_of_8, part_sets}
 use Rattle.base_cells.proofs.put_u64.Goals as goal
 
-pub bounds-s-at-2 : goal.bounds-s-at-2
-bounds-s-at-2 c = simp length-set (omega arith)
-
-pub bounds-s-at-3 : goal.bounds-s-at-3
-bounds-s-at-3 c = simp length-set (omega arith)
-
-pub bounds-s-at-4 : goal.bounds-s-at-4
-bounds-s-at-4 c = simp length-set (omega arith)
-
-pub bounds-s-at-5 : goal.bounds-s-at-5
-bounds-s-at-5 c = simp length-set (omega arith)
-
-pub bounds-s-at-6 : goal.bounds-s-at-6
-bounds-s-at-6 c = simp length-set (omega arith)
-
-pub bounds-s-at-7 : goal.bounds-s-at-7
-bounds-s-at-7 c = simp length-set (omega arith)
-
-pub bounds-s-at-8 : goal.bounds-s-at-8
-bounds-s-at-8 c = simp length-set (omega arith)
-
-pub shape_of-s : goal.shape_of-s
-shape_of-s c = simp length-set
-
 pub returns : goal.returns
-unfolding put le_bytes
-returns c = simp towards_suc
+unfolding put
+returns c = let a = c.args in
+    let n = length_le_bytes 8 a.v in
+    part_sets a.s.now _ (le_bytes 8 a.v) a.at _ (c.copy_from_slice.ensures.after ∙ c.to_le_bytes.ensures ∙ le_bytes_of_8 a.v (omega arith)) (omega arith) (omega arith)

@@ -7,15 +7,15 @@ use Rattle.conn_ending.specs.Expiry.{turn_fault}
 use Rattle.conn_ending.proofs.expire_one.Goals as goal
 
 pub remove_conn-requires : goal.remove_conn-requires
-remove_conn-requires c = let a = c.args in (c.requires, found_in (expired a.time) a.s.now c.u16_at-n.result c.find_expired.result c.u16_at-n.ensures c.find_expired.ensures c.in-At.i c.in-At.is)
+remove_conn-requires c = let a = c.args in (c.requires, found_in (expired a.time) a.s.now c.u16_at-n.result c.find_expired.result c.u16_at-n.ensures c.find_expired.ensures c.in-Some.i c.in-Some.is)
 
-pub returns-in-Nowhere : goal.returns-in-Nowhere
-returns-in-Nowhere c = let a = c.args in (fewer_none a.s.now c.requires, ends_none a.time a.s.now c.u16_at-n.result c.find_expired.result c.u16_at-n.ensures c.find_expired.ensures c.in-Nowhere.is)
+pub returns-in_default : goal.returns-in_default
+returns-in_default c = let a = c.args in (fewer_none a.s.now c.requires, ends_none a.time a.s.now c.u16_at-n.result c.find_expired.result c.u16_at-n.ensures c.find_expired.ensures c.in_default.is)
 
-pub returns-in-At : goal.returns-in-At
-returns-in-At c = let a = c.args in
+pub returns : goal.returns
+returns c = let a = c.args in
     let s₁ = c.remove_conn.new.s in
     let s₂ = c.set_fault.new.s in (
       fewer_both a.s.now s₁ s₂ c.remove_conn.ensures.0 (fewer_kept (connections_of s₁) s₁ s₂ c.set_fault.ensures.0 (omega arith)),
-      ends_one a.time a.s.now c.u16_at-n.result c.find_expired.result c.u16_at-n.ensures c.find_expired.ensures c.in-At.i c.in-At.is s₁ s₂ c.remove_conn.ensures.1 (turn_fault s₁ s₂ true c.set_fault.ensures.1),
+      ends_one a.time a.s.now c.u16_at-n.result c.find_expired.result c.u16_at-n.ensures c.find_expired.ensures c.in-Some.i c.in-Some.is s₁ s₂ c.remove_conn.ensures.1 (turn_fault s₁ s₂ true c.set_fault.ensures.1),
     )

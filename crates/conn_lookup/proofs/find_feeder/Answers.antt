@@ -1,26 +1,9 @@
-use Rattle.std.proofs.Common.{ap, sym, ◌∙◌, ◌-◌, arith}
-use Rattle.rules.specs.Lists.{place}
+use Rattle.std.proofs.Common.{rules}
 use Rattle.rules.specs.Removal.{feeds}
-use Rattle.state_rules.specs.Rows.{dec_conn, conns_in}
+use Rattle.state_rules.specs.Rows.{dec_conn}
 use Rattle.state_rules.specs.Places.{row_size}
-use Rattle.state_searches.specs.Searches.{later_zero, search_hit, search_miss, search_ends}
-use Rattle.conn_lookup.specs.RowTests.{found_of}
+use Rattle.state_searches.specs.Ranges.{row_found}
 use Rattle.conn_lookup.proofs.find_feeder.Goals as goal
 
-pub loop-i-init : goal.loop-i-init
-loop-i-init c = let a = c.args in (omega arith, sym (later_zero (place (feeds a.id) (conns_in a.n a.r.now))))
-
-pub returns-then-feeds_at : goal.returns-then-feeds_at
-returns-then-feeds_at c = let a = c.args in
-    let w = c.loop-i in
-    ap found_of (sym (w.invariant.1 ∙ search_hit row_size dec_conn (feeds a.id) a.n a.r.now w.i (omega arith) (sym c.feeds_at.ensures ∙ c.if-feeds_at.true)))
-
-pub loop-i-preserved : goal.loop-i-preserved
-loop-i-preserved c = let a = c.args in
-    let w = c.loop-i in
-    (omega arith, w.invariant.1 ∙ search_miss row_size dec_conn (feeds a.id) a.n a.r.now w.i (omega arith) (sym c.feeds_at.ensures ∙ c.if-feeds_at.false))
-
 pub returns : goal.returns
-returns c = let a = c.args in
-    let w = c.loop-i in
-    ap found_of (sym (w.invariant.1 ∙ search_ends row_size dec_conn (feeds a.id) a.n a.r.now w.i (omega arith)))
+returns c = let a = c.args in row_found row_size dec_conn (feeds a.id) a.n a.r.now _ _ _ c.find.ensures.ran (λ v b y k. search rules)

@@ -1,9 +1,5 @@
-use Rattle.std.proofs.Common.{◌-◌, ◌≤◌}
 use Rattle.io_counting.specs.AnyDue.{DueSoFar}
 use Rattle.io_counting.proofs.any_due.Given as goal
 
 abbrev pub invariant-loop-i : goal.invariant-loop-i
-invariant-loop-i l = (l.i ≤ l.n) × DueSoFar l.time l.n l.r l.m l.i
-
-abbrev pub decreases-loop-i : goal.decreases-loop-i
-decreases-loop-i l = l.n - l.i
+invariant-loop-i l = DueSoFar l.time l.n l.r l.m l.i

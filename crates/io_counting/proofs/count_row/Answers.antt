@@ -4,11 +4,11 @@ use Rattle.io_counting.proofs.count_row.Goals as goal
 
 pub returns-then-time-t : goal.returns-then-time-t
 returns-then-time-t c = let a = c.args in
-    (omega arith, omega arith, omega arith, count_later a.time a.limit a.i a.s.now c.requires.2 c.due_at-d.result c.due_at-d.ensures a.k c.in-At.t c.in-At.is c.if-time-t.true)
+    (omega arith, omega arith, omega arith, count_later a.time a.limit a.i a.s.now c.requires.2 c.due_at-d.result c.due_at-d.ensures a.k c.in-Some.t c.in-Some.is c.if-time-t.true)
 
-pub returns-in-Never : goal.returns-in-Never
-returns-in-Never c = let a = c.args in
-    (omega arith, omega arith, omega arith, count_never a.time a.limit a.i a.s.now c.requires.2 c.due_at-d.result c.due_at-d.ensures a.k c.in-Never.is)
+pub returns-in-None : goal.returns-in-None
+returns-in-None c = let a = c.args in
+    (omega arith, omega arith, omega arith, count_never a.time a.limit a.i a.s.now c.requires.2 c.due_at-d.result c.due_at-d.ensures a.k c.in-None.is)
 
 pub returns-else-time-t : goal.returns-else-time-t
 returns-else-time-t c = let a = c.args in
@@ -18,6 +18,6 @@ returns-else-time-t c = let a = c.args in
       r.ensures.0,
       r.ensures.1,
       r.ensures.2,
-      count_due a.time a.limit a.i a.s.now p.2 c.due_at-d.result c.due_at-d.ensures a.k c.in-At.t c.in-At.is c.if-time-t.false
+      count_due a.time a.limit a.i a.s.now p.2 c.due_at-d.result c.due_at-d.ensures a.k c.in-Some.t c.in-Some.is c.if-time-t.false
           c.input_at.result c.input_at.ensures d.result.at d.result.size d.ensures.0 p.0.long d.ensures.2 r.result r.ensures.3,
     )

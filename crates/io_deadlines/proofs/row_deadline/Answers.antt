@@ -6,5 +6,4 @@ use Rattle.io_deadlines.proofs.row_deadline.Goals as goal
 
 pub returns : goal.returns
 returns c = let a = c.args in
-    row_least (row_at a.r.now a.i) c.until_at-until.result c.due_number_at-due.result c.wrapping_sub_u64.result c.lesser.result
-    c.until_at-until.ensures c.due_number_at-due.ensures c.wrapping_sub_u64.ensures.value c.lesser.ensures (omega arith) (omega arith)
+    row_least (row_at a.r.now a.i) _ _ _ c.until_at-until.ensures c.due_number_at-due.ensures c.min.ensures (omega arith) (omega arith)

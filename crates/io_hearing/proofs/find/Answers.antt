@@ -1,5 +1,5 @@
 -- What the rows from i on give is what all give: four with other ids are passed over.
-use Rattle.std.proofs.Common.{◌-◌, sym, ◌∙◌, arith}
+use Rattle.std.proofs.Common.{sym, ◌∙◌, arith}
 use Rattle.rules.specs.Lists.{place}
 use Rattle.state_rules.specs.Rows.{conns_in}
 use Rattle.state_searches.specs.Searches.{later_zero}

@@ -5,5 +5,5 @@ use Rattle.io_producing.proofs.keep_tally.Goals as goal
 
 pub returns : goal.returns
 returns c = let a = c.args in
-    kept_becomes a.s.now c.set_counters.new.s a.k c.count_on-produced.result c.count_on-late.result
-    (c.count_on-produced.ensures ∙ ap (λ (n : ℕ). counted n a.k.count) c.u64_at.ensures) (c.count_on-late.ensures ∙ ap (λ (n : ℕ). counted n a.k.late) c.u64_at-2.ensures) c.set_counters.ensures.1
+    kept_becomes a.s.now c.set_counters.new.s a.k c.saturating_add-produced.result c.saturating_add-late.result
+    (c.saturating_add-produced.ensures ∙ ap (λ (n : ℕ). counted n a.k.count) c.u64_at.ensures) (c.saturating_add-late.ensures ∙ ap (λ (n : ℕ). counted n a.k.late) c.u64_at-2.ensures) c.set_counters.ensures.1

@@ -1,13 +1,18 @@
-use Rattle.std.proofs.Common.{sym, ◌∙◌}
+use Rattle.std.proofs.Common.{◌∙◌, arith}
+use Rattle.std.proofs.lemmas.Grind.{common_steps}
+use Rattle.rules.specs.Answers.{answer_number}
+use Rattle.rules.specs.Routing.{path_answer}
+use Rattle.msg_routing.specs.Answered.{answered}
 use Rattle.msg_routing.specs.Bounds.{path_bounds}
-use Rattle.msg_routing.specs.Told.{path_told_lem, no_path_lem}
+use Rattle.msg_routing.specs.Told.{path_told_lem}
 use Rattle.msg_routing.proofs.tell_path.Goals as goal
 
 pub put_path-requires : goal.put_path-requires
-put_path-requires c = path_bounds _ _ (sym c.in-Parsed.is ∙ c.parse_path.ensures)
+put_path-requires c = path_bounds c.args.path.now c.in_ok-p.p (grind (arith, common_steps))
 
-pub returns-in-Parsed : goal.returns-in-Parsed
-returns-in-Parsed c = c.put_path.ensures ∙ path_told_lem _ _ _ (sym c.in-Parsed.is ∙ c.parse_path.ensures)
+pub returns : goal.returns
+returns c = c.put_path.ensures ∙ path_told_lem _ _ _ (grind (arith, common_steps))
 
-pub returns-in-Unparsed : goal.returns-in-Unparsed
-returns-in-Unparsed c = no_path_lem _ _ _ (sym c.in-Unparsed.is ∙ c.parse_path.ensures)
+pub returns-in_err-p : goal.returns-in_err-p
+unfolding answered path_answer answer_number
+returns-in_err-p c = grind (arith, common_steps)

@@ -1,13 +1,18 @@
-use Rattle.std.proofs.Common.{sym, ◌∙◌}
+use Rattle.std.proofs.Common.{◌∙◌, arith}
+use Rattle.std.proofs.lemmas.Grind.{common_steps}
+use Rattle.rules.specs.Answers.{answer_number}
+use Rattle.rules.specs.Routing.{request_answer}
+use Rattle.msg_routing.specs.Answered.{answered}
 use Rattle.msg_routing.specs.Bounds.{request_bounds}
-use Rattle.msg_routing.specs.Told.{request_told_lem, no_request}
+use Rattle.msg_routing.specs.Told.{request_told_lem}
 use Rattle.msg_routing.proofs.tell_request.Goals as goal
 
 pub put_request-requires : goal.put_request-requires
-put_request-requires c = request_bounds _ _ (sym c.in-Parsed.is ∙ c.parse_request.ensures)
+put_request-requires c = request_bounds c.args.message.now c.in_ok-q.q (grind (arith, common_steps))
 
-pub returns-in-Parsed : goal.returns-in-Parsed
-returns-in-Parsed c = c.put_request.ensures ∙ request_told_lem _ _ _ (sym c.in-Parsed.is ∙ c.parse_request.ensures)
+pub returns : goal.returns
+returns c = c.put_request.ensures ∙ request_told_lem _ _ _ (grind (arith, common_steps))
 
-pub returns-in-Unparsed : goal.returns-in-Unparsed
-returns-in-Unparsed c = no_request _ _ _ (sym c.in-Unparsed.is ∙ c.parse_request.ensures)
+pub returns-in_err-q : goal.returns-in_err-q
+unfolding answered request_answer answer_number
+returns-in_err-q c = grind (arith, common_steps)

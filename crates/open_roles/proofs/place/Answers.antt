@@ -1,12 +1,17 @@
-use Rattle.std.proofs.Common.{arith}
-use Rattle.open_roles.specs.RoleLaws.{place_found, place_nowhere, place_small}
+use Rattle.std.proofs.Common.{sym, arith}
+use Rattle.rules.specs.State.{no_shape}
+use Rattle.rules.specs.Host.{kind_test}
+use Rattle.rules.specs.Checks.{is_at}
+use Rattle.state_rules.specs.Setups.{shapes_of}
+use Rattle.state_rules.specs.SetupLaws.{length_shapes}
+use Rattle.state_searches.specs.Searches.{place_in_lem}
+use Rattle.state_places.specs.Kinds.{number_of}
 use Rattle.open_roles.proofs.place.Goals as goal
 
+-- a place that was found is one of the list
 pub overflow_cast-result : goal.overflow_cast-result
-overflow_cast-result c = let a = c.args in let p = c.requires in let h = place_small a.r.now a.kind a.point c.find.result c.find.ensures _ c.in-At.is in omega arith
-
-pub returns-in-At : goal.returns-in-At
-returns-in-At c = let a = c.args in place_found a.r.now a.kind a.point c.find.result c.find.ensures _ c.in-At.is
-
-pub returns-in-Nowhere : goal.returns-in-Nowhere
-returns-in-Nowhere c = let a = c.args in place_nowhere a.r.now a.kind a.point c.find.result c.find.ensures c.in-Nowhere.is
+overflow_cast-result c =
+    let a = c.args in
+    let n = length_shapes a.r.now in
+    let h = place_in_lem (is_at (kind_test (number_of a.kind)) a.point) no_shape (shapes_of a.r.now) c.in_ok-i.i (sym c.in_ok-i.ensures) in
+    omega arith

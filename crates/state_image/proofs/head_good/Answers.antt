@@ -3,4 +3,4 @@ use Rattle.state_image.specs.TestLaws.{head_is}
 use Rattle.state_image.proofs.head_good.Goals as goal
 
 pub returns : goal.returns
-returns c = head_is _ _ _ _ _ _ c.u32_at-id.ensures c.u32_at-ring.ensures c.u16_at-conns.ensures c.both.ensures c.both-2.ensures
+returns c = head_is _ _ _ _ c.u32_at-id.ensures c.u32_at-ring.ensures c.u16_at-conns.ensures

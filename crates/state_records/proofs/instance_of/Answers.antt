@@ -3,8 +3,8 @@ use Rattle.rules.specs.State.{Shape}
 use Rattle.state_records.specs.Shapes.{shape_within, shape_past}
 use Rattle.state_records.proofs.instance_of.Goals as goal
 
-pub returns-then-i-n : goal.returns-then-i-n
-returns-then-i-n c = c.instance_at.ensures ∙ ap (λ (a : Shape). a.instance) (shape_within c.args.r.now c.args.i c.u8_at-n.result c.u8_at-n.ensures c.if-i-n.true)
+pub returns-then-i-u8_at : goal.returns-then-i-u8_at
+returns-then-i-u8_at c = c.instance_at.ensures ∙ ap (λ (a : Shape). a.instance) (shape_within c.args.r.now c.args.i c.u8_at.result c.u8_at.ensures c.if-i-u8_at.true)
 
-pub returns : goal.returns
-returns c = ap (λ (a : Shape). a.instance) (shape_past c.args.r.now c.args.i c.u8_at-n.result c.u8_at-n.ensures c.if-i-n.false)
+pub returns-else-i-u8_at : goal.returns-else-i-u8_at
+returns-else-i-u8_at c = ap (λ (a : Shape). a.instance) (shape_past c.args.r.now c.args.i c.u8_at.result c.u8_at.ensures c.if-i-u8_at.false)

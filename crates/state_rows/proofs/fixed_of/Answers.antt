@@ -8,7 +8,7 @@ unfolding dec_fixed
 returns c = λ i.
     record {
       kind = (c.kind_in.ensures ∙ ap kind_in c.u8_at-role.ensures) i;
-      triad = c.triad_of-triad.ensures i;
+      triad = c.triad_of.ensures i;
       originator = c.u32_at.ensures i;
       otid = record { 0 = c.u32_at-2.ensures i };
       toid = record { 0 = c.u32_at-3.ensures i };
@@ -17,7 +17,7 @@ returns c = λ i.
       torpi = c.u32_at-5.ensures i;
       input = (c.input_in.ensures ∙ ap input_in c.u8_at-flags.ensures) i;
       output = (c.output_in.ensures ∙ ap output_in c.u8_at-role.ensures) i;
-      dest = c.dest_of-dest.ensures i;
+      dest = c.dest_of.ensures i;
       multicast = (c.multicast_in.ensures ∙ ap multicast_in c.u8_at-flags.ensures) i;
       local = c.u32_at-6.ensures i;
     }

@@ -1,16 +1,6 @@
-use Rattle.std.proofs.Common.{◌-◌, sym, ◌∙◌, arith}
-use Rattle.wire_segments.specs.PathLaws.{segment_found}
-use Rattle.wire_paths.proofs.HeldLaws.{held_none, held_more, held_all, held_broken}
+use Rattle.std.proofs.Common.{sym, ◌∙◌}
+use Rattle.wire_paths.proofs.HeldLaws.{held_all, held_broken}
 use Rattle.wire_paths.proofs.parse_path.Goals as goal
-
-pub loop-seg-init : goal.loop-seg-init
-loop-seg-init c = held_none _ _ c.nothing_read-held.ensures
-
-pub loop-seg-smaller : goal.loop-seg-smaller
-loop-seg-smaller c = omega (arith, segment_found _ _ _ _ (sym c.in-Segment.is ∙ c.next_segment.ensures))
-
-pub loop-seg-preserved : goal.loop-seg-preserved
-loop-seg-preserved c = held_more _ _ _ c.loop-seg.invariant _ _ _ (sym c.in-Segment.is ∙ c.next_segment.ensures) c.add_segment-held.ensures
 
 pub returns-in-End : goal.returns-in-End
 returns-in-End c = held_all _ _ _ c.loop-seg.invariant (sym c.in-End.is ∙ c.next_segment.ensures)

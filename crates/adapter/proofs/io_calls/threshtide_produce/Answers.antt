@@ -4,6 +4,8 @@ use Rattle.state_rules.specs.Image.{view}
 use Rattle.state_image.specs.Holds.{ready_tested, slotted_tested, holds_tested}
 use Rattle.state_image.specs.Lift.{out_fails, out_kept, out_done}
 use Rattle.io_producing.specs.CallLaws.{late_number, late_state, late_bytes}
+use Rattle.rules.specs.Answers.{outcome_number}
+use Rattle.adapter.specs.Ways.{numbered}
 use Rattle.adapter.proofs.io_calls.threshtide_produce.Goals as goal
 
 pub returns-then-not-test_state : goal.returns-then-not-test_state
@@ -28,4 +30,4 @@ returns c = let a = c.args in
     let t = sym c.test_state.ensures ∙ c.if-not-test_state.false in
     let d = c.produce in
     let y = d.ensures (view s) s (holds_tested s t (λ i. omega (arith, c.slice_known-1.given i))) in
-    out_done (produce_call a.time) s a.out.now t d.result d.new.s d.new.out y.number y.is y.out
+    numbered _ d.result _ _ c.number.ensures (out_done (produce_call a.time) s a.out.now t (outcome_number d.result) d.new.s d.new.out y.number y.is y.out)

@@ -19,15 +19,15 @@ pub open_request-requires : goal.open_request-requires
 open_request-requires c = let a = c.args in (
   sym c.test_state.ensures ∙ c.if-not-test_state.false,
   let h = c.if-time-gt9223372036854775807.false in omega (arith, h),
-  open_inside a.service a.request.now c.in-Open.o (sym c.request_of.ensures ∙ c.in-Open.is),
+  open_inside a.service a.request.now c.in-Some.o (sym c.request_of.ensures ∙ c.in-Some.is),
 )
 
-pub returns-in-NoOpen : goal.returns-in-NoOpen
-returns-in-NoOpen c = let a = c.args in
+pub returns-in-None : goal.returns-in-None
+returns-in-None c = let a = c.args in
     let g = origin_of a.peer a.local a.mask a.given a.address a.port a.ioport in
-    open_unread a.time a.service a.request.now g a.state.now a.out.now c.if-time-gt9223372036854775807.false (sym c.test_state.ensures ∙ c.if-not-test_state.false) (λ i. omega (arith, c.slice_known-1.given i)) (sym c.request_of.ensures ∙ c.in-NoOpen.is)
+    open_unread a.time a.service a.request.now g a.state.now a.out.now c.if-time-gt9223372036854775807.false (sym c.test_state.ensures ∙ c.if-not-test_state.false) (λ i. omega (arith, c.slice_known-1.given i)) (sym c.request_of.ensures ∙ c.in-None.is)
 
-pub returns-in-Open : goal.returns-in-Open
-returns-in-Open c = let a = c.args in
+pub returns-in-Some : goal.returns-in-Some
+returns-in-Some c = let a = c.args in
     let g = origin_of a.peer a.local a.mask a.given a.address a.port a.ioport in
-    open_read a.time a.service a.request.now g a.state.now a.out.now c.if-time-gt9223372036854775807.false c.in-Open.o (sym c.request_of.ensures ∙ c.in-Open.is) c.open_request.result c.open_request.new.s c.open_request.new.out c.open_request.ensures
+    open_read a.time a.service a.request.now g a.state.now a.out.now c.if-time-gt9223372036854775807.false c.in-Some.o (sym c.request_of.ensures ∙ c.in-Some.is) c.open_request.result c.open_request.new.s c.open_request.new.out (rw c.then_some.ensures at c.open_request.ensures)

@@ -4,5 +4,5 @@ use Rattle.app_starting.proofs.checks.eds_fits.Goals as goal
 pub returns-then-flag-eq0 : goal.returns-then-flag-eq0
 returns-then-flag-eq0 c = eds_none _ _ c.if-flag-eq0.true
 
-pub returns : goal.returns
-returns c = eds_some _ _ c.if-flag-eq0.false
+pub returns-else-flag-eq0 : goal.returns-else-flag-eq0
+returns-else-flag-eq0 c = eds_some _ _ c.if-flag-eq0.false

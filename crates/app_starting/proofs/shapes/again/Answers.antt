@@ -1,12 +1,9 @@
-use Rattle.std.proofs.Common.{◌-◌, refl, sym, ◌∙◌, arith}
+use Rattle.std.proofs.Common.{refl, sym, ◌∙◌}
 use Rattle.app_starting.specs.Shapes.{again_here, again_on, again_ends}
 use Rattle.app_starting.proofs.shapes.again.Goals as goal
 
 pub loop-i-init : goal.loop-i-init
 loop-i-init c = refl
-
-pub instance_at-requires : goal.instance_at-requires
-instance_at-requires c = let p = c.requires in (omega arith, p.1)
 
 pub returns-then-x-instance_at : goal.returns-then-x-instance_at
 returns-then-x-instance_at c = let a = c.args in let w = c.loop-i in let e = c.instance_at.ensures in

@@ -1,8 +1,0 @@
-use Rattle.std.proofs.Common.{◌<◌, ◌-◌, ◌+◌, ◌≡◌, take, drop}
-use Rattle.base_copies.proofs.same_blocks.Given as goal
-
-abbrev pub invariant-loop-j : goal.invariant-loop-j
-invariant-loop-j l = (l.j < l.last + 32) × (take l.j (drop l.at l.s) ≡ take l.j l.d)
-
-abbrev pub decreases-loop-j : goal.decreases-loop-j
-decreases-loop-j l = l.last + 32 - l.j

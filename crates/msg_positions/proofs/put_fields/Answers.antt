@@ -1,6 +1,0 @@
-use Rattle.base_cells.specs.Records.{puts, done, step}
-use Rattle.msg_positions.proofs.put_fields.Goals as goal
-
-pub returns : goal.returns
-returns c = puts
-    (step c.put_u8.ensures (step c.put_u8-2.ensures (step c.put_u8-3.ensures (step c.put_u8-4.ensures (step c.put_u16.ensures (step c.put_u16-2.ensures done))))))

@@ -1,4 +1,0 @@
-pub mod Says
-pub mod SaysLaws
-pub mod RequestLaws
-pub mod KeyLaws

@@ -1,9 +1,0 @@
--- The loop ends because its turns are counted.
-use Rattle.std.proofs.Common.{◌-◌, ◌≤◌}
-use Rattle.run_limits.proofs.owners.change.Given as goal
-
-abbrev pub invariant-loop-k : goal.invariant-loop-k
-invariant-loop-k l = l.k ≤ l.many
-
-abbrev pub decreases-loop-k : goal.decreases-loop-k
-decreases-loop-k l = l.many - l.k

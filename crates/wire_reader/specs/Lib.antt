@@ -1,0 +1,2 @@
+-- What a reader gives.
+pub mod Reader
