@@ -33,7 +33,8 @@ pub fn set_input(s: &mut [u8], instance: u32, d: &[u8]) -> Result<u16, No>
     ensures { (outcome_number result, s.new) ≡ lifted (set_input_call instance d.now) s.old }
 {
     let setup = &s[0..state_layout::SETUP_SIZE];
-    let Some(i) = state_places::find(setup, AssemblyKind::Input, instance) else {
+    let input = state_places::number_of(AssemblyKind::Input);
+    let Some(i) = state_places::find(setup, input, instance) else {
         return Err(No::NoAssembly);
     };
     fill_input(s, i, d)

@@ -23,7 +23,7 @@ fn tell(s: &[u8], i: usize, out: &mut [u8])
     let start = i * 32;
     state_records::put_record(
         &mut out[start..start + 32],
-        Occasion::Listed,
+        Occasion::Listed.number(),
         &s[0..state_layout::SETUP_SIZE],
         f,
     );

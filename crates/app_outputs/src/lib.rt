@@ -1,13 +1,11 @@
 // Outputs, and any assembly's data, handed to the application.
 #![tactic(auto)]
 
-ghost use Rattle.std.specs.Prelude.{◌≡◌, ◌≢◌, ◌<◌, MatchOption};
-ghost use Rattle.rules.specs.declared.AssemblyKind.{AssemblyKind};
+ghost use Rattle.std.specs.Prelude.{◌≡◌, ◌<◌};
 ghost use Rattle.rules.specs.Host.{output_call, assembly_answer};
 ghost use Rattle.state_rules.specs.Places.{assemblies_of};
 ghost use Rattle.state_image.specs.Lift.{lifted_out, lifted_read};
 ghost use Rattle.rules.specs.Answers.{outcome_number};
-ghost use Rattle.state_places.specs.Kinds.{number_of};
 ghost use Rattle.app_answers.specs.Outcomes.{Passed};
 ghost use Rattle.app_answers.specs.Places.{assembly_read_at, output_read_at};
 
@@ -28,28 +26,13 @@ fn copy_assembly(s: &[u8], i: usize, out: &mut [u8]) -> Result<u16, No>
     Ok(n as u16)
 }
 
-// The kind that a number of the host's names.
-fn kind_of(number: u8) -> Option<AssemblyKind>
-    ensures { MatchOption result ((k : AssemblyKind) → number_of k ≢ number) (λ k. number_of k ≡ number) }
-{
-    match number {
-        1 => Some(AssemblyKind::Input),
-        2 => Some(AssemblyKind::Output),
-        3 => Some(AssemblyKind::Config),
-        _ => None,
-    }
-}
-
 // An assembly's data; kinds are 1 input, 2 output, 3 configuration.
 pub fn assembly(s: &[u8], kind: u8, instance: u32, out: &mut [u8]) -> Result<u16, No>
     requires { Passed s.now }
     ensures { (outcome_number result, out.new) ≡ lifted_read (assembly_answer kind instance) s.now out.old }
 {
-    let Some(asked) = kind_of(kind) else {
-        return Err(No::NoAssembly);
-    };
     let setup = &s[0..state_layout::SETUP_SIZE];
-    let Some(i) = state_places::find(setup, asked, instance) else {
+    let Some(i) = state_places::find(setup, kind, instance) else {
         return Err(No::NoAssembly);
     };
     copy_assembly(s, i, out)
@@ -78,7 +61,8 @@ pub fn output(s: &mut [u8], instance: u32, out: &mut [u8]) -> Result<u16, No>
     ensures { (outcome_number result, (s.new, out.new)) ≡ lifted_out (output_call instance) s.old out.old }
 {
     let setup = &s[0..state_layout::SETUP_SIZE];
-    let Some(i) = state_places::find(setup, AssemblyKind::Output, instance) else {
+    let output = state_places::number_of(AssemblyKind::Output);
+    let Some(i) = state_places::find(setup, output, instance) else {
         return Err(No::NoAssembly);
     };
     take_output(s, i, out)

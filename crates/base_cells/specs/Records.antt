@@ -1,8 +1,8 @@
 -- Records of numbers, laid out one after the other, over the list of the fields' widths.
-use Rattle.std.specs.Prelude.{ℕ, zero, suc, ◌+◌, Bool, true, false, not, List, [], ◌∷◌, ◌++◌, ◌≡◌, refl, T, eqb, length}
-use Rattle.std.proofs.Common.{append_assoc, ap, ap₂, sym, ◌∙◌, length-append, drop_at, take_at}
+use Rattle.std.specs.Prelude.{ℕ, zero, suc, ◌+◌, ◌≤◌, ◌<◌, Bool, true, false, not, List, [], ◌∷◌, ◌++◌, ◌≡◌, refl, T, eqb, length, take, drop, get_or, set}
+use Rattle.std.proofs.Common.{append_assoc, ap, ap₂, sym, ◌∙◌, arith, add-zero, add_assoc, length-append, drop_at, take_at}
 use Rattle.std.proofs.lemmas.List.Edits.{sets}
-use Rattle.base_cells.specs.Numbers.{le, put, le_bytes, length_le_bytes, le_of_le_bytes, sets_append}
+use Rattle.base_cells.specs.Numbers.{le, put, le_bytes, length_le_bytes, le_of_le_bytes, sets_append, le_drop, le_take, le_put_same, le_put_before, le_put_after}
 
 unfoldable pub sum : List ℕ → ℕ
 sum [] = 0
@@ -72,6 +72,16 @@ dec_enc (suc w ∷ ws) (v ∷ vs) h p q n e =
     (rw (← append_assoc p (le_bytes (suc w) v) (enc_fields ws vs ++ q))
     (dec_enc ws vs h (p ++ le_bytes (suc w) v) q (n + suc w) (rw (length-append, length_le_bytes, e)))))
 
+-- only the record's own bytes are read
+pub dec_fields_take : (ws l : List ℕ) (n at : ℕ) → at + sum ws ≤ n → dec_fields ws (take n l) at ≡ dec_fields ws l at
+unfolding sum
+dec_fields_take [] l n at h = refl
+dec_fields_take (w ∷ ws) l n at h = ap₂ ◌∷◌ (le_take w l n at (omega arith)) (dec_fields_take ws l n (at + w) (omega arith))
+
+pub dec_fields_drop : (ws l : List ℕ) (n at : ℕ) → dec_fields ws (drop n l) at ≡ dec_fields ws l (n + at)
+dec_fields_drop [] l n at = refl
+dec_fields_drop (w ∷ ws) l n at = ap₂ ◌∷◌ (le_drop w l n at) (dec_fields_drop ws l n (at + w) ∙ ap (λ (k : ℕ). dec_fields ws l k) (sym (add_assoc n at w)))
+
 -- a bool is a byte
 abbrev pub of_bool : Bool → ℕ
 of_bool true = 1
@@ -93,7 +103,7 @@ pub puts : {ws : List ℕ} {at : ℕ} {vs l l' : List ℕ} → Puts ws at vs l l
 puts done = refl
 puts (step {w = w} {at = at} {ws = ws} {vs = vs} e p) = puts p ∙ ap (λ (x : List ℕ). put_fields ws x (at + w) vs) e
 
--- ---- where a field stands
+-- ---- one field written in place
 
 -- where field k begins
 unfoldable pub offset : List ℕ → ℕ → ℕ
@@ -105,3 +115,20 @@ abbrev pub Wide : List ℕ → Bool
 Wide [] = true
 Wide (zero ∷ ws) = false
 Wide (suc w ∷ ws) = Wide ws
+
+-- a put that ends before the fields begin
+pub dec_fields_after : (ws l : List ℕ) (k at v a : ℕ) → at + k ≤ a → dec_fields ws (put k l at v) a ≡ dec_fields ws l a
+dec_fields_after [] l k at v a h = refl
+dec_fields_after (w ∷ ws) l k at v a h = ap₂ ◌∷◌ (le_put_after w k l a at v h) (dec_fields_after ws l k at v (a + w) (omega arith))
+
+pub dec_fields_put : (ws : List ℕ) → T (Wide ws) → (l : List ℕ) (at k v : ℕ) → k < length ws → at + sum ws ≤ length l
+    → dec_fields ws (put (get_or ws k 0) l (at + offset ws k) v) at ≡ set (dec_fields ws l at) k v
+unfolding offset sum
+dec_fields_put [] t l at k v h f = absurd (omega arith)
+dec_fields_put (zero ∷ ws) t l at k v h f = absurd t
+dec_fields_put (suc w ∷ ws) t l at zero v h f =
+    rw add-zero (ap₂ ◌∷◌ (le_put_same w l at v (omega arith)) (dec_fields_after ws l (suc w) at v (at + suc w) (omega arith)))
+dec_fields_put (suc w ∷ ws) t l at (suc k) v h f =
+    ap₂ ◌∷◌ (le_put_before (suc w) (get_or ws k 0) l at (at + (suc w + offset ws k)) v (omega arith))
+    (ap (λ (n : ℕ). dec_fields ws (put (get_or ws k 0) l n v) (at + suc w)) (sym (add_assoc at (suc w) (offset ws k)))
+    ∙ dec_fields_put ws t l (at + suc w) k v (omega arith) (omega arith))

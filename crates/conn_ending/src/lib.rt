@@ -25,7 +25,7 @@ fn close_at(s: &mut [u8], i: usize, t: Triad, out: &mut [u8]) -> Result<u16, No>
     if out.len() < 10 {
         return Err(No::NoRoom);
     }
-    conn_removal::remove_conn(s, i, Occasion::Closed);
+    conn_removal::remove_conn(s, i, Occasion::Closed.number());
     wire_replies::close_reply(out, t);
     Ok(10)
 }
@@ -55,7 +55,7 @@ fn expire_one(s: &mut [u8], time: u64) -> bool
     let Some(i) = conn_lookup::find_expired(table, n, time) else {
         return false;
     };
-    conn_removal::remove_conn(s, i, Occasion::TimedOut);
+    conn_removal::remove_conn(s, i, Occasion::TimedOut.number());
     state_changes::set_fault(s, true);
     true
 }

@@ -46,3 +46,19 @@ module _ (t n : ℕ) (r : List ℕ) where
 
   pub by_least : (m i : ℕ) → n ≤ i → ExpiredSoFar t n r m i → ltb m t ≡ any (expired t) (conns_in n r)
   by_least m i h g = sym (g ∙ ap (λ (z : List Conn). ltb m t || any (expired t) z) (rows_end row_size dec_conn n r i h) ∙ or_false (ltb m t))
+
+-- or what was found among the rows before i tells of them
+abbrev pub FoundSoFar : ℕ → ℕ → List ℕ → Bool → ℕ → Type 0
+FoundSoFar t n r b i = any (expired t) (conns_in n r) ≡ b || any (expired t) (drop i (conns_in n r))
+
+module _ (t n : ℕ) (r : List ℕ) where
+  pub found_more : (b : Bool) (u i : ℕ) → i < n → u ≡ (dec_heard (row_at r i)).until → FoundSoFar t n r b i → FoundSoFar t n r (b || ltb u t) (i + 1)
+  found_more b u i h eu g =
+      let rest : Bool = any (expired t) (drop (i + 1) (conns_in n r)) in
+      g
+      ∙ ap (λ (z : List Conn). b || any (expired t) z) (rows_rest row_size dec_conn n r i h)
+      ∙ ap (λ (v : ℕ). b || (ltb v t || rest)) (sym eu)
+      ∙ or_or b (ltb u t) rest
+
+  pub found_all : (b : Bool) (i : ℕ) → n ≤ i → FoundSoFar t n r b i → b ≡ any (expired t) (conns_in n r)
+  found_all b i h g = sym (g ∙ ap (λ (z : List Conn). b || any (expired t) z) (rows_end row_size dec_conn n r i h) ∙ or_false b)

@@ -44,16 +44,16 @@ fn expired_at(r: &[u8], i: usize, time: u64) -> bool
 
 // ---- whether any has expired
 
-// The least time of all rows tells it: `min` has no jump, so neither has the loop, which `any` would leave at the first.
+// Every row is asked and none is left out, so the loop has no jump, as `any` would have, which leaves at the first.
 pub fn any_expired(r: &[u8], n: usize, time: u64) -> bool
     requires { (n ≤ 32) × (table_size ≤ length r.now) }
     ensures { result ≡ any (expired time) (conns_in n r.now) }
 {
-    let mut m = u64::MAX;
+    let mut found = false;
     for i in 0..n {
-        m = m.min(state_fields::until_at(r, i));
+        found |= state_fields::until_at(r, i) < time;
     }
-    m < time
+    found
 }
 
 // ---- searches along the rows in use

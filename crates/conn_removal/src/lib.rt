@@ -7,7 +7,6 @@ ghost use Rattle.state_rules.specs.Rows.{of_due};
 ghost use Rattle.state_rules.specs.Places.{connections_of};
 ghost use Rattle.state_image.specs.Holds.{Ready};
 ghost use Rattle.state_image.specs.Kept.{Kept};
-ghost use Rattle.state_records.specs.Occasions.{occasion_number};
 ghost use Rattle.conn_removal.specs.Turns.{Turns, Fewer};
 ghost use Rattle.conn_removal.specs.Hands.{handed, idled};
 ghost use Rattle.conn_removal.specs.Listeners.{Dropped, Closes, all_closed, feeder, ended};
@@ -48,7 +47,7 @@ fn close_first(s: &mut [u8], id: ToId) -> bool
     };
     let f = state_rows::fixed_at(table, j);
     state_changes::remove_row(s, j);
-    state_events::tell(s, Occasion::Closed, f);
+    state_events::tell(s, Occasion::Closed.number(), f);
     true
 }
 
@@ -102,24 +101,24 @@ fn lose_run(s: &mut [u8], k: Kind, output: u8)
 // ---- removal
 
 // What follows when a connection's row has gone: f and x are what it said.
-fn finish(s: &mut [u8], occasion: Occasion, f: Fixed, x: Sent)
+fn finish(s: &mut [u8], what: u8, f: Fixed, x: Sent)
     requires { Ready s.old × (of_due x.due < 18446744073709551616) }
-    ensures { Fewer s.old s.new × Turns s.old s.new (without_it (occasion_number occasion) f x) }
+    ensures { Fewer s.old s.new × Turns s.old s.new (without_it what f x) }
 {
     hand_over(s, f.multicast, f.toid, x);
     end_stream(s, f.kind, f.multicast, f.toid);
     lose_run(s, f.kind, f.output);
-    state_events::tell(s, occasion, f);
+    state_events::tell(s, what, f);
 }
 
-// The connection at a place removed, and told as closed or timed out.
-pub fn remove_conn(s: &mut [u8], i: usize, occasion: Occasion)
+// The connection at a place removed, and told as `what`: an occasion's number, or any other byte.
+pub fn remove_conn(s: &mut [u8], i: usize, what: u8)
     requires { Ready s.old × (i < connections_of s.old) }
-    ensures { Fewer s.old s.new × Turns s.old s.new (gone_at (occasion_number occasion) i) }
+    ensures { Fewer s.old s.new × Turns s.old s.new (gone_at what i) }
 {
     let table = &s[state_layout::TABLE..state_layout::EVENTS];
     let f = state_rows::fixed_at(table, i);
     let x = state_rows::sent_at(table, i);
     state_changes::remove_row(s, i);
-    finish(s, occasion, f, x);
+    finish(s, what, f, x);
 }

@@ -67,7 +67,7 @@ fn take_in(s: &mut [u8], i: usize, d: &[u8])
     if told {
         return;
     }
-    state_events::tell_assembly(s, AssemblyChange::OutputChanged, instance, 0);
+    state_events::tell_assembly(s, AssemblyChange::OutputChanged.number(), instance, 0);
 }
 
 // The data behind CIP sequence and header must be of the output's size.

@@ -69,7 +69,7 @@ fn position_fits(p: Position, limit: u8, eds: Option<u16>) -> bool
 }
 
 // The rule's test of an upload, by the transfer limit and the length of the EDS, if there is one.
-fn upload_fits(up: Option<Position>, limit: u8, eds: Option<u16>) -> bool
+pub fn upload_fits(up: Option<Position>, limit: u8, eds: Option<u16>) -> bool
     ensures { result ≡ ok_with limit eds up }
 {
     up.is_none_or(|p| position_fits(p, limit, eds))

@@ -27,7 +27,7 @@ fn place(s: &mut [u8], c: Conn, next: u32)
 {
     state_changes::set_next_id(s, next);
     state_changes::add_row(s, c);
-    state_events::tell(s, Occasion::Opened, c.fixed);
+    state_events::tell(s, Occasion::Opened.number(), c.fixed);
 }
 
 // Configuration data in its assembly, and its event.
@@ -38,7 +38,12 @@ fn configure(s: &mut [u8], i: u8, config: &[u8])
     let i = i as usize;
     state_changes::put_bytes(s, i, config);
     let instance = state_layout::instance_at(s, i);
-    state_events::tell_assembly(s, AssemblyChange::Configured, instance, config.len() as u16);
+    state_events::tell_assembly(
+        s,
+        AssemblyChange::Configured.number(),
+        instance,
+        config.len() as u16,
+    );
 }
 
 fn store(s: &mut [u8], stores: Option<u8>, config: &[u8])

@@ -51,7 +51,7 @@ fn place(r: &[u8], kind: AssemblyKind, point: u32) -> Option<u8>
     requires { (setup_size ≤ length r.now) × (assemblies_of r.now ≤ 16) }
     ensures { result ≡ place_of (kind_test (number_of kind)) (setup_from r.now []) point }
 {
-    let i = state_places::find(r, kind, point)?;
+    let i = state_places::find(r, state_places::number_of(kind), point)?;
     Some(i as u8)
 }
 

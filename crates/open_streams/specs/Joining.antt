@@ -1,5 +1,5 @@
 -- The stream that an open joins, and check 12.
-use Rattle.std.specs.Prelude.{ℕ, Bool, cond, not, ◌&&◌, ◌||◌, ◌≡◌, eqb, List, Option}
+use Rattle.std.specs.Prelude.{ℕ, Bool, cond, not, ◌&&◌, ◌||◌, ◌≡◌, refl, eqb, List, Option}
 use Rattle.std.proofs.Common.{ap}
 use Rattle.wire_rules.specs.declared.ForwardOpen.{ForwardOpen}
 use Rattle.rules.specs.declared.Fixed.{Fixed}
@@ -15,6 +15,11 @@ use Rattle.open_streams.specs.Owning.{roles_with}
 -- a row carries an input for an open that listens only, or for one of an RPI
 abbrev pub carries_for : Bool → ℕ → ℕ → Fixed → Bool
 carries_for listens input rpi f = f.multicast && not (is_listener f.kind) && eqb f.input input && (listens || eqb f.torpi rpi)
+
+-- the stream of an open is found by the kind and the input of the roles
+pub stream_reads : (o : ForwardOpen) (x : Roles) (table : List Fixed) → stream_of o (roles_with x.kind x.input 0) table ≡ stream_of o x table
+unfolding stream_of
+stream_reads o x table = refl
 
 -- check 12, from the stream found
 unfoldable pub stream_stop : ForwardOpen → Kind → Option Stream → Option Stop

@@ -246,7 +246,6 @@ checks u table o answer =
     []
 
 -- where configuration data goes; 7.27: nowhere without data
-
 unfoldable pub plan_of : Setup → List Fixed → ForwardOpen → ConnectionPath → Plan
 plan_of u table o p =
     let r = roles_of u p in

@@ -87,22 +87,25 @@ fn kind_number(k: Kind) -> u8
     }
 }
 
-fn occasion_number(occasion: Occasion) -> u8
-    ensures { result ≡ occasion_number occasion }
-{
-    match occasion {
-        Occasion::Listed => 0,
-        Occasion::Opened => 1,
-        Occasion::Closed => 2,
-        Occasion::TimedOut => 3,
+impl Occasion {
+    // The byte that tells it in a record.
+    pub fn number(self) -> u8
+        ensures { result ≡ occasion_number self }
+    {
+        match self {
+            Occasion::Listed => 0,
+            Occasion::Opened => 1,
+            Occasion::Closed => 2,
+            Occasion::TimedOut => 3,
+        }
     }
 }
 
-fn put_low(row: &mut [u8], occasion: Occasion, i: Info)
+fn put_low(row: &mut [u8], what: u8, i: Info)
     requires { 32 ≤ length row.old }
-    ensures { row.new ≡ put_fields w_low row.old 0 (list_low (occasion_number occasion) i) }
+    ensures { row.new ≡ put_fields w_low row.old 0 (list_low what i) }
 {
-    base_cells::put_u8(row, 0, occasion_number(occasion));
+    base_cells::put_u8(row, 0, what);
     base_cells::put_u8(row, 1, kind_number(i.kind));
     base_cells::put_bool(row, 2, i.multicast);
     base_cells::put_u8(row, 3, 0);
@@ -124,18 +127,18 @@ fn put_high(row: &mut [u8], i: Info)
 }
 
 // The record at the start of what is lent.
-fn put_info(row: &mut [u8], occasion: Occasion, i: Info)
+fn put_info(row: &mut [u8], what: u8, i: Info)
     requires { 32 ≤ length row.old }
-    ensures { row.new ≡ sets row.old 0 (info_record (occasion_number occasion) i) }
+    ensures { row.new ≡ sets row.old 0 (info_record what i) }
 {
-    put_low(row, occasion, i);
+    put_low(row, what, i);
     put_high(row, i);
 }
 
-// The record of the connection whose row says f.
-pub fn put_record(row: &mut [u8], occasion: Occasion, r: &[u8], f: Fixed)
+// The record of the connection whose row says f, told as `what`: an occasion's number, or any other byte.
+pub fn put_record(row: &mut [u8], what: u8, r: &[u8], f: Fixed)
     requires { (32 ≤ length row.old) × (setup_size ≤ length r.now) × (assemblies_of r.now ≤ 16) }
-    ensures { row.new ≡ sets row.old 0 (info_record (occasion_number occasion) (info_of (setup_from r.now []) f)) }
+    ensures { row.new ≡ sets row.old 0 (info_record what (info_of (setup_from r.now []) f)) }
 {
-    put_info(row, occasion, info_of(r, f));
+    put_info(row, what, info_of(r, f));
 }

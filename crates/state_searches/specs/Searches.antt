@@ -23,18 +23,33 @@ later_zero (Some j) = ap Some (omega arith)
 -- ---- a search along a list: the place in the rest, so many further on
 
 module _ {A : Type 0} (p : A → Bool) (xs : List A) (i : ℕ) where
-  list_miss : (x : A) → drop i xs ≡ x ∷ drop (i + 1) xs → p x ≡ false → later i (place p (drop i xs)) ≡ later (i + 1) (place p (drop (i + 1) xs))
-  list_miss x h e =
+  at_one : (x : A) (b : Bool) → drop i xs ≡ x ∷ drop (i + 1) xs → p x ≡ b
+      → later i (place p (drop i xs)) ≡ later i (cond b (Some 0) (maybe None (λ j. Some (suc j)) (place p (drop (i + 1) xs))))
+  at_one x b h e =
       ap (λ (z : List A). later i (place p z)) h
       ∙ ap (λ (y : Bool). later i (cond y (Some 0) (maybe None (λ j. Some (suc j)) (place p (drop (i + 1) xs))))) e
-      ∙ later_suc i (place p (drop (i + 1) xs))
+
+  pub list_hit : (x : A) → drop i xs ≡ x ∷ drop (i + 1) xs → p x ≡ true → later i (place p (drop i xs)) ≡ Some i
+  list_hit x h e = at_one x true h e ∙ ap Some (omega arith)
+
+  pub list_miss : (x : A) → drop i xs ≡ x ∷ drop (i + 1) xs → p x ≡ false → later i (place p (drop i xs)) ≡ later (i + 1) (place p (drop (i + 1) xs))
+  list_miss x h e = at_one x false h e ∙ later_suc i (place p (drop (i + 1) xs))
+
+  pub list_ends : drop i xs ≡ [] → later i (place p (drop i xs)) ≡ None
+  list_ends h = ap (λ (z : List A). later i (place p z)) h
 
 -- ---- the same along rows
 
 module _ {A : Type 0} (size : ℕ) (dec : List ℕ → A) (p : A → Bool) (n : ℕ) (r : List ℕ) where
+  pub search_hit : (i : ℕ) → i < n → p (dec (take size (drop (i * size) r))) ≡ true → later i (place p (drop i (rows size dec n r))) ≡ Some i
+  search_hit i h e = list_hit p (rows size dec n r) i (dec (take size (drop (i * size) r))) (rows_rest size dec n r i h) e
+
   pub search_miss : (i : ℕ) → i < n → p (dec (take size (drop (i * size) r))) ≡ false
       → later i (place p (drop i (rows size dec n r))) ≡ later (i + 1) (place p (drop (i + 1) (rows size dec n r)))
   search_miss i h e = list_miss p (rows size dec n r) i (dec (take size (drop (i * size) r))) (rows_rest size dec n r i h) e
+
+  pub search_ends : (i : ℕ) → n ≤ i → later i (place p (drop i (rows size dec n r))) ≡ None
+  search_ends i h = list_ends p (rows size dec n r) i (rows_end size dec n r i h)
 
 -- ---- whether any row passes, and the first that does
 

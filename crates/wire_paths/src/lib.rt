@@ -27,52 +27,42 @@ fn nothing_read() -> ConnectionPath
     }
 }
 
-fn add_number(held: ConnectionPath, value: u32) -> ConnectionPath
+// In place, like `add_segment`: a struct made anew from the old one was tried, and each segment cost the copy.
+fn add_number(mut held: ConnectionPath, value: u32) -> ConnectionPath
     ensures { result ≡ with_number held value }
 {
     match held.count {
-        0 => ConnectionPath {
-            first: value,
-            count: 1,
-            ..held
-        },
-        1 => ConnectionPath {
-            second: value,
-            count: 2,
-            ..held
-        },
-        2 => ConnectionPath {
-            third: value,
-            count: 3,
-            ..held
-        },
-        _ => ConnectionPath { count: 4, ..held },
+        0 => {
+            held.first = value;
+            held.count = 1;
+        }
+        1 => {
+            held.second = value;
+            held.count = 2;
+        }
+        2 => {
+            held.third = value;
+            held.count = 3;
+        }
+        _ => held.count = 4,
     }
+    held
 }
 
-fn add_segment(held: ConnectionPath, seg: Seg) -> ConnectionPath
+fn add_segment(mut held: ConnectionPath, seg: Seg) -> ConnectionPath
     ensures { result ≡ added held seg }
 {
     match seg {
-        Seg::Port { .. } | Seg::Attribute(_) => ConnectionPath {
-            barred: true,
-            ..held
-        },
-        Seg::Class(value) => ConnectionPath {
-            class: Some(value),
-            ..held
-        },
-        Seg::Instance(value) | Seg::Point(value) => add_number(held, value),
-        Seg::Keyed(key) => ConnectionPath {
-            key: Some(key),
-            ..held
-        },
-        Seg::Data { start, len } => ConnectionPath {
-            datastart: start,
-            datalen: len,
-            ..held
-        },
+        Seg::Port { .. } | Seg::Attribute(_) => held.barred = true,
+        Seg::Class(value) => held.class = Some(value),
+        Seg::Instance(value) | Seg::Point(value) => return add_number(held, value),
+        Seg::Keyed(key) => held.key = Some(key),
+        Seg::Data { start, len } => {
+            held.datastart = start;
+            held.datalen = len;
+        }
     }
+    held
 }
 
 // What an open reads of a path, or the offset where the path does not parse. A `loop` and no iterator: each of the reader's three answers is one arm.

@@ -3,6 +3,7 @@
 
 ghost use Rattle.std.specs.Prelude.{◌≡◌};
 ghost use Rattle.std.specs.Iterator.{at_most};
+ghost use Rattle.wire_rules.specs.Items.{step_at};
 
 use wire_rules::{Cursor, Step};
 
@@ -16,7 +17,7 @@ pub struct FrameItem {
 }
 
 // A frame and a place in it: gives one item at a time.
-#[derive(Drop)]
+#[derive(Clone, Copy)]
 pub struct ItemReader<'a> {
     pub frame: &'a [u8],
     pub at: usize,
@@ -75,4 +76,25 @@ impl<'a> Iterator for ItemReader<'a> {
             Step::End | Step::Broken(_) => None,
         }
     }
+}
+
+// ---- the same as functions, where a walk keeps its own cursor
+
+pub fn reader<'a>(frame: &'a [u8], c: Cursor) -> ItemReader<'a>
+    ensures { (result.frame ≡ frame.entry) × (result.at ≡ c.at) × (result.left ≡ c.left) }
+{
+    ItemReader::new(frame, c)
+}
+
+pub fn next<'a>(r: ItemReader<'a>) -> Step
+    ensures { result ≡ step_at r.entry.frame.now r.entry.at r.entry.left }
+{
+    r.step()
+}
+
+// What a reader over the frame gives at a cursor; the item's own cursor is where the next one reads.
+pub fn read_at(frame: &[u8], c: Cursor) -> Step
+    ensures { result ≡ step_at frame.now c.at c.left }
+{
+    next(reader(frame, c))
 }

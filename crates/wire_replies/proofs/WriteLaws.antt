@@ -16,10 +16,10 @@ module _ (ws vs l : List ℕ) (t : T (Laid ws vs)) (n : ℕ) (e : sum ws ≡ n) 
   long : length (enc_fields ws vs) ≡ n
   long = length_enc_fields ws vs t ∙ e
 
-  none_put : length l < n → (None, l) ≡ written l (enc_fields ws vs)
+  pub none_put : length l < n → (None, l) ≡ written l (enc_fields ws vs)
   none_put h = sym (written_none l (enc_fields ws vs) (rw long h))
 
-  all_put : (l' : List ℕ) → n ≤ length l → l' ≡ put_fields ws l 0 vs → (Some n, l') ≡ written l (enc_fields ws vs)
+  pub all_put : (l' : List ℕ) → n ≤ length l → l' ≡ put_fields ws l 0 vs → (Some n, l') ≡ written l (enc_fields ws vs)
   all_put l' h f =
       ap₂ (λ (k : ℕ) (x : List ℕ). (Some k, x)) (sym long) (f ∙ put_fields_eq ws l 0 vs)
       ∙ sym (written_all l (enc_fields ws vs) (rw long h))

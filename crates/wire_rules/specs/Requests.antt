@@ -10,11 +10,11 @@ use Rattle.wire_rules.specs.declared.Object.{Object}
 
 -- ---- the object
 
--- 4.17: behind a class and an attribute: nothing more, and they name the class itself, instance 0
 -- an object that a path names
 abbrev pub object_named : ℕ → ℕ → Option Object
 object_named class instance = Some (record { class = class; instance = instance })
 
+-- 4.17: behind a class and an attribute: nothing more, and they name the class itself, instance 0
 abbrev pub class_alone : ℕ → List Seg → Option Object
 class_alone c [] = object_named c 0
 class_alone c (x ∷ l) = None

@@ -5,7 +5,7 @@ use Rattle.base_cells.specs.Pick.{pick}
 use Rattle.wire_rules.specs.Segments.{even_up, port_offset, link_offset, link_size, port_at}
 use Rattle.wire_rules.specs.declared.SegStep.TheVariants.{Broken}
 
-port_least : (a b : ℕ) → 2 ≤ link_offset a + link_size a b
+pub port_least : (a b : ℕ) → 2 ≤ link_offset a + link_size a b
 unfolding link_offset port_offset link_size
 port_least a b = go (eqb (a / 16) 1)
   where

@@ -1,10 +1,11 @@
 -- Data that changes nothing, data of which an event waits already, and data that is told.
-use Rattle.std.proofs.Common.{ℕ, ◌-◌, ◌%◌, List, ◌≡◌, refl, arith, eqb, length, get_or, take, drop, length-drop, take_all}
+use Rattle.std.proofs.Common.{ℕ, subst, ◌-◌, ◌%◌, List, ◌≡◌, refl, arith, eqb, length, get_or, take, drop, length-drop, take_all}
 use Rattle.rules.specs.declared.Event.TheVariants.{OutputChanged}
 use Rattle.state_rules.specs.Places.{connections_of}
 use Rattle.state_image.specs.Kept.{kept_few}
 use Rattle.state_events.specs.Records.{output_is}
-use Rattle.state_events.specs.Pushes.{told_as}
+use Rattle.state_image.specs.Holds.{Becomes}
+use Rattle.state_events.specs.Pushes.{assembly_told, told_as}
 use Rattle.io_receiving.specs.TakeLaws.{take_same, take_quiet, take_told}
 use Rattle.io_receiving.proofs.take_in.Goals as goal
 
@@ -42,5 +43,7 @@ returns c = let a = c.args in
     c.put_data-changed.ensures.1 c.differs.result c.differs.ensures f ef st l h n c.put_mark.new.s c.put_mark.ensures.1
     c.if-not-differs.false c.told-told.result c.told-told.ensures c.if-told.false c.instance_at-instance.result
     c.instance_at-instance.ensures c.tell_assembly.new.s
-    (let v = c.instance_at-instance.result in told_as c.put_mark.new.s c.tell_assembly.new.s 5 v 0 (OutputChanged v) (output_is v)
-    c.tell_assembly.ensures.1)
+    (let v = c.instance_at-instance.result in
+    let s₁ = c.put_mark.new.s in
+    let s₂ = c.tell_assembly.new.s in
+    told_as s₁ s₂ 5 v 0 (OutputChanged v) (output_is v) (subst (λ (n : ℕ). Becomes s₁ s₂ (assembly_told n v 0)) c.number.ensures c.tell_assembly.ensures.1))

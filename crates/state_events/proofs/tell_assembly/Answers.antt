@@ -1,7 +1,6 @@
 -- Three numbers put over zeros are an assembly's record, which is pushed.
-use Rattle.std.proofs.Common.{ℕ, List, replicate, ap, ◌∙◌}
+use Rattle.std.proofs.Common.{ℕ, List, ap, ◌∙◌}
 use Rattle.base_cells.specs.Numbers.{put}
-use Rattle.state_events.specs.AssemblyChanges.{change_number}
 use Rattle.state_events.specs.Records.{assembly_put}
 use Rattle.state_events.specs.Pushes.{tells_assembly}
 use Rattle.state_events.proofs.tell_assembly.Goals as goal
@@ -9,11 +8,10 @@ use Rattle.state_events.proofs.tell_assembly.Goals as goal
 pub returns : goal.returns
 returns c = let a = c.args in
     let told = c.push_event in
-    let last = c.put_u16-2 in
-    let what : ℕ = change_number a.change in (
+    let last = c.put_u16-2 in (
       told.ensures.0,
-      tells_assembly a.s.now told.new.s last.new.s what a.instance a.length
+      tells_assembly a.s.now told.new.s last.new.s a.what a.instance a.length
           (last.ensures
-          ∙ ap (λ (z : List ℕ). put 2 z 6 a.length) (c.put_u16.ensures ∙ ap (λ (z : List ℕ). put 2 z 4 a.instance) (c.put_u8.ensures ∙ ap (put 1 (replicate 32 0) 0) c.change_number.ensures))
-          ∙ assembly_put what a.instance a.length) told.ensures.1,
+          ∙ ap (λ (z : List ℕ). put 2 z 6 a.length) (c.put_u16.ensures ∙ ap (λ (z : List ℕ). put 2 z 4 a.instance) c.put_u8.ensures)
+          ∙ assembly_put a.what a.instance a.length) told.ensures.1,
     )
